@@ -1,0 +1,17 @@
+use mathlib.Core.Path.{_≡_, refl, sym, _∙_}
+use native.Mathlib.Omega.{arith}
+use lib.ListN.{length-set}
+use borrow.Author.Tests.{lt-ltb, le-ltb, le-leb, lt-leb, eq-eqb, ne-eqb}
+use Rattle.cpu.specs.Clocks.{clocksOf}
+use Rattle.cpu.proofs.clocks.pending_clocks.Statement.{statement}
+use Rattle.cpu.proofs.clocks.pending_clocks.Tie as tie
+use Rattle.cpu.proofs.clocks.pending_clocks.Reads as reads
+use Rattle.cpu.proofs.clocks.pending_clocks.Lts as lts
+
+-- src/clocks.rt:14:1
+returns : tie.Need-returns
+unfolding clocksOf
+returns c = refl
+
+pub pending-clocks-spec : {M : Type 1} → statement M
+pending-clocks-spec = tie.close (tie.spec returns)

@@ -1,0 +1,17 @@
+use mathlib.Core.Path.{_≡_, refl, sym, _∙_}
+use native.Mathlib.Omega.{arith}
+use lib.ListN.{length-set}
+use borrow.Author.Tests.{lt-ltb, le-ltb, le-leb, lt-leb, eq-eqb, ne-eqb}
+use Rattle.cpu.specs.Fields.{clearFcOverride}
+use Rattle.cpu.proofs.fields.clear_fc_override.Statement.{statement}
+use Rattle.cpu.proofs.fields.clear_fc_override.Tie as tie
+use Rattle.cpu.proofs.fields.clear_fc_override.Reads as reads
+use Rattle.cpu.proofs.fields.clear_fc_override.Lts as lts
+
+-- src/fields.rt:237:1
+returns : tie.Need-returns
+unfolding clearFcOverride
+returns c = refl
+
+pub clear-fc-override-spec : {M : Type 1} → statement M
+clear-fc-override-spec = tie.close (tie.spec returns)

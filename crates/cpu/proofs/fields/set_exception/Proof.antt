@@ -1,0 +1,17 @@
+use mathlib.Core.Path.{_≡_, refl, sym, _∙_}
+use native.Mathlib.Omega.{arith}
+use lib.ListN.{length-set}
+use borrow.Author.Tests.{lt-ltb, le-ltb, le-leb, lt-leb, eq-eqb, ne-eqb}
+use Rattle.cpu.specs.Fields.{setException}
+use Rattle.cpu.proofs.fields.set_exception.Statement.{statement}
+use Rattle.cpu.proofs.fields.set_exception.Tie as tie
+use Rattle.cpu.proofs.fields.set_exception.Reads as reads
+use Rattle.cpu.proofs.fields.set_exception.Lts as lts
+
+-- src/fields.rt:170:1
+returns : tie.Need-returns
+unfolding setException
+returns c = refl
+
+pub set-exception-spec : {M : Type 1} → statement M
+set-exception-spec = tie.close (tie.spec returns)

@@ -1,0 +1,94 @@
+use mathlib.Core.Path.{_≡_, refl, sym, _∙_}
+use native.Mathlib.Omega.{arith}
+use lib.ListN.{length-set}
+use borrow.Author.Tests.{lt-ltb, le-ltb, le-leb, lt-leb, eq-eqb, ne-eqb}
+use Rattle.types.specs.Kinds.{maskStatus}
+use borrow.Author.Needs.{needs}
+use Rattle.types.proofs.mask_status.Statement.{statement}
+use Rattle.types.proofs.mask_status.Tie as tie
+use Rattle.types.proofs.mask_status.Reads as reads
+use Rattle.types.proofs.mask_status.Lts as lts
+use Rattle.types.proofs.has_m.Reads as has-m-reads
+use Rattle.types.proofs.has_t0.Reads as has-t0-reads
+use Rattle.types.proofs.kept.Reads as kept-reads
+
+-- src/lib.rt:482:19
+has-t0-requires : tie.Need-has-t0-requires
+has-t0-requires c κs = search needs
+
+-- src/lib.rt:482:33
+mul-kept : tie.Need-mul-kept
+mul-kept c = search needs
+
+-- src/lib.rt:482:9
+kept-requires : tie.Need-kept-requires
+kept-requires c κs = search needs
+
+-- src/lib.rt:483:18
+has-m-requires : tie.Need-has-m-requires
+has-m-requires c κs = search needs
+
+-- src/lib.rt:483:31
+mul-kept-2 : tie.Need-mul-kept-2
+mul-kept-2 c = search needs
+
+-- src/lib.rt:483:9
+kept-requires-2 : tie.Need-kept-requires-2
+kept-requires-2 c κs = search needs
+
+-- src/lib.rt:484:5
+mul-result : tie.Need-mul-result
+mul-result c = search needs
+
+-- src/lib.rt:484:5
+add-result : tie.Need-add-result
+add-result c = search needs
+
+-- src/lib.rt:484:34
+mul-result-2 : tie.Need-mul-result-2
+mul-result-2 c = search needs
+
+-- src/lib.rt:484:5
+add-result-2 : tie.Need-add-result-2
+add-result-2 c = search needs
+
+-- src/lib.rt:484:5
+add-result-3 : tie.Need-add-result-3
+add-result-3 c = search needs
+
+-- src/lib.rt:484:60
+mul-result-3 : tie.Need-mul-result-3
+mul-result-3 c = search needs
+
+-- src/lib.rt:484:5
+add-result-4 : tie.Need-add-result-4
+add-result-4 c = search needs
+
+-- src/lib.rt:484:5
+add-result-5 : tie.Need-add-result-5
+add-result-5 c = search needs
+
+-- src/lib.rt:479:1
+returns : tie.Need-returns
+unfolding maskStatus
+returns c = cc
+
+pub mask-status-spec : {M : Type 1} → statement M
+mask-status-spec =
+    tie.close
+    (tie.spec
+    has-t0-requires
+    mul-kept
+    kept-requires
+    has-m-requires
+    mul-kept-2
+    kept-requires-2
+    mul-result
+    add-result
+    mul-result-2
+    add-result-2
+    add-result-3
+    mul-result-3
+    add-result-4
+    add-result-5
+    returns)

@@ -1,0 +1,4 @@
+pub mod Kinds
+pub mod Causes
+pub mod Tables
+pub mod Every

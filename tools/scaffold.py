@@ -1,0 +1,151 @@
+#!/usr/bin/env python3
+"""scaffold.py CRATE [--rounds N] [--keep]: writes the proof files that `rt dev CRATE` asks for, and tries usual answers.
+
+Each need that Rattle does not close by itself gets the candidates below, one a round; what no candidate closes stays a
+hole `?` for a person. An answer is only a proposal: the check decides. `returns` unfolds the definitions that the
+function's contract names; tests on the way become `ltb`, `leb` and `eqb` facts, calls become what they ensure.
+"""
+import argparse
+import os
+import re
+import subprocess
+import sys
+import tempfile
+
+ROOT = os.path.dirname(os.path.dirname(os.path.abspath(__file__)))
+sys.path.insert(0, os.path.dirname(os.path.abspath(__file__)))
+from facts import Places, lts_path  # noqa: E402
+
+TESTS = "lt-ltb, le-ltb, le-leb, lt-leb, eq-eqb, ne-eqb"
+USES = (
+    "use mathlib.Core.Path.{_≡_, refl, sym, _∙_}\n"
+    "use native.Mathlib.Omega.{arith}\n"
+    "use lib.ListN.{length-set}\n"
+    f"use borrow.Author.Tests.{{{TESTS}}}\n"
+)
+
+
+def dev(crate, *words):
+    done = subprocess.run(["rt", "dev", crate, *words], cwd=ROOT, capture_output=True, text=True, env={**os.environ, "RT_CUT": "0"})
+    return done.stdout + done.stderr
+
+
+def blocks(out):
+    """(path, lines) of each proof file that the check prints."""
+    lines = out.split("\n")
+    at = 0
+    while at < len(lines):
+        m = re.match(r"help: write (\S+) with these lines", lines[at])
+        at += 1
+        if m:
+            body = []
+            while at < len(lines) and lines[at].startswith("    "):
+                body.append(lines[at][4:])
+                at += 1
+            yield m.group(1), body
+
+
+def sources(crate):
+    folder = os.path.join(ROOT, "crates", crate, "src")
+    for name in sorted(os.listdir(folder)):
+        yield name, open(os.path.join(folder, name), encoding="utf-8").read()
+
+
+def contract(crate, function):
+    """The names that the contract of a function cites, and the `ghost use` lines that bring them."""
+    head, name = os.path.split(function)
+    for file, text in sources(crate):
+        if head and file != head.split("/")[0] + ".rt":
+            continue
+        m = re.search(r"fn " + name + r"\(.*?\n\{", text, re.S)
+        if not m:
+            continue
+        clauses = " ".join(re.findall(r"ensures \{(.*)\}", m.group(0)))
+        words = set(re.findall(r"[A-Za-z][A-Za-z0-9']*", clauses))
+        found = []
+        for use in re.finditer(r"ghost use (Rattle·\S+?)\.\{([^}]*)\};", text):
+            names = [n.strip() for n in use.group(2).split(",")]
+            hit = [n for n in names if n in words]
+            if hit:
+                found.append((use.group(1), hit))
+        return found
+    return []
+
+
+def candidates(need, places, defs):
+    if need.startswith("returns"):
+        record = places.needs.get("Need-" + need)
+        tests = places.tests(record) if record else []
+        ways = ["refl"]
+        facts = places.facts(record) if record else []
+        listed = "cc (" + ", ".join(facts) + ")" if facts else "cc"
+        if tests:
+            simp = "simp (" + ", ".join(tests) + ")"
+            ways += [simp, f"{simp} ({listed})", f"{simp} (omega arith)"]
+        ways += [listed] + (["cc"] if facts else [])
+        return ways + ["search needs"]
+    return ["omega arith", "simp length-set (omega arith)", "search needs"]
+
+
+def main():
+    p = argparse.ArgumentParser(description=__doc__, formatter_class=argparse.RawDescriptionHelpFormatter)
+    p.add_argument("crate")
+    p.add_argument("--rounds", type=int, default=6)
+    p.add_argument("--unfold", default="", help="more definitions to unfold in `returns`: MODULE.{a, b}")
+    a = p.parse_args()
+    generated = tempfile.mkdtemp()
+    out = dev(a.crate)
+    dev(a.crate, "--generated", generated)
+    files = {}
+    for path, body in blocks(out):
+        rel = os.path.dirname(path).split("/proofs/", 1)[1]
+        text = "\n".join(body).rstrip() + "\n"
+        if "?" not in text or "tie.InvT" in text or rel.startswith("+"):
+            if not os.path.exists(path):
+                os.makedirs(os.path.dirname(path), exist_ok=True)
+                open(path, "w", encoding="utf-8").write(text)
+            continue
+        files[path] = (rel, text, {})
+    for path, (rel, text, state) in files.items():
+        places = Places(lts_path(generated, a.crate, rel))
+        for need in re.findall(r"^(\S+) c(?: κs)? = \?$", text, re.M):
+            state[need] = [0, candidates(need, places, None)]
+    closed = set()
+    for turn in range(a.rounds):
+        for path, (rel, text, state) in files.items():
+            os.makedirs(os.path.dirname(path), exist_ok=True)
+            open(path, "w", encoding="utf-8").write(render(a.crate, rel, text, state))
+        out = dev(a.crate, "--allow-holes")
+        moved = False
+        for path, (rel, text, state) in files.items():
+            for need, pair in state.items():
+                failed = re.search(re.escape(path) + r":\d+:\d+: .*`" + re.escape(need) + "`", out)
+                if failed and pair[0] < len(pair[1]):
+                    pair[0] += 1
+                    moved = True
+        if not moved:
+            break
+    for path, (rel, text, state) in files.items():
+        open(path, "w", encoding="utf-8").write(render(a.crate, rel, text, state))
+        left = [n for n, (i, c) in state.items() if i >= len(c)]
+        print(rel, "ok" if not left else "left: " + ", ".join(left))
+    print(*[line for line in dev(a.crate).split("\n") if line.startswith(("fn ", "logic="))][-60:], sep="\n")
+
+
+def render(crate, rel, text, state):
+    defs = contract(crate, rel)
+    uses = USES + "".join(f"use {m}.{{{', '.join(ns)}}}\n" for m, ns in defs)
+    names = " ".join(n for _, ns in defs for n in ns if n not in ("pick", "world", "tried", "reply"))
+    for need, (i, ways) in state.items():
+        answer = ways[i] if i < len(ways) else "?"
+        if need.startswith("returns") and names:
+            text = re.sub(rf"^({re.escape(need)} : .*)\n({re.escape(need)} c(?: κs)? = )\?$", rf"\1\nunfolding {names}\n\2{answer}", text, flags=re.M)
+        else:
+            text = re.sub(rf"^({re.escape(need)} c(?: κs)? = )\?$", rf"\g<1>{answer}", text, flags=re.M)
+    if "search needs" in text and "{needs}" not in text:
+        uses += "use borrow.Author.Needs.{needs}\n"
+    return uses + text
+
+
+if __name__ == "__main__":
+    main()
