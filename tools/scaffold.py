@@ -1,5 +1,5 @@
 #!/usr/bin/env python3
-"""scaffold.py CRATE [--rounds N] [--keep]: writes the proof files that `rt dev CRATE` asks for, and tries usual answers.
+"""scaffold.py CRATE [--rounds N] [--only F ..]: writes the proof files that `rt dev CRATE` asks for, and tries usual answers.
 
 Each need that Rattle does not close by itself gets the candidates below, one a round; what no candidate closes stays a
 hole `?` for a person. An answer is only a proposal: the check decides. `returns` unfolds the definitions that the
@@ -91,7 +91,7 @@ def main():
     p = argparse.ArgumentParser(description=__doc__, formatter_class=argparse.RawDescriptionHelpFormatter)
     p.add_argument("crate")
     p.add_argument("--rounds", type=int, default=6)
-    p.add_argument("--unfold", default="", help="more definitions to unfold in `returns`: MODULE.{a, b}")
+    p.add_argument("--only", nargs="*", help="just these functions, as paths in the crate")
     a = p.parse_args()
     generated = tempfile.mkdtemp()
     out = dev(a.crate)
@@ -100,12 +100,10 @@ def main():
     for path, body in blocks(out):
         rel = os.path.dirname(path).split("/proofs/", 1)[1]
         text = "\n".join(body).rstrip() + "\n"
-        if "?" not in text or "tie.InvT" in text or rel.startswith("+"):
-            if not os.path.exists(path):
-                os.makedirs(os.path.dirname(path), exist_ok=True)
-                open(path, "w", encoding="utf-8").write(text)
+        if "?" not in text or "tie.InvT" in text or "/+" in path or not re.search(r" = \?$", text, re.M):
             continue
-        files[path] = (rel, text, {})
+        if a.only is None or rel in a.only:
+            files[path] = (rel, text, {})
     for path, (rel, text, state) in files.items():
         places = Places(lts_path(generated, a.crate, rel))
         for need in re.findall(r"^(\S+) c(?: κs)? = \?$", text, re.M):

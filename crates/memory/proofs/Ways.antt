@@ -1,0 +1,71 @@
+-- A law for each way through a function: its premises are how each test went and what each call ensures, in the order
+-- of the code. Written by tools/ways.py from the code and the contracts.
+use Prim.Native.Nat.{ℕ, zero, suc, _+_, _-_, _*_, _/_, _%_, _^_, _<_, _≤_}
+use mathlib.Core.Path.{_≡_, refl}
+use mathlib.Core.Bool.{Bool, true, false}
+use mathlib.Core.List.{List}
+use lib.ListN.{length, getD, set}
+use native.Mathlib.Numerals.{sub-one}
+use Rattle.cpu.specs.Clocks.{clocksOf, hasClocks, setClocks}
+use Rattle.cpu.specs.declared.Cpu.{Cpu}
+use Rattle.memory.specs.Bytes.{getLong, getWord, putLong, putWord}
+use Rattle.memory.specs.Served.{clearOf, inStore, placeOf, servedOf, windowsInUse}
+use Rattle.memory.specs.World.{acknowledged, fetched, flush, noted, putCpu, rawRead, rawWrite, readValue, release, reply, responseOf, served, stored, tried, tryRead, tryWrite, widthOf, withCpu, world, written}
+use Rattle.memory.specs.declared.Bus.{Bus}
+use Rattle.memory.specs.declared.Core.{Core}
+
+pub try-write-way : (m : Core) (s l : List ℕ) (address : ℕ) (long : Bool) (value n : ℕ) (b : Bool) (n1 : ℕ) (s1 s2 l1 : List ℕ) (r : Core) → n ≡ widthOf long → b ≡ servedOf (m .bus) (length s) address n → b ≡ true → long ≡ true → n1 ≡ placeOf (m .bus) address → s1 ≡ putLong s n1 value → world r s2 l1 ≡ noted (world m s1 l) 4 address value → tried (world r s2 l1) true ≡ tryWrite (world m s l) address long value
+unfolding tryWrite rawWrite served stored written
+try-write-way m s l address long value n b n1 s1 s2 l1 r h0 h1 h2 h3 h4 h5 h6 = cc
+
+pub try-write-way-2 : (m : Core) (s l : List ℕ) (address : ℕ) (long : Bool) (value n : ℕ) (b : Bool) (n1 : ℕ) (s1 s2 l1 : List ℕ) (r : Core) → n ≡ widthOf long → b ≡ servedOf (m .bus) (length s) address n → b ≡ true → long ≡ false → n1 ≡ placeOf (m .bus) address → s1 ≡ putWord s n1 (value % 65536) → world r s2 l1 ≡ noted (world m s1 l) 3 address value → tried (world r s2 l1) true ≡ tryWrite (world m s l) address long value
+unfolding tryWrite rawWrite served stored written
+try-write-way-2 m s l address long value n b n1 s1 s2 l1 r h0 h1 h2 h3 h4 h5 h6 = cc
+
+pub try-write-way-3 : (m : Core) (s l : List ℕ) (address : ℕ) (long : Bool) (value n : ℕ) (b : Bool) (s1 l1 : List ℕ) (r : Core) → n ≡ widthOf long → b ≡ servedOf (m .bus) (length s) address n → b ≡ false → long ≡ true → world r s1 l1 ≡ noted (world m s l) 20 address value → tried (world r s1 l1) false ≡ tryWrite (world m s l) address long value
+unfolding tryWrite rawWrite served stored written
+try-write-way-3 m s l address long value n b s1 l1 r h0 h1 h2 h3 h4 = cc
+
+pub try-write-way-4 : (m : Core) (s l : List ℕ) (address : ℕ) (long : Bool) (value n : ℕ) (b : Bool) (s1 l1 : List ℕ) (r : Core) → n ≡ widthOf long → b ≡ servedOf (m .bus) (length s) address n → b ≡ false → long ≡ false → world r s1 l1 ≡ noted (world m s l) 19 address value → tried (world r s1 l1) false ≡ tryWrite (world m s l) address long value
+unfolding tryWrite rawWrite served stored written
+try-write-way-4 m s l address long value n b s1 l1 r h0 h1 h2 h3 h4 = cc
+
+pub try-read-way : (m : Core) (s l : List ℕ) (address : ℕ) (long : Bool) (n : ℕ) (b : Bool) (n1 n2 : ℕ) (s1 l1 : List ℕ) (r : Core) → n ≡ widthOf long → b ≡ servedOf (m .bus) (length s) address n → b ≡ true → long ≡ true → n1 ≡ placeOf (m .bus) address → n2 ≡ getLong s n1 → world r s1 l1 ≡ noted (world m s l) 2 address n2 → reply (world r s1 l1) true n2 ≡ tryRead (world m s l) address long
+unfolding tryRead rawRead readValue served fetched
+try-read-way m s l address long n b n1 n2 s1 l1 r h0 h1 h2 h3 h4 h5 h6 = cc
+
+pub try-read-way-2 : (m : Core) (s l : List ℕ) (address : ℕ) (long : Bool) (n : ℕ) (b : Bool) (n1 n2 : ℕ) (s1 l1 : List ℕ) (r : Core) → n ≡ widthOf long → b ≡ servedOf (m .bus) (length s) address n → b ≡ true → long ≡ false → n1 ≡ placeOf (m .bus) address → n2 ≡ getWord s n1 → world r s1 l1 ≡ noted (world m s l) 1 address n2 → reply (world r s1 l1) true n2 ≡ tryRead (world m s l) address long
+unfolding tryRead rawRead readValue served fetched
+try-read-way-2 m s l address long n b n1 n2 s1 l1 r h0 h1 h2 h3 h4 h5 h6 = cc
+
+pub try-read-way-3 : (m : Core) (s l : List ℕ) (address : ℕ) (long : Bool) (n : ℕ) (b : Bool) (s1 l1 : List ℕ) (r : Core) → n ≡ widthOf long → b ≡ servedOf (m .bus) (length s) address n → b ≡ false → long ≡ true → world r s1 l1 ≡ noted (world m s l) 18 address 0 → reply (world r s1 l1) false 0 ≡ tryRead (world m s l) address long
+unfolding tryRead rawRead readValue served fetched
+try-read-way-3 m s l address long n b s1 l1 r h0 h1 h2 h3 h4 = cc
+
+pub try-read-way-4 : (m : Core) (s l : List ℕ) (address : ℕ) (long : Bool) (n : ℕ) (b : Bool) (s1 l1 : List ℕ) (r : Core) → n ≡ widthOf long → b ≡ servedOf (m .bus) (length s) address n → b ≡ false → long ≡ false → world r s1 l1 ≡ noted (world m s l) 17 address 0 → reply (world r s1 l1) false 0 ≡ tryRead (world m s l) address long
+unfolding tryRead rawRead readValue served fetched
+try-read-way-4 m s l address long n b s1 l1 r h0 h1 h2 h3 h4 = cc
+
+pub flush-sync-way : (m : Core) (s l : List ℕ) (b : Bool) (n : ℕ) (r : Cpu) (r1 : Core) (s1 l1 : List ℕ) (r2 : Core) → b ≡ hasClocks (m .cpu) → b ≡ true → n ≡ clocksOf (m .cpu) → r ≡ setClocks (m .cpu) 0 → r1 ≡ putCpu m r → world r2 s1 l1 ≡ noted (world r1 s l) 5 0 n → world r2 s1 l1 ≡ flush (world m s l)
+unfolding flush withCpu
+flush-sync-way m s l b n r r1 s1 l1 r2 h0 h1 h2 h3 h4 h5 = cc
+
+pub flush-sync-way-2 : (m : Core) (s l : List ℕ) (b : Bool) → b ≡ hasClocks (m .cpu) → b ≡ false → world m s l ≡ flush (world m s l)
+unfolding flush withCpu
+flush-sync-way-2 m s l b h0 h1 = cc
+
+pub release-sample-way : (m : Core) (s l s1 l1 : List ℕ) (r : Core) → world r s1 l1 ≡ noted (world m s l) 7 0 0 → world r s1 l1 ≡ release (world m s l)
+unfolding release
+release-sample-way m s l s1 l1 r h0 = cc
+
+pub acknowledge-way : (m : Core) (s l : List ℕ) (level n : ℕ) (s1 l1 : List ℕ) (r : Core) → n ≡ responseOf (m .bus) level → world r s1 l1 ≡ noted (world m s l) 6 level n → reply (world r s1 l1) true n ≡ acknowledged (world m s l) level
+unfolding acknowledged
+acknowledge-way m s l level n s1 l1 r h0 h1 = cc
+
+pub is-served-way : (b : Bus) (len a n : ℕ) (b1 : Bool) (n1 n2 n3 : ℕ) (b2 : Bool) → b1 ≡ inStore b len a n → b1 ≡ true → n1 ≡ windowsInUse b → n2 ≡ a → n3 ≡ n → b2 ≡ clearOf b n1 n2 n3 → b2 ≡ servedOf b len a n
+unfolding servedOf
+is-served-way b len a n b1 n1 n2 n3 b2 h0 h1 h2 h3 h4 h5 = cc
+
+pub is-served-way-2 : (b : Bus) (len a n : ℕ) (b1 : Bool) → b1 ≡ inStore b len a n → b1 ≡ false → false ≡ servedOf b len a n
+unfolding servedOf
+is-served-way-2 b len a n b1 h0 h1 = cc

@@ -1,0 +1,4 @@
+pub mod Bytes
+pub mod Served
+pub mod Log
+pub mod World

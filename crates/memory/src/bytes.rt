@@ -1,0 +1,41 @@
+// Big-endian words and longs in a slice.
+ghost use mathlib.Core.Path.{_≡_};
+ghost use Prim.Native.Nat.{_+_, _<_, _≤_};
+ghost use lib.ListN.{length};
+ghost use Rattle.memory.specs.Bytes.{putWord, putLong, getWord, getLong};
+
+pub fn put_word(store: &mut [u8], at: usize, v: u16)
+    requires { ⌜ at + 2 ≤ length (now store) ⌝ }
+    ensures { λ _. ⌜ now (store .exit) ≡ putWord (now (store .entry)) at v ⌝ }
+{
+    store[at] = (v / 256) as u8;
+    store[at + 1] = (v % 256) as u8;
+}
+
+pub fn put_long(store: &mut [u8], at: usize, v: u32)
+    requires { ⌜ at + 4 ≤ length (now store) ⌝ }
+    ensures { λ _. ⌜ now (store .exit) ≡ putLong (now (store .entry)) at v ⌝ }
+{
+    put_word(store, at, (v / 65536) as u16);
+    put_word(store, at + 2, (v % 65536) as u16);
+}
+
+fn wide(x: u8) -> u32
+    ensures { λ r. ⌜ (r ≡ x) × (r < 256) ⌝ }
+{
+    x as u32
+}
+
+pub fn get_word(store: &[u8], at: usize) -> u32
+    requires { ⌜ at + 2 ≤ length (now store) ⌝ }
+    ensures { λ r. ⌜ (r ≡ getWord (now (store .entry)) at) × (r < 65536) ⌝ }
+{
+    wide(store[at]) * 256 + wide(store[at + 1])
+}
+
+pub fn get_long(store: &[u8], at: usize) -> u32
+    requires { ⌜ at + 4 ≤ length (now store) ⌝ }
+    ensures { λ r. ⌜ r ≡ getLong (now (store .entry)) at ⌝ }
+{
+    get_word(store, at) * 65536 + get_word(store, at + 2)
+}

@@ -1,0 +1,215 @@
+// The bus by value and the two lent slices beside it: the store, its fault windows, the acknowledge responses, the log of bus
+// events, and one access, served or not. It uses `types` and `cpu`; `faults` and everything above reach the store and the log
+// only through it.
+use cpu::Cpu;
+
+mod bytes; // big-endian words and longs in a slice
+mod log; // one event at its place of the log
+mod windows; // whether an access is served
+
+ghost use mathlib.Core.Path.{_≡_};
+ghost use Rattle.memory.specs.World.{world, tried, reply, tryWrite, tryRead, rawWrite, flush, release, acknowledged, noted, putCpu, widthOf, responseOf};
+ghost use mathlib.Core.Bool.{true};
+ghost use Rattle.memory.specs.Log.{counted};
+
+// `base` and the store's length are the addresses that the store holds; of the windows the first `windows` count, each from a
+// start on, some bytes long; a window of length 0 holds no byte; `responses` are by level; `events` counts what was logged.
+#[repr(C)]
+pub struct Bus {
+    pub base: u32,
+    pub windows: u32,
+    pub starts: [u32; 8],
+    pub lengths: [u32; 8],
+    pub responses: [u32; 8],
+    pub events: u32,
+}
+
+// The record and the bus: what a function of the core takes and hands back.
+#[repr(C)]
+pub struct Core {
+    pub cpu: Cpu,
+    pub bus: Bus,
+}
+
+// A write that was tried: whether it was served.
+pub struct Tried {
+    pub core: Core,
+    pub ok: bool,
+}
+
+// A read that was tried: whether it was served, and its value, 0 if not.
+pub struct Reply {
+    pub core: Core,
+    pub ok: bool,
+    pub value: u32,
+}
+
+// An acknowledge cycle: the response of the level.
+pub struct Acknowledged {
+    pub core: Core,
+    pub response: u32,
+}
+
+// The record is replaced.
+pub fn with_cpu(m: Core, c: Cpu) -> Core
+    ensures { λ r. ⌜ r ≡ putCpu m c ⌝ }
+{
+    let mut r = m;
+    r.cpu = c;
+    r
+}
+
+fn count_up(b: Bus) -> Bus
+    ensures { λ r. ⌜ r ≡ counted b ⌝ }
+{
+    let mut d = b;
+    let e = std::num::wrapping_add_u32(b.events, 1);
+    d.events = e;
+    d
+}
+
+// Adds an event.
+pub fn note(m: Core, store: &mut [u8], log: &mut [u32], code: u32, address: u32, value: u32) -> Core
+    ensures { λ r. ⌜ world r (now (store .exit)) (now (log .exit)) ≡ noted (world m (now (store .entry)) (now (log .entry))) code address value ⌝ }
+{
+    let b = m.bus;
+    log::put_event(log, b.events, code, address, value);
+    let d = count_up(b);
+    let mut r = m;
+    r.bus = d;
+    r
+}
+
+fn width(long: bool) -> u32
+    ensures { λ r. ⌜ r ≡ widthOf long ⌝ }
+{
+    if long {
+        return 4;
+    }
+    2
+}
+
+// A guarded write: stored and logged where it is served, else logged with 16 more.
+pub fn try_write(
+    m: Core,
+    store: &mut [u8],
+    log: &mut [u32],
+    address: u32,
+    long: bool,
+    value: u32,
+) -> Tried
+    ensures { λ r. ⌜ tried (world (r .core) (now (store .exit)) (now (log .exit))) (r .ok) ≡ tryWrite (world m (now (store .entry)) (now (log .entry))) address long value ⌝ }
+{
+    let b = m.bus;
+    if windows::is_served(b, store.len(), address, width(long)) {
+        if long {
+            bytes::put_long(store, windows::place(b, address), value);
+            let d = note(m, store, log, 4, address, value);
+            return Tried { core: d, ok: true };
+        }
+        bytes::put_word(store, windows::place(b, address), (value % 65536) as u16);
+        let d = note(m, store, log, 3, address, value);
+        return Tried { core: d, ok: true };
+    }
+    if long {
+        let d = note(m, store, log, 20, address, value);
+        return Tried { core: d, ok: false };
+    }
+    let d = note(m, store, log, 19, address, value);
+    Tried { core: d, ok: false }
+}
+
+// A guarded read: its value is 0 where it is not served.
+pub fn try_read(m: Core, store: &mut [u8], log: &mut [u32], address: u32, long: bool) -> Reply
+    ensures { λ r. ⌜ reply (world (r .core) (now (store .exit)) (now (log .exit))) (r .ok) (r .value) ≡ tryRead (world m (now (store .entry)) (now (log .entry))) address long ⌝ }
+{
+    let b = m.bus;
+    if windows::is_served(b, store.len(), address, width(long)) {
+        if long {
+            let v = bytes::get_long(store, windows::place(b, address));
+            let d = note(m, store, log, 2, address, v);
+            return Reply {
+                core: d,
+                ok: true,
+                value: v,
+            };
+        }
+        let v = bytes::get_word(store, windows::place(b, address));
+        let d = note(m, store, log, 1, address, v);
+        return Reply {
+            core: d,
+            ok: true,
+            value: v,
+        };
+    }
+    if long {
+        let d = note(m, store, log, 18, address, 0);
+        return Reply {
+            core: d,
+            ok: false,
+            value: 0,
+        };
+    }
+    let d = note(m, store, log, 17, address, 0);
+    Reply {
+        core: d,
+        ok: false,
+        value: 0,
+    }
+}
+
+// A raw write goes on where it is not served.
+pub fn raw_write(
+    m: Core,
+    store: &mut [u8],
+    log: &mut [u32],
+    address: u32,
+    long: bool,
+    value: u32,
+) -> Core
+    ensures { λ r. ⌜ world r (now (store .exit)) (now (log .exit)) ≡ rawWrite (world m (now (store .entry)) (now (log .entry))) address long value ⌝ }
+{
+    let t = try_write(m, store, log, address, long, value);
+    t.core
+}
+
+// `flush_sync`: clocks that wait are reported; none, no event.
+pub fn flush_sync(m: Core, store: &mut [u8], log: &mut [u32]) -> Core
+    ensures { λ r. ⌜ world r (now (store .exit)) (now (log .exit)) ≡ flush (world m (now (store .entry)) (now (log .entry))) ⌝ }
+{
+    let c = m.cpu;
+    if cpu::clocks::has_clocks(c) {
+        let n = cpu::clocks::pending_clocks(c);
+        let d = with_cpu(m, cpu::clocks::set_clocks(c, 0));
+        return note(d, store, log, 5, 0, n);
+    }
+    m
+}
+
+// `ipl_release_sample`.
+pub fn release_sample(m: Core, store: &mut [u8], log: &mut [u32]) -> Core
+    ensures { λ r. ⌜ world r (now (store .exit)) (now (log .exit)) ≡ release (world m (now (store .entry)) (now (log .entry))) ⌝ }
+{
+    note(m, store, log, 7, 0, 0)
+}
+
+// The response of a level, its low 3 bits.
+fn response(b: Bus, level: u8) -> u32
+    ensures { λ r. ⌜ r ≡ responseOf b level ⌝ }
+{
+    let i = (level % 8) as usize;
+    let responses = b.responses;
+    responses[i]
+}
+
+// `interrupt_acknowledge`.
+pub fn acknowledge(m: Core, store: &mut [u8], log: &mut [u32], level: u8) -> Acknowledged
+    ensures { λ r. ⌜ reply (world (r .core) (now (store .exit)) (now (log .exit))) true (r .response) ≡ acknowledged (world m (now (store .entry)) (now (log .entry))) level ⌝ }
+{
+    let v = response(m.bus, level);
+    let d = note(m, store, log, 6, level as u32, v);
+    Acknowledged {
+        core: d,
+        response: v,
+    }
+}
