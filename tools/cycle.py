@@ -50,6 +50,7 @@ def write_cycle(a, wanted, plans, functions):
     out = dev(a.crate)
     generated = tempfile.mkdtemp()
     dev(a.crate, "--generated", generated)
+    open(os.path.join(ROOT, "target", f"dev-{a.crate}.out"), "w", encoding="utf-8").write(out)
     found = [b for q, b in blocks(out) if os.path.basename(os.path.dirname(q)) == cycle]
     if not found:
         print("\n".join(x for x in out.split("\n") if "error" in x)[:3000])
@@ -59,6 +60,8 @@ def write_cycle(a, wanted, plans, functions):
     for n, f in members.items():
         text = re.sub(rf"^(μ-{n} κs.*? = )\?$", lambda m: f"μ-{n} κs a = " + measure(ranks[f.name].strip(), f), text, flags=re.M)
     text = claims_once(text, members)
+    # parts of contracts that bound a number
+    bounded = {W.dash(f.name): [i for i, c in enumerate(f.clauses) if "≡" not in c] for f in functions}
     names = []
     order = sorted(members, key=len, reverse=True)
     for line in re.findall(r"^(\S+) t c(?: κs)? = .*$", text, re.M):
@@ -83,7 +86,8 @@ def write_cycle(a, wanted, plans, functions):
             callee = re.sub(r"-requires(-\d+)?$", "", need)
             if callee in members:
                 tests = [f"{at} .{name} .left" for place, at, name, own in places.walk(record) if "left" in own and places.kind.get(place + "·own", "bool") != "bool"]
-                falls = f"(omega (arith, {', '.join([start_path(places, record) + ' .pre .0'] + tests)}), tt)"
+                bounds = [f"{at} .{name} .ensures .{i}" for place, at, name, own in places.walk(record) if not own for i in bounded.get(re.sub(r"\\d+$", "", name), [])]
+                falls = f"(omega (arith, {', '.join([start_path(places, record) + ' .pre .0'] + tests + bounds)}), tt)"
                 got = "search needs" if has_requires(functions, callee, a.crate) else falls
             elif not has_requires(functions, callee, a.crate):
                 got = "tt"

@@ -61,6 +61,13 @@ class Places:
                 found.append(f"{path} .{name} .{way or 'ensures'}")
         return list(reversed(found))
 
+    def bool_left(self, record, fact):
+        """Whether a test that went the other way is an equation with false, and no refuted equation of numbers."""
+        for place, path, name, own in self.walk(record):
+            if fact == f"{path} .{name} .left":
+                return self.kind.get(place + "·own", "bool") == "bool"
+        return True
+
     def tests(self, record):
         """The tests on numbers as equations of `ltb`, `leb`, `eqb`; those on a call's bool through what it ensures."""
         found, calls = [], []

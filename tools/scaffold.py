@@ -72,12 +72,27 @@ def contract(crate, function):
     return []
 
 
-def candidates(need, places, defs):
+def first_part(fact, products):
+    """A callee whose contract is a product says its equation in the first part."""
+    m = re.search(r"\.([\w-]+?)\d* \.ensures", fact)
+    return fact.replace(".ensures", ".ensures .0") if m and m.group(1) in products else fact
+
+
+def candidates(need, places, products, own):
+    ways = answers(need, places, products)
+    if need.startswith("returns") and own > 1:
+        rest = ", ".join(["omega arith"] * (own - 1))
+        return [f"({w}, {rest})" for w in ways] + [f"({w}, search needs)" for w in ways]
+    return ways
+
+
+def answers(need, places, products):
     if need.startswith("returns"):
         record = places.needs.get("Need-" + need)
-        tests = places.tests(record) if record else []
+        tests = [first_part(t, products) for t in places.tests(record)] if record else []
         ways = ["refl"]
-        facts = places.facts(record) if record else []
+        facts = [first_part(f, products) for f in places.facts(record)] if record else []
+        facts = [f for f in facts if not f.endswith(".left") or places.bool_left(record, f)]
         listed = "cc (" + ", ".join(facts) + ")" if facts else "cc"
         if tests:
             simp = "simp (" + ", ".join(tests) + ")"
@@ -104,10 +119,14 @@ def main():
             continue
         if a.only is None or rel in a.only:
             files[path] = (rel, text, {})
+    from ways import deps, read_functions, dash
+    known = [f for c in deps(a.crate) for f in read_functions(c)]
+    products = {dash(f.name) for f in known if len(f.clauses) > 1}
     for path, (rel, text, state) in files.items():
         places = Places(lts_path(generated, a.crate, rel))
+        own = max([len(f.clauses) for f in known if f.crate == a.crate and f.path == rel] or [1])
         for need in re.findall(r"^(\S+) c(?: κs)? = \?$", text, re.M):
-            state[need] = [0, candidates(need, places, None)]
+            state[need] = [0, candidates(need, places, products, own)]
     closed = set()
     for turn in range(a.rounds):
         for path, (rel, text, state) in files.items():

@@ -24,6 +24,8 @@ sys.path.insert(0, HERE)
 from facts import Places, lts_path  # noqa: E402
 from scaffold import blocks, dev  # noqa: E402
 
+# definitions that go by cases on a number, and that number's name in the code
+BY_CASES = {"trigger": "levels"}
 NUMBERS = ("u8", "u16", "u32", "u64", "usize")
 STD = {"wrapping_add_u32": ([("a", "u32"), ("b", "u32")], "u32", ["r ≡ (a + b) % 2 ^ 32"])}
 
@@ -431,9 +433,11 @@ def law_text(crate, f, way, goals, index, defs, heads):
     used = [(v, t) for v, t in w.vars if v in words]
     goal = goals[0]
     own = [x for x in re.findall(r"[A-Za-z][\w']*", goal.split("≡", 1)[1]) if x in defs and defs[x][3]]
-    called = {x for p, _ in premises if "≡" in p for x in re.findall(r"[A-Za-z][\w']*", p.split("≡", 1)[1]) if x in defs}
-    wider = [x for x in called if own and own[0] in defs[x][2] and defs[x][3]]
-    unfold, todo = [], wider or own[:1]
+    firsts = [re.findall(r"[A-Za-z][\w']*", p.split("≡", 1)[1]) for p, _ in premises if "≡" in p]
+    called = {x[0] for x in firsts if x and x[0] in defs}
+    wider = [x for x in called if own and x != own[0] and own[0] in defs[x][2] and defs[x][3]]
+    mine = [x for x in own if defs[x][0] == crate]
+    unfold, todo = [], wider or mine[:1] or own[:1]
     while todo:
         x = todo.pop(0)
         if x in unfold or not defs[x][3]:
@@ -457,11 +461,12 @@ def law_text(crate, f, way, goals, index, defs, heads):
         at = next(i for i, (p, _) in enumerate(premises) if p == f"({zero} ≡ 0 → ⊥)")
         out += f"{name} " + " ".join("zero" if a == zero else a for a in args) + " " + " ".join(hs) + f" = absurd (h{at} refl)\n"
         out += f"{name} " + " ".join(f"(suc {a})" if a == zero else a for a in args) + " " + " ".join(hs) + f" = cc (sub-one (suc {zero}))\n"
+    elif own and own[0] in BY_CASES and not any(re.match(rf"{BY_CASES[own[0]]} ≡ 0", p) for p, _ in premises):
+        # the definition goes by cases on a number that no test on this way settles
+        n = BY_CASES[own[0]]
+        for case in ("zero", f"(suc {n})"):
+            out += f"{name} " + " ".join(case if a == n else a for a in args) + " " + " ".join(hs) + " = cc\n"
     else:
-        eqs = []
-        for i, (p, _) in enumerate(premises):
-            if m := re.match(r"(.+) < (.+)$", p):
-                eqs.append(f"lt-ltb _ _ h{i}")
         out += f"{name} " + " ".join(args + hs) + " = cc\n"
     return name, len(used), out
 
@@ -487,7 +492,7 @@ def signature(places, record):
 
 
 def same(sig, marks):
-    norm = lambda s: [(k, re.sub(r"-?\d+$", "", n)) for k, n in s]
+    norm = lambda s: [(k, re.sub(r"[-\d]+$", "", n)) for k, n in s]
     return norm(sig) == norm(marks)
 
 
@@ -518,12 +523,12 @@ def main():
     wanted = [f for f in functions if f.crate == a.crate and (f.path in a.functions)]
     missing = set(a.functions) - {f.path for f in wanted}
     assert not missing, f"not found: {missing}"
+    # what other functions' contracts name stays shut in a law; the helpers of a definition open
+    heads = {x for f in functions for c in f.clauses for x in re.findall(r"[A-Za-z][\w']*", c)}
     plans, laws = {}, []
     for f in wanted:
         plans[f.path] = []
         ways = walker.ways(f)
-        # what the function calls stays shut in its laws; its own definition's helpers open
-        heads = {x for way, _ in ways for prem in way.premises for p, s in prem if s.startswith(".ens") for x in re.findall(r"[A-Za-z][\w']*", p.split("≡", 1)[1])}
         for i, (way, goals) in enumerate(ways):
             name, count, text = law_text(a.crate, f, way, goals, i + 1 if i else 0, defs, heads)
             laws.append(text)
@@ -540,7 +545,7 @@ def main():
 
 def write_laws(a, laws, defs, kinds, crates):
     body = "\n".join(laws)
-    words = set(re.findall(r"[\w']+", body))
+    words = set(re.findall(r"(?<![\w-])[\w']+(?![\w'-])", body))
     uses = {}
     for x in sorted(words):
         if x in defs:
@@ -551,7 +556,7 @@ def write_laws(a, laws, defs, kinds, crates):
             c, m = kinds[x]
             uses.setdefault(f"Rattle.{c}" + ("·specs" if c == a.crate else "") + f".specs.declared.{m}{x}", []).append(x)
     head = "-- A law for each way through a function: its premises are how each test went and what each call ensures, in the order\n-- of the code. Written by tools/ways.py from the code and the contracts.\n"
-    head += "use Prim.Native.Nat.{ℕ, zero, suc, _+_, _-_, _*_, _/_, _%_, _^_, _<_, _≤_}\nuse mathlib.Core.Path.{_≡_, refl}\nuse mathlib.Core.Bool.{Bool, true, false}\nuse mathlib.Core.List.{List}\nuse lib.ListN.{length, getD, set}\nuse native.Mathlib.Numerals.{sub-one}\n"
+    head += "use Prim.Native.Nat.{ℕ, zero, suc, _+_, _-_, _*_, _/_, _%_, _^_, _<_, _≤_}\nuse mathlib.Core.Path.{_≡_, refl}\nuse mathlib.Core.Bool.{Bool, true, false}\nuse mathlib.Core.List.{List}\nuse lib.ListN.{length, getD, set}\nuse lib.Dec.{eqb, ltb, leb}\nuse native.Mathlib.Numerals.{sub-one}\n"
     head += "".join(f"use {m}.{{{', '.join(ns)}}}\n" for m, ns in sorted(uses.items()))
     path = os.path.join(ROOT, "crates", a.crate, "proofs", a.laws + ".antt")
     os.makedirs(os.path.dirname(path), exist_ok=True)

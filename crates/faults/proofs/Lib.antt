@@ -1,0 +1,3 @@
+pub mod FrameWays
+pub mod Ways
+pub mod StepWays

@@ -1,0 +1,111 @@
+use mathlib.Core.Path.{_≡_, refl, sym, _∙_}
+use native.Mathlib.Omega.{arith}
+use lib.ListN.{length-set}
+use borrow.Author.Tests.{lt-ltb, le-ltb, le-leb, lt-leb, eq-eqb, ne-eqb}
+use Rattle.faults.specs.Frames.{frame7}
+use borrow.Author.Needs.{needs}
+use Rattle.faults.proofs.frames.frame_7.Statement.{statement}
+use Rattle.faults.proofs.frames.frame_7.Tie as tie
+use Rattle.faults.proofs.frames.frame_7.Reads as reads
+use Rattle.faults.proofs.frames.frame_7.Lts as lts
+
+-- src/frames.rt:360:5
+array-set-from-fields : tie.Need-array-set-from-fields
+array-set-from-fields c = search needs
+
+-- src/frames.rt:366:5
+array-set-from-fields-2 : tie.Need-array-set-from-fields-2
+array-set-from-fields-2 c = search needs
+
+-- src/frames.rt:372:5
+array-set-from-fields-3 : tie.Need-array-set-from-fields-3
+array-set-from-fields-3 c = search needs
+
+-- src/frames.rt:378:5
+array-set-from-fields-4 : tie.Need-array-set-from-fields-4
+array-set-from-fields-4 c = search needs
+
+-- src/frames.rt:384:5
+array-set-from-fields-5 : tie.Need-array-set-from-fields-5
+array-set-from-fields-5 c = search needs
+
+-- src/frames.rt:390:5
+array-set-from-fields-6 : tie.Need-array-set-from-fields-6
+array-set-from-fields-6 c = search needs
+
+-- src/frames.rt:396:5
+array-set-from-fields-7 : tie.Need-array-set-from-fields-7
+array-set-from-fields-7 c = search needs
+
+-- src/frames.rt:402:5
+array-set-from-fields-8 : tie.Need-array-set-from-fields-8
+array-set-from-fields-8 c = search needs
+
+-- src/frames.rt:408:5
+array-set-from-fields-9 : tie.Need-array-set-from-fields-9
+array-set-from-fields-9 c = search needs
+
+-- src/frames.rt:414:5
+array-set-from-fields-10 : tie.Need-array-set-from-fields-10
+array-set-from-fields-10 c = search needs
+
+-- src/frames.rt:420:5
+array-set-from-fields-11 : tie.Need-array-set-from-fields-11
+array-set-from-fields-11 c = search needs
+
+-- src/frames.rt:426:5
+array-set-from-fields-12 : tie.Need-array-set-from-fields-12
+array-set-from-fields-12 c = search needs
+
+-- src/frames.rt:432:5
+array-set-from-fields-13 : tie.Need-array-set-from-fields-13
+array-set-from-fields-13 c = search needs
+
+-- src/frames.rt:438:5
+array-set-from-fields-14 : tie.Need-array-set-from-fields-14
+array-set-from-fields-14 c = search needs
+
+-- src/frames.rt:444:5
+array-set-from-fields-15 : tie.Need-array-set-from-fields-15
+array-set-from-fields-15 c = search needs
+
+-- src/frames.rt:450:5
+array-set-from-fields-16 : tie.Need-array-set-from-fields-16
+array-set-from-fields-16 c = search needs
+
+-- src/frames.rt:456:5
+array-set-from-fields-17 : tie.Need-array-set-from-fields-17
+array-set-from-fields-17 c = search needs
+
+-- src/frames.rt:462:5
+array-set-from-fields-18 : tie.Need-array-set-from-fields-18
+array-set-from-fields-18 c = search needs
+
+-- src/frames.rt:346:1
+returns : tie.Need-returns
+unfolding frame7
+returns c = refl
+
+pub frame-7-spec : {M : Type 1} → statement M
+frame-7-spec =
+    tie.close
+    (tie.spec
+    array-set-from-fields
+    array-set-from-fields-2
+    array-set-from-fields-3
+    array-set-from-fields-4
+    array-set-from-fields-5
+    array-set-from-fields-6
+    array-set-from-fields-7
+    array-set-from-fields-8
+    array-set-from-fields-9
+    array-set-from-fields-10
+    array-set-from-fields-11
+    array-set-from-fields-12
+    array-set-from-fields-13
+    array-set-from-fields-14
+    array-set-from-fields-15
+    array-set-from-fields-16
+    array-set-from-fields-17
+    array-set-from-fields-18
+    returns)

@@ -1,0 +1,4 @@
+pub mod Codes
+pub mod Frames
+pub mod Steps
+pub mod Faults
