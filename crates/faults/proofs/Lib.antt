@@ -1,3 +1,4 @@
 pub mod FrameWays
 pub mod Ways
 pub mod StepWays
+pub mod Named

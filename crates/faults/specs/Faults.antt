@@ -1,6 +1,6 @@
 -- What an access, a trigger, an error entry, a push, the vector jump and the prefetch make of a world, in the order of the Rust.
 -- `t` is what raises a fault inside: `trigger` at one level less. The recursion stands in `trigger` alone.
-use Prim.Native.Nat.{ℕ, zero, suc, _+_, _%_, _^_}
+use Prim.Native.Nat.{ℕ, zero, suc, _+_, _/_, _%_, _^_}
 use mathlib.Core.Bool.{Bool, true, false}
 use Rattle.types.specs.Kinds.{pick}
 use Rattle.cpu.specs.declared.Cpu.{Cpu}
@@ -89,6 +89,13 @@ unfoldable pub pushFields : Raise → World → Frame → ℕ → World
 pushFields t w f zero = w
 pushFields t w f (suc k) = pushFields t (pushed t w (fieldAt f k)) f k
 
+-- `push_exception_frame_68000`: A7 is lowered once, then PC low, the status and PC high are written
+unfoldable pub shortWrites : Raise → World → ℕ → ℕ → ℕ → World
+shortWrites t w sp pc sr = guardWrite t (guardWrite t (guardWrite t w ((sp + 4) % 2 ^ 32) false (pc % 65536)) sp false sr) ((sp + 2) % 2 ^ 32) false (pc / 65536)
+
+unfoldable pub pushShort : Raise → World → ℕ → ℕ → World
+pushShort t w pc sr = shortWrites t (on w (lowerA7 (cpuOf w) 6)) (a7Of (cpuOf (on w (lowerA7 (cpuOf w) 6)))) pc sr
+
 -- `jump_vector`: release, the vector kept, its address read, the queue refilled with 2 clocks between
 unfoldable pub vectorRead : Raise → World → ℕ → Attempt
 vectorRead t w v = guardRead t (on w (startVector (cpuOf w) v)) (vectorAddress (cpuOf w) v) true
@@ -140,3 +147,7 @@ trigger (suc n) w (addressFault a write instruction) =
 -- the levels that the code gives: more change nothing
 abbrev pub raised : Raise
 raised = trigger 2
+
+-- an entry as data: a frame, and the jump to its vector
+unfoldable pub entered : World → Frame → ℕ → World
+entered w f v = jumpVector raised (stacked raised w f) v

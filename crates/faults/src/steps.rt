@@ -3,7 +3,7 @@ use crate::frames::Field;
 use memory::Core;
 ghost use mathlib.Core.Path.{_≡_};
 ghost use mathlib.Core.Bool.{true, false};
-ghost use Prim.Native.Nat.{_%_};
+ghost use Prim.Native.Nat.{_+_, _%_, _^_};
 ghost use Rattle.memory.specs.World.{putCpu};
 ghost use Rattle.cpu.specs.Fields.{a7Of, pcOf, addressOf, isFaulted, inException, causeNumberOf, setPc, halted, setException, setWdata, startVector, lowerA7, oddPc};
 ghost use Rattle.cpu.specs.Status.{keepResume, statusOf};
@@ -81,6 +81,13 @@ pub fn one_fetched(m: Core) -> bool
 {
     let c = m.cpu;
     cpu::clocks::one_fetched(c)
+}
+
+// a + n modulo 2^32.
+pub fn plus(a: u32, n: u32) -> u32
+    ensures { λ r. ⌜ r ≡ (a + n) % 2 ^ 32 ⌝ }
+{
+    std::num::wrapping_add_u32(a, n)
 }
 
 // Whether an odd guarded access is refused: kinds 1, 2, 10.

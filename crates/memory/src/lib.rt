@@ -80,7 +80,8 @@ pub fn note(m: Core, store: &mut [u8], log: &mut [u32], code: u32, address: u32,
     r
 }
 
-fn width(long: bool) -> u32
+// Bytes of an access: a long or a word.
+pub fn width(long: bool) -> u32
     ensures { λ r. ⌜ r ≡ widthOf long ⌝ }
 {
     if long {

@@ -1,0 +1,66 @@
+use mathlib.Core.Path.{_≡_, refl, _∙_}
+use Rattle.faults.proofs.Named.{push-exception-frame-68000-way}
+use borrow.Author.Needs.{needs}
+use Rattle.faults.proofs.push_exception_frame_68000.Statement.{statement}
+use Rattle.faults.proofs.push_exception_frame_68000.Tie as tie
+use Rattle.faults.proofs.push_exception_frame_68000.Reads as reads
+use Rattle.faults.proofs.push_exception_frame_68000.Lts as lts
+use Rattle.faults.proofs.cycle.write_at.Reads as write-at-reads
+use Rattle.faults.proofs.steps.lower.Reads as lower-reads
+use Rattle.faults.proofs.steps.plus.Reads as plus-reads
+use Rattle.faults.proofs.steps.top.Reads as top-reads
+
+-- src/lib.rt:82:9
+lower-requires : tie.Need-lower-requires
+lower-requires c κs = search needs
+
+-- src/lib.rt:83:9
+top-requires : tie.Need-top-requires
+top-requires c κs = search needs
+
+-- src/lib.rt:86:47
+plus-requires : tie.Need-plus-requires
+plus-requires c κs = search needs
+
+-- src/lib.rt:86:9
+write-at-requires : tie.Need-write-at-requires
+write-at-requires c κs = search needs
+
+-- src/lib.rt:87:9
+write-at-requires-2 : tie.Need-write-at-requires-2
+write-at-requires-2 c κs = search needs
+
+-- src/lib.rt:88:39
+plus-requires-2 : tie.Need-plus-requires-2
+plus-requires-2 c κs = search needs
+
+-- src/lib.rt:88:5
+write-at-requires-3 : tie.Need-write-at-requires-3
+write-at-requires-3 c κs = search needs
+
+-- src/lib.rt:73:1
+same-length : tie.Need-same-length
+same-length c = c .before .before .before .before .write-at3 .kept .1 .0 ∙ c .before .before .before .before .before .before .before .before .before .before .before .before .write-at2 .kept .1 .0 ∙ c .before .before .before .before .before .before .before .before .before .before .before .before .before .before .before .before .before .before .before .write-at .kept .1 .0
+
+-- src/lib.rt:73:1
+same-length-2 : tie.Need-same-length-2
+same-length-2 c = c .before .before .before .before .write-at3 .kept .1 .1 .0 ∙ c .before .before .before .before .before .before .before .before .before .before .before .before .write-at2 .kept .1 .1 .0 ∙ c .before .before .before .before .before .before .before .before .before .before .before .before .before .before .before .before .before .before .before .write-at .kept .1 .1 .0
+
+-- src/lib.rt:73:1
+returns : tie.Need-returns
+returns c = push-exception-frame-68000-way _ _ _ _ _ _ _ _ _ _ _ _ _ _ _ _ _ _ (c .before .before .before .before .before .before .before .before .before .before .before .before .before .before .before .before .before .before .before .before .before .before .before .before .lower .ensures) (c .before .before .before .before .before .before .before .before .before .before .before .before .before .before .before .before .before .before .before .before .before .before .before .top .ensures) (c .before .before .before .before .before .before .before .before .before .before .before .before .before .before .before .before .before .before .before .before .plus .ensures) (c .before .before .before .before .before .before .before .before .before .before .before .before .before .before .before .before .before .before .before .write-at .ensures) (c .before .before .before .before .before .before .before .before .before .before .before .before .write-at2 .ensures) (c .before .before .before .before .before .plus2 .ensures) (c .before .before .before .before .write-at3 .ensures)
+
+pub push-exception-frame-68000-spec : {M : Type 1} → statement M
+push-exception-frame-68000-spec =
+    tie.close
+    (tie.spec
+    lower-requires
+    top-requires
+    plus-requires
+    write-at-requires
+    write-at-requires-2
+    plus-requires-2
+    write-at-requires-3
+    same-length
+    same-length-2
+    returns)
