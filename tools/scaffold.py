@@ -106,10 +106,11 @@ def main():
     p = argparse.ArgumentParser(description=__doc__, formatter_class=argparse.RawDescriptionHelpFormatter)
     p.add_argument("crate")
     p.add_argument("--rounds", type=int, default=6)
+    p.add_argument("--reuse", help="what an earlier `rt dev CRATE` printed, in place of a new run")
     p.add_argument("--only", nargs="*", help="just these functions, as paths in the crate")
     a = p.parse_args()
     generated = tempfile.mkdtemp()
-    out = dev(a.crate)
+    out = open(a.reuse, encoding="utf-8").read() if a.reuse else dev(a.crate)
     dev(a.crate, "--generated", generated)
     files = {}
     for path, body in blocks(out):

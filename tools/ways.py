@@ -428,9 +428,19 @@ def deps(crate):
 def law_text(crate, f, way, goals, index, defs, heads):
     w = way
     premises = [p for prem in w.premises for p in prem]
+    variables = list(w.vars)
+    for v, t in w.vars:
+        # a core of which only the record shows would stay undetermined: the law is over the record
+        if t == "Core":
+            whole = " ".join([p for p, _ in premises] + goals)
+            seen = re.findall(rf"(?<![\w.]){v}(?![\w])( \.cpu)?", whole)
+            if seen and all(seen):
+                premises = [(re.sub(rf"\(?(?<![\w.]){v} \.cpu\)?", v, p), s) for p, s in premises]
+                goals = [re.sub(rf"\(?(?<![\w.]){v} \.cpu\)?", v, g) for g in goals]
+                variables = [(x, "Cpu" if x == v else y) for x, y in variables]
     text = " ".join(p for p, _ in premises) + " " + " ".join(goals)
     words = set(re.findall(r"[\w']+", text))
-    used = [(v, t) for v, t in w.vars if v in words]
+    used = [(v, t) for v, t in variables if v in words]
     goal = goals[0]
     own = [x for x in re.findall(r"[A-Za-z][\w']*", goal.split("≡", 1)[1]) if x in defs and defs[x][3]]
     firsts = [re.findall(r"[A-Za-z][\w']*", p.split("≡", 1)[1]) for p, _ in premises if "≡" in p]
@@ -515,6 +525,7 @@ def main():
     p.add_argument("--cycle", action="store_true", help="the functions call each other: one file")
     p.add_argument("--laws", default="Ways", help="the file of proofs/ for the laws")
     p.add_argument("--show", action="store_true")
+    p.add_argument("--reuse", help="what an earlier `rt dev CRATE` printed, in place of a new run")
     a = p.parse_args()
     crates = deps(a.crate)
     functions = [f for c in crates for f in read_functions(c)]
@@ -573,7 +584,7 @@ def write_files(a, wanted, plans):
         path = os.path.join(ROOT, "crates", a.crate, "proofs", f.path, "Proof.antt")
         if os.path.exists(path):
             os.remove(path)
-    out = dev(a.crate)
+    out = open(a.reuse, encoding="utf-8").read() if a.reuse else dev(a.crate)
     generated = tempfile.mkdtemp()
     dev(a.crate, "--generated", generated)
     for path, body in blocks(out):

@@ -2,3 +2,8 @@ pub mod Bytes
 pub mod Served
 pub mod Log
 pub mod World
+pub mod Runs
+pub mod ByteLaws
+pub mod ServedLaws
+pub mod LogLaws
+pub mod AccessLaws

@@ -1,0 +1,45 @@
+use mathlib.Core.Path.{_≡_, refl, _∙_}
+use Rattle.exceptions.proofs.Ways.{take-fp-disabled-060-way}
+use borrow.Author.Needs.{needs}
+use Rattle.exceptions.proofs.take_fp_disabled_060.Statement.{statement}
+use Rattle.exceptions.proofs.take_fp_disabled_060.Tie as tie
+use Rattle.exceptions.proofs.take_fp_disabled_060.Reads as reads
+use Rattle.exceptions.proofs.take_fp_disabled_060.Lts as lts
+use Rattle.exceptions.proofs.stack_disabled.Reads as stack-disabled-reads
+use Rattle.faults.proofs.jump_vector.Reads as jump-vector-reads
+use Rattle.types.proofs.exception_cycles.Reads as exception-cycles-reads
+
+-- src/lib.rt:208:9
+stack-disabled-requires : tie.Need-stack-disabled-requires
+stack-disabled-requires c κs = search needs
+
+-- src/lib.rt:209:9
+jump-vector-requires : tie.Need-jump-vector-requires
+jump-vector-requires c κs = search needs
+
+-- src/lib.rt:210:9
+exception-cycles-requires : tie.Need-exception-cycles-requires
+exception-cycles-requires c κs = search needs
+
+-- src/lib.rt:205:1
+same-length : tie.Need-same-length
+same-length c = c .before .before .before .before .before .jump-vector .kept .1 .0 ∙ c .before .before .before .before .before .before .before .before .before .before .before .before .stack-disabled .kept .1 .0
+
+-- src/lib.rt:205:1
+same-length-2 : tie.Need-same-length-2
+same-length-2 c = c .before .before .before .before .before .jump-vector .kept .1 .1 .0 ∙ c .before .before .before .before .before .before .before .before .before .before .before .before .stack-disabled .kept .1 .1 .0
+
+-- src/lib.rt:205:1
+returns : tie.Need-returns
+returns c = take-fp-disabled-060-way _ _ _ _ _ _ _ _ _ _ (c .before .before .before .before .before .before .before .before .before .before .before .before .stack-disabled .ensures) (c .before .before .before .before .before .jump-vector .ensures) (c .exception-cycles .ensures)
+
+pub take-fp-disabled-060-spec : {M : Type 1} → statement M
+take-fp-disabled-060-spec =
+    tie.close
+    (tie.spec
+    stack-disabled-requires
+    jump-vector-requires
+    exception-cycles-requires
+    same-length
+    same-length-2
+    returns)

@@ -1,0 +1,34 @@
+use mathlib.Core.Path.{_≡_, refl, _∙_}
+use Rattle.exceptions.proofs.Ways.{trap-way}
+use borrow.Author.Needs.{needs}
+use Rattle.exceptions.proofs.trap.Statement.{statement}
+use Rattle.exceptions.proofs.trap.Tie as tie
+use Rattle.exceptions.proofs.trap.Reads as reads
+use Rattle.exceptions.proofs.trap.Lts as lts
+use Rattle.exceptions.proofs.state.trap_vector.Reads as trap-vector-reads
+use Rattle.exceptions.proofs.take_exception.Reads as take-exception-reads
+
+-- src/lib.rt:93:9
+trap-vector-requires : tie.Need-trap-vector-requires
+trap-vector-requires c κs = search needs
+
+-- src/lib.rt:94:5
+take-exception-requires : tie.Need-take-exception-requires
+take-exception-requires c κs = search needs
+
+-- src/lib.rt:90:1
+same-length : tie.Need-same-length
+same-length c = c .before .before .before .before .take-exception .kept .1 .0
+
+-- src/lib.rt:90:1
+same-length-2 : tie.Need-same-length-2
+same-length-2 c = c .before .before .before .before .take-exception .kept .1 .1 .0
+
+-- src/lib.rt:90:1
+returns : tie.Need-returns
+returns c = trap-way _ _ _ _ _ _ _ _ (c .before .before .before .before .before .before .before .trap-vector .ensures) (c .before .before .before .before .take-exception .ensures)
+
+pub trap-spec : {M : Type 1} → statement M
+trap-spec =
+    tie.close
+    (tie.spec trap-vector-requires take-exception-requires same-length same-length-2 returns)

@@ -1,0 +1,25 @@
+-- The frames of exceptions that are no errors, upward from the new A7. All their pushes are guarded.
+use Prim.Native.Nat.{ℕ, _+_, _*_, _%_}
+use mathlib.Core.List.{List, [], _∷_}
+use Rattle.faults.specs.declared.frames.Frame.{Frame}
+use Rattle.faults.specs.Frames.{word, long, framed}
+
+-- the word of a format and a vector: format × 4096 + vector × 4, the vector's offset in 12 bits
+unfoldable pub formatWord : ℕ → ℕ → ℕ
+formatWord format v = format * 4096 + v * 4 % 4096
+
+-- format 0 of `take_exception`: the vector's offset fills the word
+unfoldable pub offsetWord : ℕ → ℕ
+offsetWord v = v * 4 % 65536
+
+-- 8 bytes: status, address, format word
+unfoldable pub shortFrame : ℕ → ℕ → ℕ → Frame
+shortFrame sr pc format = framed (word sr ∷ long pc ∷ word format ∷ [])
+
+-- format 2, 12 bytes: one long more
+unfoldable pub longFrame : ℕ → ℕ → ℕ → ℕ → Frame
+longFrame sr pc format extra = framed (word sr ∷ long pc ∷ word format ∷ long extra ∷ [])
+
+-- format 4, 16 bytes: two longs more
+unfoldable pub disabledFrame : ℕ → ℕ → ℕ → ℕ → ℕ → Frame
+disabledFrame sr pc format ea extra = framed (word sr ∷ long pc ∷ word format ∷ long ea ∷ long extra ∷ [])

@@ -1,0 +1,212 @@
+// The exceptions that are no errors: `take_exception` and the wrappers around it, the group 2 exceptions, trace, and the two
+// floating-point entries of the 68060. It uses `faults` and everything below; `calls` uses it.
+use faults::steps;
+use memory::Core;
+
+pub mod frames; // their frames
+pub mod state; // what an entry tests and changes on the record
+
+ghost use mathlib.Core.Path.{_≡_};
+ghost use Prim.Native.Nat.{_+_, _%_};
+ghost use Rattle.memory.specs.World.{world};
+ghost use Rattle.exceptions.specs.Exceptions.{entry, stackShort, taken, takeException, stackGroup2, takeGroup2, trap, exceptionTrace, takeRewound, stackUnimp, takeFpUnimp060, stackDisabled, takeFpDisabled060};
+
+// A core after an entry, and the cycles that the entry answers.
+pub struct Entered {
+    pub core: Core,
+    pub cycles: u32,
+}
+
+// The status as it was, an address and, on kinds with a format, a format word.
+pub fn stack_short(m: Core, store: &mut [u8], log: &mut [u32], pc: u32, format: u32) -> Core
+    ensures { λ r. ⌜ world r (now (store .exit)) (now (log .exit)) ≡ stackShort (world m (now (store .entry)) (now (log .entry))) pc format ⌝ }
+{
+    let a = steps::supervisor(m);
+    if state::is_68000(m) {
+        let word = state::status_word(m);
+        return faults::push_exception_frame_68000(a, store, log, pc, word);
+    }
+    let sr = state::status(m);
+    let f = frames::short_frame(sr, pc, format);
+    faults::push_frame(a, store, log, f)
+}
+
+// The frame of `take_exception`, the jump, and the end of exception processing.
+fn stack_and_jump(m: Core, store: &mut [u8], log: &mut [u32], vector: u32) -> Core
+    ensures { λ r. ⌜ world r (now (store .exit)) (now (log .exit)) ≡ taken (world m (now (store .entry)) (now (log .entry))) vector ⌝ }
+{
+    let pc = state::stacked_address(m, vector);
+    let format = frames::offset_word(vector);
+    let a = stack_short(m, store, log, pc, format);
+    let b = faults::jump_vector(a, store, log, vector);
+    state::finish(b)
+}
+
+// An exception by its vector.
+pub fn take_exception(m: Core, store: &mut [u8], log: &mut [u32], vector: u32) -> Entered
+    ensures { λ r. ⌜ entry (world (r .core) (now (store .exit)) (now (log .exit))) (r .cycles) ≡ takeException (world m (now (store .entry)) (now (log .entry))) vector ⌝ }
+{
+    if steps::in_exception(m) {
+        let h = steps::halt(m);
+        return Entered { core: h, cycles: 0 };
+    }
+    let a = state::begin(m);
+    let d = stack_and_jump(a, store, log, vector);
+    let n = types::exception_cycles(vector);
+    Entered { core: d, cycles: n }
+}
+
+// The frame of a group 2 exception.
+fn stack_group2(m: Core, store: &mut [u8], log: &mut [u32], vector: u32) -> Core
+    ensures { λ r. ⌜ world r (now (store .exit)) (now (log .exit)) ≡ stackGroup2 (world m (now (store .entry)) (now (log .entry))) vector ⌝ }
+{
+    let pc = steps::pc(m);
+    if state::is_68000(m) {
+        let format = frames::offset_word(vector);
+        return stack_short(m, store, log, pc, format);
+    }
+    if state::is_pre_68020(m) {
+        let format = frames::offset_word(vector);
+        return stack_short(m, store, log, pc, format);
+    }
+    let a = steps::supervisor(m);
+    let sr = state::status(m);
+    let format = frames::format_word(2, vector);
+    let f = frames::long_frame(sr, pc, format, state::ppc(m));
+    faults::push_frame(a, store, log, f)
+}
+
+// A group 2 exception: CHK, TRAPV, zero divide, trace.
+pub fn take_group2_exception(m: Core, store: &mut [u8], log: &mut [u32], vector: u32) -> Entered
+    ensures { λ r. ⌜ entry (world (r .core) (now (store .exit)) (now (log .exit))) (r .cycles) ≡ takeGroup2 (world m (now (store .entry)) (now (log .entry))) vector ⌝ }
+{
+    let a = stack_group2(m, store, log, vector);
+    let d = faults::jump_vector(a, store, log, vector);
+    let n = types::exception_cycles(vector);
+    Entered { core: d, cycles: n }
+}
+
+// TRAP #n.
+pub fn trap(m: Core, store: &mut [u8], log: &mut [u32], n: u8) -> Entered
+    ensures { λ r. ⌜ entry (world (r .core) (now (store .exit)) (now (log .exit))) (r .cycles) ≡ trap (world m (now (store .entry)) (now (log .entry))) n ⌝ }
+{
+    let v = state::trap_vector(n);
+    take_exception(m, store, log, v)
+}
+
+// CHK.
+pub fn exception_chk(m: Core, store: &mut [u8], log: &mut [u32]) -> Entered
+    ensures { λ r. ⌜ entry (world (r .core) (now (store .exit)) (now (log .exit))) (r .cycles) ≡ takeGroup2 (world m (now (store .entry)) (now (log .entry))) 6 ⌝ }
+{
+    take_group2_exception(m, store, log, 6)
+}
+
+// Divide by zero.
+pub fn exception_zero_divide(m: Core, store: &mut [u8], log: &mut [u32]) -> Entered
+    ensures { λ r. ⌜ entry (world (r .core) (now (store .exit)) (now (log .exit))) (r .cycles) ≡ takeGroup2 (world m (now (store .entry)) (now (log .entry))) 5 ⌝ }
+{
+    take_group2_exception(m, store, log, 5)
+}
+
+// Privilege violation.
+pub fn exception_privilege(m: Core, store: &mut [u8], log: &mut [u32]) -> Entered
+    ensures { λ r. ⌜ entry (world (r .core) (now (store .exit)) (now (log .exit))) (r .cycles) ≡ takeException (world m (now (store .entry)) (now (log .entry))) 8 ⌝ }
+{
+    take_exception(m, store, log, 8)
+}
+
+// Trace.
+pub fn exception_trace(m: Core, store: &mut [u8], log: &mut [u32]) -> Entered
+    ensures { λ r. ⌜ entry (world (r .core) (now (store .exit)) (now (log .exit))) (r .cycles) ≡ exceptionTrace (world m (now (store .entry)) (now (log .entry))) ⌝ }
+{
+    let a = state::begin_trace(m);
+    take_group2_exception(a, store, log, 9)
+}
+
+// An exception with PC back at the instruction.
+fn take_rewound(m: Core, store: &mut [u8], log: &mut [u32], vector: u32) -> Entered
+    ensures { λ r. ⌜ entry (world (r .core) (now (store .exit)) (now (log .exit))) (r .cycles) ≡ takeRewound (world m (now (store .entry)) (now (log .entry))) vector ⌝ }
+{
+    let a = state::rewind(m);
+    take_exception(a, store, log, vector)
+}
+
+// Line A.
+pub fn take_aline_exception(m: Core, store: &mut [u8], log: &mut [u32]) -> Entered
+    ensures { λ r. ⌜ entry (world (r .core) (now (store .exit)) (now (log .exit))) (r .cycles) ≡ takeRewound (world m (now (store .entry)) (now (log .entry))) 10 ⌝ }
+{
+    take_rewound(m, store, log, 10)
+}
+
+// Line F.
+pub fn take_fline_exception(m: Core, store: &mut [u8], log: &mut [u32]) -> Entered
+    ensures { λ r. ⌜ entry (world (r .core) (now (store .exit)) (now (log .exit))) (r .cycles) ≡ takeRewound (world m (now (store .entry)) (now (log .entry))) 11 ⌝ }
+{
+    take_rewound(m, store, log, 11)
+}
+
+// Breakpoint.
+pub fn take_bkpt_exception(m: Core, store: &mut [u8], log: &mut [u32]) -> Entered
+    ensures { λ r. ⌜ entry (world (r .core) (now (store .exit)) (now (log .exit))) (r .cycles) ≡ takeRewound (world m (now (store .entry)) (now (log .entry))) 4 ⌝ }
+{
+    take_rewound(m, store, log, 4)
+}
+
+// Illegal instruction.
+pub fn take_illegal_exception(m: Core, store: &mut [u8], log: &mut [u32]) -> Entered
+    ensures { λ r. ⌜ entry (world (r .core) (now (store .exit)) (now (log .exit))) (r .cycles) ≡ takeRewound (world m (now (store .entry)) (now (log .entry))) 4 ⌝ }
+{
+    take_rewound(m, store, log, 4)
+}
+
+// TRAP #n that nobody handled.
+pub fn take_trap_exception(m: Core, store: &mut [u8], log: &mut [u32], n: u8) -> Entered
+    ensures { λ r. ⌜ entry (world (r .core) (now (store .exit)) (now (log .exit))) (r .cycles) ≡ trap (world m (now (store .entry)) (now (log .entry))) n ⌝ }
+{
+    trap(m, store, log, n)
+}
+
+// The frame of an unimplemented floating-point instruction.
+fn stack_unimp(m: Core, store: &mut [u8], log: &mut [u32], ea: u32) -> Core
+    ensures { λ r. ⌜ world r (now (store .exit)) (now (log .exit)) ≡ stackUnimp (world m (now (store .entry)) (now (log .entry))) ea ⌝ }
+{
+    let a = steps::supervisor(m);
+    let sr = state::status(m);
+    let pc = steps::pc(m);
+    let format = frames::format_word(2, 11);
+    let f = frames::long_frame(sr, pc, format, ea);
+    faults::push_frame(a, store, log, f)
+}
+
+// 68060: a floating-point instruction that is not implemented.
+pub fn take_fp_unimp_060(m: Core, store: &mut [u8], log: &mut [u32], ea: u32) -> Entered
+    ensures { λ r. ⌜ entry (world (r .core) (now (store .exit)) (now (log .exit))) (r .cycles) ≡ takeFpUnimp060 (world m (now (store .entry)) (now (log .entry))) ea ⌝ }
+{
+    let b = state::note_fpiar(m);
+    let a = stack_unimp(b, store, log, ea);
+    let d = faults::jump_vector(a, store, log, 11);
+    let n = types::exception_cycles(11);
+    Entered { core: d, cycles: n }
+}
+
+// The frame of a disabled floating-point unit.
+fn stack_disabled(m: Core, store: &mut [u8], log: &mut [u32]) -> Core
+    ensures { λ r. ⌜ world r (now (store .exit)) (now (log .exit)) ≡ stackDisabled (world m (now (store .entry)) (now (log .entry))) ⌝ }
+{
+    let a = steps::supervisor(m);
+    let sr = state::status(m);
+    let ppc = state::ppc(m);
+    let format = frames::format_word(4, 11);
+    let f = frames::disabled_frame(sr, ppc, format, 0, ppc);
+    faults::push_frame(a, store, log, f)
+}
+
+// 68060: the floating-point unit is disabled.
+pub fn take_fp_disabled_060(m: Core, store: &mut [u8], log: &mut [u32]) -> Entered
+    ensures { λ r. ⌜ entry (world (r .core) (now (store .exit)) (now (log .exit))) (r .cycles) ≡ takeFpDisabled060 (world m (now (store .entry)) (now (log .entry))) ⌝ }
+{
+    let a = stack_disabled(m, store, log);
+    let d = faults::jump_vector(a, store, log, 11);
+    let n = types::exception_cycles(11);
+    Entered { core: d, cycles: n }
+}

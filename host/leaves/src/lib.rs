@@ -1,0 +1,1 @@
+//! Nothing but tests: the small functions of m68k-host against the lifted Rust.

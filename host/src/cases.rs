@@ -1,0 +1,548 @@
+//! Test cases in text: a line says a call, a record and a store; the answer says what came of it.
+
+use crate::{Bus, Call, Cause, Record, Resume, Window, call, leaf};
+use std::io::Write;
+
+/// The answer to a call that this crate does not have.
+pub const NOT_AVAILABLE: &str = "error: not available";
+
+/// The number of a refusal by an archive that does not have the call.
+const NO_SUCH_CALL: u32 = 99;
+/// Most bytes of a store that is accepted; a longer one is lent with one byte more.
+const STORE_LIMIT: u64 = 65_536;
+/// Most words that are lent as a log, whatever the case says: no call writes nearly as many.
+const LOG_LIMIT: u32 = 65_536;
+/// What the log holds before a call.
+const UNWRITTEN: u32 = 0xA5C3_96F0;
+
+/// Answers cases; its buffers serve one case after the other.
+pub struct Cases {
+    bus: Bus,
+    store: Vec<u8>,
+    before: Vec<u8>,
+    log: Vec<u32>,
+}
+
+/// What a line says beside the call.
+struct Draft<'a, 'b> {
+    record: Record,
+    len: u64,
+    fill: u32,
+    patch: &'a str,
+    log: u32,
+    bus: &'b mut Bus,
+}
+
+type Set = Result<(), String>;
+
+impl Default for Cases {
+    fn default() -> Cases {
+        Cases::new()
+    }
+}
+
+impl Cases {
+    /// Buffers for cases.
+    pub fn new() -> Cases {
+        Cases { bus: Bus::default(), store: vec![], before: vec![], log: vec![] }
+    }
+
+    /// Puts the answer of a line into `out`, without a line end; what follows ` => ` is not looked at.
+    pub fn answer(&mut self, line: &str, out: &mut Vec<u8>) {
+        out.clear();
+        if let Err(reason) = self.try_answer(line, out) {
+            out.clear();
+            out.extend_from_slice(b"error: ");
+            out.extend_from_slice(reason.as_bytes());
+        }
+    }
+
+    fn try_answer(&mut self, line: &str, out: &mut Vec<u8>) -> Result<(), String> {
+        let input = line.split_once(" => ").map_or(line, |p| p.0);
+        let (wanted, before) = self.read(input)?;
+        let Some(wanted) = wanted else {
+            return Err("not available".into());
+        };
+        let mut after = before.clone();
+        let done = call(&mut after, &mut self.bus, &mut self.store, &mut self.log, wanted);
+        let (refused, value) = match done {
+            Ok(answer) => (0, answer.value),
+            Err(refusal) => (refusal.number(), 0),
+        };
+        if refused == NO_SUCH_CALL {
+            return Err("not available".into());
+        }
+        let events = self.events()?;
+        write!(out, "refused={refused} ans={value} nev={} ev=", self.bus.events).unwrap();
+        show_events(out, events);
+        out.extend_from_slice(b" rows=- chg=");
+        show_changes(out, &self.before, &self.store);
+        out.extend_from_slice(b" status=");
+        leaf::get_sr(&after).show(out);
+        show_changed(out, &before, &after);
+        Ok(())
+    }
+
+    /// The words of the events; all behind them must be as they were.
+    fn events(&self) -> Result<&[u32], String> {
+        let words = (self.bus.events as usize).saturating_mul(3);
+        let Some((events, rest)) = self.log.split_at_checked(words) else {
+            return Err("more events than the log has room for".into());
+        };
+        if rest.iter().any(|&w| w != UNWRITTEN) {
+            return Err("the log was written behind its events".into());
+        }
+        Ok(events)
+    }
+
+    /// Reads an input: the call, if there is such a one here, and the record; bus, store and log are
+    /// laid ready.
+    fn read(&mut self, input: &str) -> Result<(Option<Call>, Record), String> {
+        let mut pairs = [(0, ""); NAMES.len()];
+        let (mut count, mut seen, mut next) = (0, 0u64, 0);
+        for part in input.split(' ') {
+            let (name, value) =
+                part.split_once('=').ok_or_else(|| format!("`{part}` is no name=value"))?;
+            let place = find(name, next).ok_or_else(|| format!("{name}: no such field"))?;
+            if seen & 1 << place != 0 {
+                return Err(format!("`{name}` stands twice"));
+            }
+            seen |= 1 << place;
+            next = place + 1;
+            pairs[count] = (place, value);
+            count += 1;
+        }
+        let pairs = &pairs[..count];
+        let value_of = |place| pairs.iter().find(|p| p.0 == place).map(|p| p.1);
+        let wanted = read_call(value_of(CALL).ok_or("no call")?)?;
+        let kind = decimal(value_of(KIND).ok_or("no kind")?)?;
+        self.bus.base = 0;
+        self.bus.windows.clear();
+        self.bus.responses = [u32::MAX; 8];
+        self.bus.events = 0;
+        let record = Record::fresh(kind);
+        let bus = &mut self.bus;
+        let mut draft = Draft { record, len: STORE_LIMIT, fill: 0, patch: "-", log: 192, bus };
+        for &(place, value) in pairs {
+            let (name, set) = NAMES[place];
+            set(&mut draft, value).map_err(|e| format!("{name}: {e}"))?;
+        }
+        let Draft { record, len, fill, patch, log, .. } = draft;
+        self.lay_store(len, fill, patch).map_err(|e| format!("patch: {e}"))?;
+        self.log.clear();
+        self.log.resize(log.min(LOG_LIMIT) as usize, UNWRITTEN);
+        Ok((wanted, record))
+    }
+
+    /// The store and a copy of it: length as claimed, fill and patches.
+    fn lay_store(&mut self, len: u64, fill: u32, patch: &str) -> Set {
+        let size = len.min(STORE_LIMIT) as usize;
+        let store = &mut self.store;
+        store.clear();
+        store.resize(size, 0);
+        if fill != 0 {
+            let row: [u8; 256] =
+                std::array::from_fn(|i| (i as u8).wrapping_mul(31).wrapping_add(fill as u8));
+            for (high, part) in store.chunks_mut(256).enumerate() {
+                for (byte, r) in part.iter_mut().zip(row) {
+                    *byte = r ^ high as u8;
+                }
+            }
+        }
+        for item in items(patch) {
+            let (at, bytes) = pair(item)?;
+            let at = u32::read(at)? as usize;
+            if bytes.is_empty() || !bytes.len().is_multiple_of(2) {
+                return Err(format!("`{bytes}` is no row of bytes"));
+            }
+            let place = store.get_mut(at..at + bytes.len() / 2).ok_or("outside the store")?;
+            for (byte, digits) in place.iter_mut().zip(bytes.as_bytes().chunks(2)) {
+                match (digit(digits[0]), digit(digits[1])) {
+                    (Some(high), Some(low)) => *byte = (high << 4 | low) as u8,
+                    _ => return Err(format!("`{bytes}` is no row of bytes")),
+                }
+            }
+        }
+        if len > STORE_LIMIT {
+            store.push(0);
+        }
+        self.before.clear();
+        self.before.extend_from_slice(&self.store);
+        Ok(())
+    }
+}
+
+/// One value of the text format.
+trait Value: Sized {
+    fn read(s: &str) -> Result<Self, String>;
+    fn show(&self, out: &mut Vec<u8>);
+}
+
+fn digit(byte: u8) -> Option<u32> {
+    match byte {
+        b'0'..=b'9' => Some(u32::from(byte - b'0')),
+        b'a'..=b'f' => Some(u32::from(byte - b'a' + 10)),
+        _ => None,
+    }
+}
+
+/// Bare lower-case hexadecimal of at most 8 digits.
+fn hex(s: &str) -> Result<u32, String> {
+    let wrong = || format!("`{s}` is no number of lower-case hexadecimal");
+    if s.is_empty() || s.len() > 8 {
+        return Err(wrong());
+    }
+    let mut number = 0;
+    for byte in s.bytes() {
+        number = number << 4 | digit(byte).ok_or_else(wrong)?;
+    }
+    Ok(number)
+}
+
+fn show_hex(out: &mut Vec<u8>, number: u32) {
+    let digits = (35 - (number | 1).leading_zeros()) / 4;
+    for i in (0..digits).rev() {
+        out.push(b"0123456789abcdef"[(number >> (4 * i) & 15) as usize]);
+    }
+}
+
+fn decimal<T: std::str::FromStr>(s: &str) -> Result<T, String> {
+    let digits = s.strip_prefix('-').unwrap_or(s);
+    if digits.is_empty() || !digits.bytes().all(|b| b.is_ascii_digit()) {
+        return Err(format!("`{s}` is no decimal number"));
+    }
+    s.parse().map_err(|_| format!("`{s}` is out of range"))
+}
+
+macro_rules! hexadecimal {
+    ($($t:ty)*) => { $(impl Value for $t {
+        fn read(s: &str) -> Result<Self, String> {
+            <$t>::try_from(hex(s)?).map_err(|_| format!("`{s}` is out of range"))
+        }
+        fn show(&self, out: &mut Vec<u8>) {
+            show_hex(out, (*self).into());
+        }
+    })* };
+}
+hexadecimal!(u8 u16 u32);
+
+impl Value for bool {
+    fn read(s: &str) -> Result<Self, String> {
+        match s {
+            "0" => Ok(false),
+            "1" => Ok(true),
+            _ => Err(format!("`{s}` is neither 0 nor 1")),
+        }
+    }
+    fn show(&self, out: &mut Vec<u8>) {
+        out.push(if *self { b'1' } else { b'0' });
+    }
+}
+
+/// The one signed number, decimal.
+impl Value for i32 {
+    fn read(s: &str) -> Result<Self, String> {
+        decimal(s)
+    }
+    fn show(&self, out: &mut Vec<u8>) {
+        write!(out, "{self}").unwrap();
+    }
+}
+
+impl<T: Value + Copy + Default, const N: usize> Value for [T; N] {
+    fn read(s: &str) -> Result<Self, String> {
+        let mut out = [T::default(); N];
+        let mut parts = s.split('.');
+        for place in &mut out {
+            *place = T::read(parts.next().ok_or_else(|| format!("`{s}` has not {N} values"))?)?;
+        }
+        match parts.next() {
+            None => Ok(out),
+            Some(_) => Err(format!("`{s}` has not {N} values")),
+        }
+    }
+    fn show(&self, out: &mut Vec<u8>) {
+        for (i, value) in self.iter().enumerate() {
+            if i > 0 {
+                out.push(b'.');
+            }
+            value.show(out);
+        }
+    }
+}
+
+impl<T: Value> Value for Option<T> {
+    fn read(s: &str) -> Result<Self, String> {
+        if s == "-" { Ok(None) } else { T::read(s).map(Some) }
+    }
+    fn show(&self, out: &mut Vec<u8>) {
+        match self {
+            None => out.push(b'-'),
+            Some(value) => value.show(out),
+        }
+    }
+}
+
+/// By its number, 0 for none.
+impl Value for Option<Cause> {
+    fn read(s: &str) -> Result<Self, String> {
+        Cause::from_number(u8::read(s)?).ok_or("above 8".into())
+    }
+    fn show(&self, out: &mut Vec<u8>) {
+        Cause::number(*self).show(out);
+    }
+}
+
+impl Value for Resume {
+    fn read(s: &str) -> Result<Self, String> {
+        let mut parts = s.splitn(3, '.');
+        let mut next = || parts.next().ok_or_else(|| format!("`{s}` has not 18 values"));
+        Ok(Resume {
+            pc: Value::read(next()?)?,
+            sr: Value::read(next()?)?,
+            dar: Value::read(next()?)?,
+        })
+    }
+    fn show(&self, out: &mut Vec<u8>) {
+        self.pc.show(out);
+        out.push(b'.');
+        self.sr.show(out);
+        out.push(b'.');
+        self.dar.show(out);
+    }
+}
+
+fn pair(s: &str) -> Result<(&str, &str), String> {
+    s.split_once(':').ok_or_else(|| format!("`{s}` has no colon"))
+}
+
+/// The items of a list; `-` is the empty one.
+fn items(s: &str) -> impl Iterator<Item = &str> {
+    s.split(',').filter(move |_| s != "-")
+}
+
+/// Where a name stands in `NAMES`; most often at the place that is looked at first.
+fn find(name: &str, first: usize) -> Option<usize> {
+    if NAMES.get(first).is_some_and(|n| n.0 == name) {
+        return Some(first);
+    }
+    NAMES.iter().position(|n| n.0 == name)
+}
+
+type Setter = for<'a> fn(&mut Draft<'a, '_>, &'a str) -> Set;
+
+/// Places of these two names.
+const CALL: usize = 0;
+const KIND: usize = 1;
+
+macro_rules! names {
+    (record $($f:ident)*; rest $($name:literal $set:expr;)*) => {
+        /// The names of an input in their order, then the shorthands; each with what sets it.
+        const NAMES: &[(&str, Setter)] = &[
+            ("call", |_, _| Ok(())),
+            ("kind", |_, _| Ok(())),
+            $((stringify!($f), |d, v| {
+                d.record.$f = Value::read(v)?;
+                Ok(())
+            }),)*
+            $(($name, $set),)*
+        ];
+
+        /// The fields that differ, each after a space.
+        fn show_changed(out: &mut Vec<u8>, before: &Record, after: &Record) {
+            $(if before.$f != after.$f {
+                out.extend_from_slice(concat!(" ", stringify!($f), "=").as_bytes());
+                after.$f.show(out);
+            })*
+        }
+    };
+}
+
+/// Sets a place to what a value says.
+fn put<T: Value>(place: &mut T, value: &str) -> Set {
+    *place = T::read(value)?;
+    Ok(())
+}
+
+names! {
+    record dar dar_save sr_save ppc pc sp vbr ir fpiar t1_flag t0_flag s_flag m_flag x_flag n_flag
+    not_z_flag v_flag c_flag int_mask int_level stopped change_of_flow loop_mode prefetch_queue
+    prefetch_count pending_sync_clocks precise_bus run_mode exception_processing
+    instruction_exception_vector last_exception_vector pending_fault_cause mmu_fc_override
+    pending_fault_wdata fault_resume cycles_remaining;
+    rest
+    "base" |d, v| put(&mut d.bus.base, v);
+    "len" |d, v| {
+        d.len = decimal(v)?;
+        Ok(())
+    };
+    "fill" |d, v| put(&mut d.fill, v);
+    "patch" |d, v| {
+        d.patch = v;
+        Ok(())
+    };
+    "win" |d, v| {
+        for item in items(v) {
+            let (start, length) = pair(item)?;
+            d.bus.windows.push(Window { start: Value::read(start)?, length: Value::read(length)? });
+        }
+        Ok(())
+    };
+    "ack" |d, v| put(&mut d.bus.responses, v);
+    "log" |d, v| {
+        d.log = decimal(v)?;
+        Ok(())
+    };
+    "status" |d, v| {
+        set_status(&mut d.record, Value::read(v)?);
+        Ok(())
+    };
+    "a7" |d, v| put(&mut d.record.dar[15], v);
+    "a7_save" |d, v| put(&mut d.record.dar_save[15], v);
+    "usp" |d, v| put(&mut d.record.sp[0], v);
+    "isp" |d, v| put(&mut d.record.sp[4], v);
+    "msp" |d, v| put(&mut d.record.sp[6], v);
+}
+
+/// All flags from a status, unmasked; stacks are left alone.
+fn set_status(r: &mut Record, status: u16) {
+    let sr = u32::from(status);
+    let set = |bit: u32, value: u32| if sr & bit != 0 { value } else { 0 };
+    r.t1_flag = sr & 0x8000;
+    r.t0_flag = sr & 0x4000;
+    r.s_flag = set(0x2000, 4);
+    r.m_flag = set(0x1000, 2);
+    r.int_mask = sr & 0x0700;
+    r.x_flag = set(0x10, 0x100);
+    r.n_flag = set(0x08, 0x80);
+    r.not_z_flag = u32::from(sr & 0x04 == 0);
+    r.v_flag = set(0x02, 0x80);
+    r.c_flag = set(0x01, 0x100);
+}
+
+/// The arguments of a call.
+struct Arguments<'a> {
+    name: &'a str,
+    parts: std::str::Split<'a, char>,
+}
+
+impl Arguments<'_> {
+    fn next<T: Value>(&mut self) -> Result<T, String> {
+        let name = self.name;
+        let part = self.parts.next().ok_or_else(|| format!("{name}: too few arguments"))?;
+        T::read(part).map_err(|e| format!("{name}: {e}"))
+    }
+}
+
+/// A call; none for one that is not here yet.
+fn read_call(s: &str) -> Result<Option<Call>, String> {
+    let mut parts = s.split(':');
+    let name = parts.next().unwrap();
+    let mut args = Arguments { name, parts };
+    let a = &mut args;
+    let call = match name {
+        "take_exception" => Some(Call::TakeException(a.next()?)),
+        "trap" => Some(Call::Trap(a.next()?)),
+        "take_group2_exception" => Some(Call::TakeGroup2Exception(a.next()?)),
+        "exception_chk" => Some(Call::ExceptionChk),
+        "exception_zero_divide" => Some(Call::ExceptionZeroDivide),
+        "exception_privilege" => Some(Call::ExceptionPrivilege),
+        "exception_trace" => Some(Call::ExceptionTrace),
+        "exception_address_error" => Some(Call::ExceptionAddressError {
+            address: a.next()?,
+            write: a.next()?,
+            instruction: a.next()?,
+        }),
+        "exception_bus_error" => Some(Call::ExceptionBusError {
+            address: a.next()?,
+            write: a.next()?,
+            instruction: a.next()?,
+            size: a.next()?,
+            cause: a.next()?,
+        }),
+        "take_fp_unimp_060" => Some(Call::TakeFpUnimp060(a.next()?)),
+        "take_fp_disabled_060" => Some(Call::TakeFpDisabled060),
+        "take_aline_exception" => Some(Call::TakeAlineException),
+        "take_fline_exception" => Some(Call::TakeFlineException),
+        "take_trap_exception" => Some(Call::TakeTrapException(a.next()?)),
+        "take_bkpt_exception" => Some(Call::TakeBkptException),
+        "take_illegal_exception" => Some(Call::TakeIllegalException),
+        "trigger_address_error" => Some(Call::TriggerAddressError {
+            address: a.next()?,
+            write: a.next()?,
+            instruction: a.next()?,
+        }),
+        "trigger_bus_error" => Some(Call::TriggerBusError {
+            address: a.next()?,
+            write: a.next()?,
+            instruction: a.next()?,
+            size: a.next()?,
+        }),
+        "check_trace" => Some(Call::CheckTrace),
+        "set_irq" => Some(Call::SetIrq(a.next()?)),
+        "check_interrupts" => Some(Call::CheckInterrupts),
+        "check_and_service_interrupts" => Some(Call::CheckAndServiceInterrupts),
+        "read_16" => Some(Call::Read16(a.next()?)),
+        "read_32" => Some(Call::Read32(a.next()?)),
+        "write_16" => Some(Call::Write16(a.next()?, a.next()?)),
+        "write_32" => Some(Call::Write32(a.next()?, a.next()?)),
+        "push_16" => Some(Call::Push16(a.next()?)),
+        "push_32" => Some(Call::Push32(a.next()?)),
+        "prefetch_first" => Some(Call::PrefetchFirst),
+        "prefetch_second" => Some(Call::PrefetchSecond),
+        "return" => None,
+        "walk" => {
+            let _: [u32; 2] = [a.next()?, a.next()?];
+            None
+        }
+        _ => return Err(format!("`{name}` is no call")),
+    };
+    match args.parts.next() {
+        None => Ok(call),
+        Some(_) => Err(format!("{name}: too many arguments")),
+    }
+}
+
+fn show_events(out: &mut Vec<u8>, words: &[u32]) {
+    if words.is_empty() {
+        out.push(b'-');
+    }
+    for (i, &word) in words.iter().enumerate() {
+        if i > 0 {
+            out.push(if i % 3 == 0 { b',' } else { b':' });
+        }
+        show_hex(out, word);
+    }
+}
+
+/// The runs of bytes that differ.
+fn show_changes(out: &mut Vec<u8>, before: &[u8], after: &[u8]) {
+    const PART: usize = 128;
+    let start = out.len();
+    // The place behind the last differing byte.
+    let mut end = usize::MAX;
+    for (part, (old, new)) in before.chunks(PART).zip(after.chunks(PART)).enumerate() {
+        if old == new {
+            continue;
+        }
+        for (i, (old, new)) in old.iter().zip(new).enumerate() {
+            if old == new {
+                continue;
+            }
+            let at = part * PART + i;
+            if at != end {
+                if out.len() > start {
+                    out.push(b',');
+                }
+                show_hex(out, at as u32);
+                out.push(b':');
+            }
+            show_hex(out, u32::from(new >> 4));
+            show_hex(out, u32::from(new & 15));
+            end = at + 1;
+        }
+    }
+    if out.len() == start {
+        out.push(b'-');
+    }
+}
