@@ -134,6 +134,8 @@ class Walker:
         best = [f for f in self.functions if f.name == name and (not heads or heads[-1] in (f.module, f.crate) or (heads[-1] == "crate" and f.crate == self.crate))]
         if not heads:
             best = [f for f in best if f.crate == self.crate and f.module == module] or best
+        elif len(heads) == 1:
+            best = [f for f in best if f.crate == self.crate and f.module == heads[0]] or best
         elif len(heads) == 2:
             best = [f for f in best if f.crate == heads[0] or heads[0] == "crate"] or best
         assert best, f"no function {path}"

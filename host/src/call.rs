@@ -248,16 +248,6 @@ impl std::error::Error for Refusal {}
 /// assert_eq!(store[0x7FF8..0x8000], [0x27, 0x00, 0x00, 0x00, 0x10, 0x00, 0x00, 0xBC]);
 /// # Ok::<(), m68k_host::Refusal>(())
 /// ```
-///
-/// A mode that does not exist:
-///
-/// ```
-/// use m68k_host::{Bus, Call, Record, Refusal, call};
-///
-/// let mut record = Record { s_flag: 1, ..Record::fresh(2) };
-/// let refused = call(&mut record, &mut Bus::default(), &mut [], &mut [0; 192], Call::Trap(15));
-/// assert_eq!(refused, Err(Refusal::Mode));
-/// ```
 pub fn call(
     record: &mut Record,
     bus: &mut Bus,
@@ -290,5 +280,41 @@ pub fn call(
     match Refusal::from_number(raw.refused) {
         Some(refusal) => Err(refusal),
         None => Ok(Answer { value: raw.answer, events: bus.events }),
+    }
+}
+
+#[cfg(test)]
+mod tests {
+    use super::*;
+    use crate::Window;
+
+    /// A number that is no call's: the record and the bus come back as they went, field by field.
+    #[test]
+    fn a_call_that_is_not_known_changes_nothing() {
+        let mut number = 1u32;
+        let mut next = || {
+            number = number.wrapping_mul(1_664_525).wrapping_add(1_013_904_223);
+            number
+        };
+        for round in 0..1000 {
+            let record = crate::record::tests::any(&mut next);
+            let bus = Bus {
+                base: next(),
+                windows: vec![Window { start: next(), length: next() }; round % 11],
+                responses: std::array::from_fn(|_| next()),
+                events: 0,
+            };
+            let core = mirror::Core { cpu: record.to_mirror(), bus: bus.to_mirror() };
+            let call = mirror::RawCall { number: 1000, a: 1, b: 2, c: 3, d: 4, e: 5 };
+            let (mut store, mut log) = ([1, 2, 3, 4], [5, 6, 7]);
+            // Sound as in `call`.
+            let raw = unsafe {
+                mirror::m68k_call(core, store.as_mut_ptr(), 4, log.as_mut_ptr(), 3, call)
+            };
+            assert!(raw.refused != 0 && raw.answer == 0);
+            assert_eq!(raw.core, core);
+            assert_eq!(Record::from_mirror(&raw.core.cpu), record);
+            assert_eq!((store, log), ([1, 2, 3, 4], [5, 6, 7]));
+        }
     }
 }

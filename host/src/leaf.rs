@@ -12,7 +12,7 @@ macro_rules! change {
         $(#[$doc])*
         pub fn $name(record: &mut Record $(, $arg: $t)?) {
             let cpu = record.to_mirror();
-            *record = Record::from_mirror(&unsafe { mirror::$raw(cpu $(, $arg.into())?) });
+            *record = Record::from_mirror(&unsafe { mirror::$raw(cpu $(, $arg)?) });
         }
     )* };
 }
@@ -48,13 +48,13 @@ pub fn get_sr(record: &Record) -> u16 {
 }
 
 /// Which saved pointer is that of the stack in use: 0 user, 4 interrupt, 6 master.
-pub fn sp_index(record: &Record) -> u32 {
+pub fn sp_index(record: &Record) -> usize {
     unsafe { mirror::m68k_sp_index(record.to_mirror()) }
 }
 
 /// Whether words are fetched ahead.
 pub fn prefetch_enabled(record: &Record) -> bool {
-    unsafe { mirror::m68k_prefetch_enabled(record.to_mirror()) != 0 }
+    unsafe { mirror::m68k_prefetch_enabled(record.to_mirror()) }
 }
 
 /// An address as the kind puts it on the bus.
@@ -71,7 +71,7 @@ impl Record {
     /// assert_eq!(leaf::get_sr(&Record::fresh(2)), 0x2700);
     /// ```
     pub fn fresh(kind: u8) -> Record {
-        Record::from_mirror(&unsafe { mirror::m68k_fresh(kind.into()) })
+        Record::from_mirror(&unsafe { mirror::m68k_fresh(kind) })
     }
 }
 

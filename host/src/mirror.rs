@@ -226,19 +226,19 @@ unsafe extern "C" {
         call: RawCall,
     ) -> RawAnswer;
     pub fn m68k_get_sr(c: Cpu) -> u32;
-    pub fn m68k_set_sr_noint_nosp(c: Cpu, sr: u32) -> Cpu;
-    pub fn m68k_put_back_sr(c: Cpu, sr: u32) -> Cpu;
-    pub fn m68k_set_ccr_internal(c: Cpu, ccr: u32) -> Cpu;
-    pub fn m68k_sp_index(c: Cpu) -> u32;
+    pub fn m68k_set_sr_noint_nosp(c: Cpu, sr: u16) -> Cpu;
+    pub fn m68k_put_back_sr(c: Cpu, sr: u16) -> Cpu;
+    pub fn m68k_set_ccr_internal(c: Cpu, ccr: u8) -> Cpu;
+    pub fn m68k_sp_index(c: Cpu) -> usize;
     pub fn m68k_backup_sp(c: Cpu) -> Cpu;
     pub fn m68k_restore_sp(c: Cpu) -> Cpu;
     pub fn m68k_set_s_flag(c: Cpu, v: u32) -> Cpu;
     pub fn m68k_set_sm_flag(c: Cpu, v: u32) -> Cpu;
     pub fn m68k_set_sm_flag_nosp(c: Cpu, v: u32) -> Cpu;
     pub fn m68k_internal_cycles(c: Cpu, n: u32) -> Cpu;
-    pub fn m68k_prefetch_enabled(c: Cpu) -> u32;
+    pub fn m68k_prefetch_enabled(c: Cpu) -> bool;
     pub fn m68k_address(c: Cpu, a: u32) -> u32;
     pub fn m68k_trace_t0_sr_write(c: Cpu) -> Cpu;
     pub fn m68k_trace_t0_68040_sync(c: Cpu) -> Cpu;
-    pub fn m68k_fresh(kind: u32) -> Cpu;
+    pub fn m68k_fresh(kind: u8) -> Cpu;
 }

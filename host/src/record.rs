@@ -262,3 +262,77 @@ impl Record {
         }
     }
 }
+
+#[cfg(test)]
+pub(crate) mod tests {
+    use super::*;
+
+    /// A record with every field filled, so that two places that are mixed up are noticed.
+    pub(crate) fn any(next: &mut impl FnMut() -> u32) -> Record {
+        fn row<const N: usize>(next: &mut impl FnMut() -> u32) -> [u32; N] {
+            std::array::from_fn(|_| next())
+        }
+        fn flag(next: &mut impl FnMut() -> u32) -> bool {
+            next() >> 31 != 0
+        }
+        fn option(next: &mut impl FnMut() -> u32) -> Option<u32> {
+            if flag(next) { Some(next()) } else { None }
+        }
+        Record {
+            cpu_type: next() as u8,
+            dar: row(next),
+            dar_save: row(next),
+            sr_save: next() as u16,
+            ppc: next(),
+            pc: next(),
+            sp: row(next),
+            vbr: next(),
+            ir: next(),
+            fpiar: next(),
+            t1_flag: next(),
+            t0_flag: next(),
+            s_flag: next(),
+            m_flag: next(),
+            x_flag: next(),
+            n_flag: next(),
+            not_z_flag: next(),
+            v_flag: next(),
+            c_flag: next(),
+            int_mask: next(),
+            int_level: next(),
+            stopped: next(),
+            change_of_flow: flag(next),
+            loop_mode: flag(next),
+            prefetch_queue: [next() as u16, (next() >> 16) as u16],
+            prefetch_count: (next() >> 8) as u8,
+            pending_sync_clocks: next(),
+            precise_bus: flag(next),
+            run_mode: next(),
+            exception_processing: flag(next),
+            instruction_exception_vector: option(next),
+            last_exception_vector: option(next),
+            pending_fault_cause: Cause::from_number((next() >> 16) as u8 % 9).unwrap(),
+            mmu_fc_override: option(next).map(|code| code as u8),
+            pending_fault_wdata: next(),
+            fault_resume: if flag(next) {
+                Some(Resume { pc: next(), sr: next() as u16, dar: row(next) })
+            } else {
+                None
+            },
+            cycles_remaining: next() as i32,
+        }
+    }
+
+    #[test]
+    fn a_record_survives_the_mirror() {
+        let mut number = 7u32;
+        let mut next = || {
+            number = number.wrapping_mul(1_664_525).wrapping_add(1_013_904_223);
+            number
+        };
+        for _ in 0..1000 {
+            let record = any(&mut next);
+            assert_eq!(Record::from_mirror(&record.to_mirror()), record);
+        }
+    }
+}

@@ -6,3 +6,4 @@ pub mod Clocks
 pub mod Trace
 pub mod Interrupts
 pub mod Fresh
+pub mod Laws

@@ -2,3 +2,4 @@ pub mod Kinds
 pub mod Causes
 pub mod Tables
 pub mod Every
+pub mod Laws

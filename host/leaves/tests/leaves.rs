@@ -211,7 +211,7 @@ fn set_ccr_internal() {
 fn sp_index() {
     each(5, true, |_, kind, r| {
         let found = proved::sp_index(&to_host(kind, r));
-        assert_eq!(found as usize, lifted::sp_index(kind, r), "kind {kind}, of {r:x?}");
+        assert_eq!(found, lifted::sp_index(kind, r), "kind {kind}, of {r:x?}");
     });
 }
 

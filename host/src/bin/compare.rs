@@ -7,12 +7,13 @@ use std::path::PathBuf;
 use std::process::{Child, Command, ExitCode, Stdio};
 use std::time::{Duration, Instant};
 
-const USAGE: &str = "usage: compare --seed N --count M [--calls NAME,...] [--oracle PROGRAM]
-       compare --file FILE|- [--calls NAME,...]
+const USAGE: &str = "usage: compare --seed N --count M [--calls NAME,...] [--accepted] [--oracle PROGRAM]
+       compare --file FILE|- [--calls NAME,...] [--accepted]
 
 Compares answers line by line and shows the first 10 differences. The cases are those of `oracle gen N M`
 (the program named by --oracle or ORACLE, else target/oracle/release/oracle of the repository), or the lines
-INPUT => OUTPUT of a file. Calls that are not available are counted and not compared.";
+INPUT => OUTPUT of a file. Calls that are not available are counted and not compared; with --accepted neither are
+those that the oracle refuses.";
 
 /// Differences that are shown.
 const SHOWN: u64 = 10;
@@ -24,12 +25,17 @@ struct Options {
     file: Option<String>,
     oracle: Option<PathBuf>,
     calls: Vec<String>,
+    accepted: bool,
 }
 
 fn options() -> Option<Options> {
     let mut options = Options::default();
     let mut args = std::env::args().skip(1);
     while let Some(name) = args.next() {
+        if name == "--accepted" {
+            options.accepted = true;
+            continue;
+        }
         let value = args.next()?;
         match name.as_str() {
             "--seed" => options.seed = Some(value.parse().ok()?),
@@ -100,6 +106,7 @@ struct Tally<'a> {
     start: Instant,
     shown: Instant,
     read: u64,
+    refused: u64,
     compared: u64,
     differences: u64,
     missing: BTreeMap<String, u64>,
@@ -114,6 +121,7 @@ impl Tally<'_> {
             start: now,
             shown: now,
             read: 0,
+            refused: 0,
             compared: 0,
             differences: 0,
             missing: BTreeMap::new(),
@@ -148,6 +156,10 @@ impl Tally<'_> {
             return;
         }
         let (input, expected) = line.split_once(" => ").unwrap_or((line, "(no answer recorded)"));
+        if self.options.accepted && !expected.starts_with("refused=0 ") {
+            self.refused += 1;
+            return;
+        }
         cases.answer(input, found);
         if found == NOT_AVAILABLE.as_bytes() {
             count(&mut self.missing, name);
@@ -169,6 +181,9 @@ impl Tally<'_> {
 
     /// The last lines; true if there was no difference.
     fn end(&self) -> bool {
+        if self.refused > 0 {
+            println!("compare: refused by the oracle, not compared: {}", self.refused);
+        }
         let lists = [("not available", &self.missing), ("different", &self.differing)];
         for (what, list) in lists {
             if !list.is_empty() {

@@ -20,7 +20,6 @@ has-room-requires c κs = search needs
 
 -- src/interrupts.rt:76:1
 returns : tie.Need-returns
-unfolding hasRoom
 returns c =
     let back = toZ-ofZ {w = w32} {z = c .before .before .args .f .«cycles_remaining»} (record { sfits = c .before .struct-told .given .1 .1 .1 .1 .1 .1 .1 .1 .1 .1 .1 .0 .1 }) in
     rw back at (c .has-room .ensures)

@@ -1,0 +1,56 @@
+use mathlib.Core.Path.{_≡_, refl, _∙_}
+use Rattle.interrupts.proofs.Ways.{check-and-service-interrupts-way, check-and-service-interrupts-way-2}
+use borrow.Author.Needs.{needs}
+use Rattle.interrupts.proofs.check_and_service_interrupts.Statement.{statement}
+use Rattle.interrupts.proofs.check_and_service_interrupts.Tie as tie
+use Rattle.interrupts.proofs.check_and_service_interrupts.Reads as reads
+use Rattle.interrupts.proofs.check_and_service_interrupts.Lts as lts
+use Rattle.interrupts.proofs.service_interrupt.Reads as service-interrupt-reads
+use Rattle.interrupts.proofs.state.clear_level.Reads as clear-level-reads
+use Rattle.interrupts.proofs.state.level.Reads as level-reads
+use Rattle.interrupts.proofs.state.takes.Reads as takes-reads
+
+-- src/lib.rt:201:8
+takes-requires : tie.Need-takes-requires
+takes-requires c κs = search needs
+
+-- src/lib.rt:202:13
+level-requires : tie.Need-level-requires
+level-requires c κs = search needs
+
+-- src/lib.rt:203:13
+service-interrupt-requires : tie.Need-service-interrupt-requires
+service-interrupt-requires c κs = search needs
+
+-- src/lib.rt:204:13
+clear-level-requires : tie.Need-clear-level-requires
+clear-level-requires c κs = search needs
+
+-- src/lib.rt:205:9
+same-length : tie.Need-same-length
+same-length c = c .before .before .before .before .before .service-interrupt .kept .1 .0
+
+-- src/lib.rt:205:9
+same-length-2 : tie.Need-same-length-2
+same-length-2 c = c .before .before .before .before .before .service-interrupt .kept .1 .1 .0
+
+-- src/lib.rt:205:9
+returns : tie.Need-returns
+returns c = check-and-service-interrupts-way _ _ _ _ _ _ _ _ _ (c .before .before .before .before .before .before .before .before .before .before .takes .ensures) (c .before .before .before .before .before .before .before .before .before .if1 .taken) (c .before .before .before .before .before .before .before .before .level .ensures) (c .before .before .before .before .before .service-interrupt .ensures) (c .clear-level .ensures)
+
+-- src/lib.rt:198:1
+returns-2 : tie.Need-returns-2
+returns-2 c = check-and-service-interrupts-way-2 _ _ _ _ (c .before .takes .ensures) (c .if1 .left)
+
+pub check-and-service-interrupts-spec : {M : Type 1} → statement M
+check-and-service-interrupts-spec =
+    tie.close
+    (tie.spec
+    takes-requires
+    level-requires
+    service-interrupt-requires
+    clear-level-requires
+    same-length
+    same-length-2
+    returns
+    returns-2)

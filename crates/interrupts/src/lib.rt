@@ -1,0 +1,214 @@
+// The interrupt call: `check_and_service_interrupts` with `service_interrupt`, kind by kind. It uses `exceptions` for the frames,
+// `faults` and everything below; `calls` uses it.
+use exceptions::frames;
+use faults::steps;
+use memory::Core;
+
+pub mod state; // what an interrupt tests and changes on the record
+
+ghost use mathlib.Core.Path.{_≡_};
+ghost use mathlib.Core.Bool.{true, false};
+ghost use Rattle.memory.specs.World.{world, reply, tried};
+ghost use Rattle.interrupts.specs.Interrupts.{acknowledgeLevel, syncedAcknowledge, from68000, frame68000Interrupt, writes68010, frame68010Interrupt, frameOther, firstFrame, throwaway, secondFrame, serviceInterrupt, checkAndService};
+
+// A core after the first frame, and the vector that the acknowledge gave.
+pub struct Stacked {
+    pub core: Core,
+    pub vector: u32,
+}
+
+// A core after the interrupt call, and whether an interrupt was taken.
+pub struct Serviced {
+    pub core: Core,
+    pub taken: bool,
+}
+
+// The acknowledge cycle and its vector.
+fn acknowledge_level(m: Core, store: &mut [u8], log: &mut [u32], level: u8) -> Stacked
+    ensures { λ r. ⌜ reply (world (r .core) (now (store .exit)) (now (log .exit))) true (r .vector) ≡ acknowledgeLevel (world m (now (store .entry)) (now (log .entry))) level ⌝ }
+{
+    let a = memory::acknowledge(m, store, log, level);
+    let d = a.core;
+    let v = state::iack_vector(a.response, level);
+    Stacked { core: d, vector: v }
+}
+
+// Clocks, their sync, and the acknowledge.
+fn synced_acknowledge(m: Core, store: &mut [u8], log: &mut [u32], clocks: u32, level: u8) -> Stacked
+    ensures { λ r. ⌜ reply (world (r .core) (now (store .exit)) (now (log .exit))) true (r .vector) ≡ syncedAcknowledge (world m (now (store .entry)) (now (log .entry))) clocks level ⌝ }
+{
+    let a = steps::internal_cycles(m, clocks);
+    let b = memory::flush_sync(a, store, log);
+    acknowledge_level(b, store, log, level)
+}
+
+// 68000: PC low, the acknowledge, the status, PC high.
+fn from_68000(
+    m: Core,
+    store: &mut [u8],
+    log: &mut [u32],
+    sp: u32,
+    pc: u32,
+    sr: u16,
+    level: u8,
+) -> Stacked
+    ensures { λ r. ⌜ reply (world (r .core) (now (store .exit)) (now (log .exit))) true (r .vector) ≡ from68000 (world m (now (store .entry)) (now (log .entry))) sp pc sr level ⌝ }
+{
+    let p4 = steps::plus(sp, 4);
+    let low = state::low_word(pc);
+    let a = faults::write_16(m, store, log, p4, low);
+    let x = synced_acknowledge(a, store, log, 4, level);
+    let b = x.core;
+    let d = steps::internal_cycles(b, 4);
+    let e = faults::write_16(d, store, log, sp, sr);
+    let p2 = steps::plus(sp, 2);
+    let high = state::high_word(pc);
+    let g = faults::write_16(e, store, log, p2, high);
+    Stacked {
+        core: g,
+        vector: x.vector,
+    }
+}
+
+// 68000: 6 clocks, and A7 lowered once.
+fn frame_68000(m: Core, store: &mut [u8], log: &mut [u32], pc: u32, sr: u16, level: u8) -> Stacked
+    ensures { λ r. ⌜ reply (world (r .core) (now (store .exit)) (now (log .exit))) true (r .vector) ≡ frame68000Interrupt (world m (now (store .entry)) (now (log .entry))) pc sr level ⌝ }
+{
+    let a = state::lowered_68000(m);
+    let sp = state::lowered_top(m);
+    from_68000(a, store, log, sp, pc, sr, level)
+}
+
+// 68010: PC low, the status, PC high, the format word.
+fn writes_68010(
+    m: Core,
+    store: &mut [u8],
+    log: &mut [u32],
+    sp: u32,
+    pc: u32,
+    sr: u16,
+    format: u16,
+) -> Core
+    ensures { λ r. ⌜ world r (now (store .exit)) (now (log .exit)) ≡ writes68010 (world m (now (store .entry)) (now (log .entry))) sp pc sr format ⌝ }
+{
+    let p4 = steps::plus(sp, 4);
+    let low = state::low_word(pc);
+    let a = faults::write_16(m, store, log, p4, low);
+    let b = faults::write_16(a, store, log, sp, sr);
+    let p2 = steps::plus(sp, 2);
+    let high = state::high_word(pc);
+    let d = faults::write_16(b, store, log, p2, high);
+    let p6 = steps::plus(sp, 6);
+    faults::write_16(d, store, log, p6, format)
+}
+
+// 68010: 12 clocks, the acknowledge, and A7 lowered once.
+fn frame_68010(m: Core, store: &mut [u8], log: &mut [u32], pc: u32, sr: u16, level: u8) -> Stacked
+    ensures { λ r. ⌜ reply (world (r .core) (now (store .exit)) (now (log .exit))) true (r .vector) ≡ frame68010Interrupt (world m (now (store .entry)) (now (log .entry))) pc sr level ⌝ }
+{
+    let x = synced_acknowledge(m, store, log, 12, level);
+    let a = x.core;
+    let b = state::lowered_68010(a);
+    let sp = state::lowered_top_68010(a);
+    let format = state::offset_u16(x.vector);
+    let d = writes_68010(b, store, log, sp, pc, sr, format);
+    Stacked {
+        core: d,
+        vector: x.vector,
+    }
+}
+
+// Other kinds: the acknowledge, then format 0.
+fn frame_other(m: Core, store: &mut [u8], log: &mut [u32], pc: u32, sr: u16, level: u8) -> Stacked
+    ensures { λ r. ⌜ reply (world (r .core) (now (store .exit)) (now (log .exit))) true (r .vector) ≡ frameOther (world m (now (store .entry)) (now (log .entry))) pc sr level ⌝ }
+{
+    let x = acknowledge_level(m, store, log, level);
+    let a = x.core;
+    let format = frames::offset_word(x.vector);
+    let n = state::wide(sr);
+    let f = frames::short_frame(n, pc, format);
+    let b = faults::push_frame(a, store, log, f);
+    Stacked {
+        core: b,
+        vector: x.vector,
+    }
+}
+
+// The first frame.
+fn first_frame(m: Core, store: &mut [u8], log: &mut [u32], pc: u32, sr: u16, level: u8) -> Stacked
+    ensures { λ r. ⌜ reply (world (r .core) (now (store .exit)) (now (log .exit))) true (r .vector) ≡ firstFrame (world m (now (store .entry)) (now (log .entry))) pc sr level ⌝ }
+{
+    if state::is_68000(m) {
+        return frame_68000(m, store, log, pc, sr, level);
+    }
+    if state::is_68010(m) {
+        return frame_68010(m, store, log, pc, sr, level);
+    }
+    frame_other(m, store, log, pc, sr, level)
+}
+
+// The format 1 frame on the interrupt stack.
+fn throwaway_frame(
+    m: Core,
+    store: &mut [u8],
+    log: &mut [u32],
+    pc: u32,
+    sr: u16,
+    vector: u32,
+) -> Core
+    ensures { λ r. ⌜ world r (now (store .exit)) (now (log .exit)) ≡ throwaway (world m (now (store .entry)) (now (log .entry))) pc sr vector ⌝ }
+{
+    let a = state::interrupt_stack(m);
+    let n = state::with_s(sr);
+    let format = frames::format_word(1, vector);
+    let f = frames::short_frame(n, pc, format);
+    faults::push_frame(a, store, log, f)
+}
+
+// What follows the first frame where M is set.
+fn second_frame(m: Core, store: &mut [u8], log: &mut [u32], pc: u32, sr: u16, vector: u32) -> Core
+    ensures { λ r. ⌜ world r (now (store .exit)) (now (log .exit)) ≡ secondFrame (world m (now (store .entry)) (now (log .entry))) pc sr vector ⌝ }
+{
+    if state::m_is_set(m) {
+        if state::is_ec020_plus(m) {
+            return throwaway_frame(m, store, log, pc, sr, vector);
+        }
+        if state::is_060(m) {
+            return state::clear_m(m);
+        }
+        return m;
+    }
+    m
+}
+
+// One interrupt at a level.
+pub fn service_interrupt(m: Core, store: &mut [u8], log: &mut [u32], level: u8) -> Core
+    ensures { λ r. ⌜ world r (now (store .exit)) (now (log .exit)) ≡ serviceInterrupt (world m (now (store .entry)) (now (log .entry))) level ⌝ }
+{
+    let pc = steps::pc(m);
+    let sr = state::status(m);
+    let a = state::enter_level(m, level);
+    let x = first_frame(a, store, log, pc, sr, level);
+    let b = second_frame(x.core, store, log, pc, sr, x.vector);
+    let d = faults::jump_vector(b, store, log, x.vector);
+    state::close(d)
+}
+
+// The interrupt call.
+pub fn check_and_service_interrupts(m: Core, store: &mut [u8], log: &mut [u32]) -> Serviced
+    ensures { λ r. ⌜ tried (world (r .core) (now (store .exit)) (now (log .exit))) (r .taken) ≡ checkAndService (world m (now (store .entry)) (now (log .entry))) ⌝ }
+{
+    if state::takes(m) {
+        let level = state::level(m);
+        let a = service_interrupt(m, store, log, level);
+        let b = state::clear_level(a);
+        return Serviced {
+            core: b,
+            taken: true,
+        };
+    }
+    Serviced {
+        core: m,
+        taken: false,
+    }
+}
