@@ -1,0 +1,184 @@
+// Replays recorded answers of the oracle (oracle/sample.py makes data/sample.bin): each case is a call on the proved code, and its
+// answer, the number of events, each event word, the whole record and the whole store must be those that the Rust gave.
+use boundary::RawAnswer;
+use boundary::RawCall;
+use memory::Core;
+
+mod list; // numbers and lists of a case
+mod record; // words to a record and back
+mod same; // whether two lists are the same
+
+fn call_of(w: [u32; 136]) -> RawCall {
+    RawCall {
+        number: w[128],
+        a: w[129],
+        b: w[130],
+        c: w[131],
+        d: w[132],
+        e: w[133],
+    }
+}
+
+fn not_run(m: Core) -> RawAnswer {
+    RawAnswer {
+        core: m,
+        refused: 98,
+        answer: 0,
+    }
+}
+
+// The call on the first n bytes of the store.
+fn call(w: [u32; 136], store: &mut [u8], log: &mut [u32], n: usize) -> RawAnswer {
+    let m = record::core_of(w);
+    let c = call_of(w);
+    if n <= store.len() {
+        return boundary::m68k_call(m, &mut store[0..n], log, c);
+    }
+    not_run(m)
+}
+
+fn size(n: u32) -> usize {
+    n as usize
+}
+
+// The call of a case.
+fn call_case(w: [u32; 136], store: &mut [u8; 512], log: &mut [u32; 192]) -> RawAnswer {
+    call(w, store, log, size(w[123]))
+}
+
+// The core and the answer that a call left, laid over the words of its case.
+fn put_answer(w: &mut [u32; 136], r: RawAnswer, cycles: u32) {
+    record::put_core(w, r.core, cycles);
+    w[125] = r.refused;
+    w[126] = r.answer;
+}
+
+// Whether the call leaves what was recorded.
+fn is_same(b: &[u8]) -> bool {
+    let mut w = [0u32; 136];
+    let mut store = [0u8; 512];
+    let p = list::words(b, 0, &mut w);
+    list::fill(&mut store, w[124]);
+    let q = list::bytes(b, p, &mut store);
+    let mut want = w;
+    let mut want_store = store;
+    let mut want_log = [0u32; 192];
+    let x = list::words(b, q, &mut want);
+    let y = list::bytes(b, x, &mut want_store);
+    let z = list::row(b, y, &mut want_log);
+    let mut log = [0u32; 192];
+    let r = call_case(w, &mut store, &mut log);
+    put_answer(&mut w, r, want[51]);
+    if z != b.len() {
+        return false;
+    }
+    if !same::same_case(&w, &want) {
+        return false;
+    }
+    if !same::same_log(&log, &want_log) {
+        return false;
+    }
+    same::same_store(&store, &want_store)
+}
+
+// What was replayed so far: cases, those that differ, and the number of the first that does, from 1.
+struct Tally {
+    cases: u64,
+    differ: u64,
+    first: u64,
+    more: bool,
+}
+
+fn counted(t: Tally, same: bool) -> Tally {
+    let cases = std::num::wrapping_add_u64(t.cases, 1);
+    let mut r = t;
+    r.cases = cases;
+    if same {
+        return r;
+    }
+    let differ = std::num::wrapping_add_u64(t.differ, 1);
+    r.differ = differ;
+    if t.differ == 0 {
+        r.first = cases;
+    }
+    r
+}
+
+fn ended(t: Tally) -> Tally {
+    let mut r = t;
+    r.more = false;
+    r
+}
+
+// The bytes of a case, if all are there.
+fn read_part(fd: i32, buffer: &mut [u8], n: usize) -> bool {
+    if n <= buffer.len() {
+        return io::read_full(fd, &mut buffer[0..n]) == n;
+    }
+    false
+}
+
+fn is_part_same(buffer: &[u8], n: usize) -> bool {
+    if n <= buffer.len() {
+        return is_same(&buffer[0..n]);
+    }
+    false
+}
+
+// One case: two bytes of length, and so many bytes. A case that is cut off counts as one that differs, and is the last.
+fn step(fd: i32, t: Tally) -> Tally {
+    let mut head = [0u8; 2];
+    let got = io::read_full(fd, &mut head);
+    if got == 0 {
+        return ended(t);
+    }
+    let n = list::word(&head, 0) as usize;
+    let mut buffer = [0u8; 4096];
+    if !read_part(fd, &mut buffer, n) {
+        let r = counted(t, false);
+        return ended(r);
+    }
+    let same = is_part_same(&buffer, n);
+    counted(t, same)
+}
+
+// The turns fall, from a number that no file uses up.
+fn replay(fd: i32) -> Tally {
+    let mut t = Tally {
+        cases: 0,
+        differ: 0,
+        first: 0,
+        more: true,
+    };
+    let mut turns = 4294967295u32;
+    while turns > 0 && t.more {
+        t = step(fd, t);
+        turns -= 1;
+    }
+    t
+}
+
+fn report(t: Tally) {
+    io::write_all(1, b"replayed ");
+    io::print_decimal(1, t.cases);
+    io::write_all(1, b" cases, ");
+    io::print_decimal(1, t.differ);
+    io::write_all(1, b" differences\n");
+    if t.differ != 0 {
+        io::write_all(1, b"the first: case ");
+        io::print_decimal(1, t.first);
+        io::write_all(1, b"\n");
+    }
+}
+
+fn main() {
+    let path = b"sample.bin";
+    let fd = os::open_read(path);
+    if fd < 0 {
+        os::fail(path);
+        return;
+    }
+    let t = replay(fd);
+    libc::close(fd);
+    report(t);
+}

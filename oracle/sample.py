@@ -1,0 +1,227 @@
+#!/usr/bin/env python3
+"""sample.py SEED COUNT OUT [ORACLE]: recorded answers of the oracle, for crates/replay.
+
+Takes accepted cases of `oracle gen SEED ..` whose store has at most 512 bytes and whose log has 192 words, spread evenly over
+the calls and the kinds, asks `oracle run` for each answer, and writes them to OUT (crates/replay/data/sample.bin), with how it was
+done in README.txt beside it. ORACLE is the binary, by default target/oracle/release/oracle. The same seed, count and oracle give the
+same bytes.
+
+A case is two bytes of length (high byte first) and so many bytes: numbers of one to five bytes. A byte below 251 is the number;
+251 stands for ffffffff; 252, 253 and 254 come before one, two and four bytes, high byte first. In this order:
+  words      pairs: the words of the case that are not 0
+  bytes      pairs: the bytes of the store that its patches lay over the filling
+  words      pairs: the words that the call changed, its answer and number of events among them
+  bytes      pairs: the bytes of the store that the call changed
+  log        the words of the events, three each
+Pairs are a count, and for each how far on its place is from the one before (the first: from 0) and its value; the log is a count and
+its words. The words' places are WORDS below and in crates/replay/src/record.rt.
+"""
+import collections
+import hashlib
+import os
+import subprocess
+import sys
+
+HERE = os.path.dirname(os.path.abspath(__file__))
+ROOT = os.path.dirname(HERE)
+STORE = 512
+LOG = 192
+CASE = 4096
+
+# The numbers of crates/boundary: those of the list of calls in the text format.
+CALLS = ['take_exception', 'trap', 'take_group2_exception', 'exception_chk', 'exception_zero_divide', 'exception_privilege',
+         'exception_trace', 'exception_address_error', 'exception_bus_error', 'take_fp_unimp_060', 'take_fp_disabled_060',
+         'take_aline_exception', 'take_fline_exception', 'take_trap_exception', 'take_bkpt_exception', 'take_illegal_exception',
+         'trigger_address_error', 'trigger_bus_error', 'check_trace', 'set_irq', 'check_interrupts', 'check_and_service_interrupts',
+         'read_16', 'read_32', 'write_16', 'write_32', 'push_16', 'push_32', 'prefetch_first', 'prefetch_second']
+
+# Fields of the record: name, place, and how many words.
+PLAIN = [('dar', 0, 16), ('dar_save', 16, 16), ('sp', 32, 8), ('ppc', 40, 1), ('pc', 41, 1), ('vbr', 42, 1), ('ir', 43, 1),
+         ('fpiar', 44, 1), ('run_mode', 46, 1), ('stopped', 47, 1), ('exception_processing', 48, 1), ('change_of_flow', 49, 1),
+         ('loop_mode', 50, 1), ('t1_flag', 52, 1), ('t0_flag', 53, 1), ('s_flag', 54, 1), ('m_flag', 55, 1), ('x_flag', 56, 1),
+         ('n_flag', 57, 1), ('not_z_flag', 58, 1), ('v_flag', 59, 1), ('c_flag', 60, 1), ('int_mask', 61, 1), ('int_level', 62, 1),
+         ('sr_save', 63, 1), ('prefetch_queue', 64, 2), ('prefetch_count', 66, 1), ('pending_sync_clocks', 67, 1),
+         ('precise_bus', 68, 1), ('pending_fault_cause', 73, 1), ('pending_fault_wdata', 76, 1)]
+# Options: a flag, then so many words, 0 where the flag is.
+OPTIONS = [('instruction_exception_vector', 69, 1), ('last_exception_vector', 71, 1), ('mmu_fc_override', 74, 1),
+           ('fault_resume', 77, 18)]
+KIND, CYCLES = 45, 51
+BASE, WINDOWS, STARTS, LENGTHS, RESPONSES, EVENTS, LENGTH, FILL = 96, 97, 98, 106, 114, 122, 123, 124
+REFUSED, ANSWER, NUMBER, ARGUMENTS = 125, 126, 128, 129
+WORDS = 136
+
+
+def fields(line):
+    return dict(pair.split('=', 1) for pair in line.split())
+
+
+def items(value):
+    return [] if value == '-' else value.split(',')
+
+
+def put_record(words, f):
+    """Lays the fields of the record that f has over the words."""
+    for name, at, n in PLAIN:
+        if name in f:
+            values = [int(x, 16) for x in f[name].split('.')]
+            if len(values) != n:
+                raise SystemExit('sample.py: %s has %d values' % (name, len(values)))
+            words[at:at + n] = values
+    for name, at, n in OPTIONS:
+        if name in f:
+            values = [0] * (n + 1)
+            if f[name] != '-':
+                values = [1] + [int(x, 16) for x in f[name].split('.')]
+            if len(values) != n + 1:
+                raise SystemExit('sample.py: %s has %d values' % (name, len(values)))
+            words[at:at + n + 1] = values
+    if 'cycles_remaining' in f:
+        words[CYCLES] = int(f['cycles_remaining']) % 2**32
+
+
+def start_words(f):
+    words = [0] * WORDS
+    put_record(words, f)
+    words[KIND] = int(f['kind'])
+    words[BASE] = int(f['base'], 16)
+    windows = [w.split(':') for w in items(f['win'])]
+    words[WINDOWS] = len(windows)
+    for i, (start, length) in enumerate(windows):
+        words[STARTS + i] = int(start, 16)
+        words[LENGTHS + i] = int(length, 16)
+    words[RESPONSES:RESPONSES + 8] = [int(x, 16) for x in f['ack'].split('.')]
+    words[LENGTH] = int(f['len'])
+    words[FILL] = int(f['fill'], 16)
+    call = f['call'].split(':')
+    words[NUMBER] = CALLS.index(call[0]) + 1
+    for i, x in enumerate(call[1:]):
+        words[ARGUMENTS + i] = int(x, 16)
+    return words
+
+
+def filling(f):
+    fill = int(f['fill'], 16)
+    n = int(f['len'])
+    store = bytearray(STORE)
+    for i in range(STORE):
+        if fill:
+            store[i] = ((i * 31 + fill) ^ (i >> 8)) & 0xFF
+    return store, n
+
+
+def lay(store, n, text):
+    for run in items(text):
+        at, data = run.split(':')
+        data = bytes.fromhex(data)
+        at = int(at, 16)
+        for i, b in enumerate(data):
+            if at + i < n:
+                store[at + i] = b
+
+
+def number(n):
+    if n < 251:
+        return bytes([n])
+    if n == 0xFFFFFFFF:
+        return b'\xfb'
+    if n < 256:
+        return bytes([252, n])
+    if n < 65536:
+        return b'\xfd' + n.to_bytes(2, 'big')
+    return b'\xfe' + n.to_bytes(4, 'big')
+
+
+def pairs(old, new):
+    out = b''
+    last = 0
+    count = 0
+    for i, (a, b) in enumerate(zip(old, new)):
+        if a != b:
+            out += number(i - last) + number(b)
+            last = i
+            count += 1
+    return number(count) + out
+
+
+def encode(f, o):
+    words = start_words(f)
+    filled, n = filling(f)
+    store = bytearray(filled)
+    lay(store, n, f['patch'])
+    after = list(words)
+    put_record(after, o)
+    after[EVENTS] = int(o['nev'])
+    after[REFUSED] = int(o['refused'])
+    after[ANSWER] = int(o['ans']) % 2**32
+    changed = bytearray(store)
+    lay(changed, n, o['chg'])
+    log = [int(x, 16) for e in items(o['ev']) for x in e.split(':')]
+    if len(log) != 3 * after[EVENTS] or len(log) > LOG:
+        raise SystemExit('sample.py: %d log words of %d events' % (len(log), after[EVENTS]))
+    case = pairs([0] * WORDS, words) + pairs(filled, store) + pairs(words, after) + pairs(store, changed)
+    case += number(len(log)) + b''.join(number(x) for x in log)
+    return case
+
+
+def wanted(f, o):
+    return (o['refused'] == '0' and f['call'].split(':')[0] in CALLS and int(f['kind']) < 12 and int(f['len']) <= STORE
+            and int(f['log']) == LOG)
+
+
+def run(oracle, words, text=None):
+    env = {k: v for k, v in os.environ.items() if k != 'M68K_DIAG_ADDRESS_ERROR'}
+    return subprocess.run([oracle] + words, input=text, capture_output=True, text=True, check=True, env=env).stdout.splitlines()
+
+
+def main():
+    if len(sys.argv) not in (4, 5):
+        raise SystemExit('usage: sample.py SEED COUNT OUT [ORACLE]')
+    seed, count, out = sys.argv[1], int(sys.argv[2]), sys.argv[3]
+    oracle = sys.argv[4] if len(sys.argv) == 5 else os.path.join(ROOT, 'target/oracle/release/oracle')
+    made = count * 40
+    cells = collections.defaultdict(list)
+    for line in run(oracle, ['gen', seed, str(made)]):
+        given, answer = line.split(' => ')
+        f = fields(given)
+        if wanted(f, fields(answer)):
+            cells[(f['call'].split(':')[0], int(f['kind']))].append(given)
+    # Turn by turn one case of each call and kind that has one left.
+    chosen = []
+    turn = 0
+    keys = sorted(cells, key=lambda k: (CALLS.index(k[0]), k[1]))
+    while len(chosen) < count:
+        some = [(k, cells[k][turn]) for k in keys if turn < len(cells[k])]
+        if not some:
+            raise SystemExit('sample.py: only %d cases in %d' % (len(chosen), made))
+        chosen += some
+        turn += 1
+    chosen = chosen[:count]
+    answers = run(oracle, ['run'], '\n'.join(given for _, given in chosen) + '\n')
+    data = bytearray()
+    by_call = collections.Counter()
+    by_kind = collections.Counter()
+    for (key, given), answer in zip(chosen, answers, strict=True):
+        case = encode(fields(given), fields(answer))
+        if len(case) > CASE:
+            raise SystemExit('sample.py: a case of %d bytes: %s' % (len(case), given))
+        data += len(case).to_bytes(2, 'big') + case
+        by_call[key[0]] += 1
+        by_kind[key[1]] += 1
+    with open(out, 'wb') as file:
+        file.write(data)
+    with open(os.path.join(HERE, 'LIFTED.txt'), 'rb') as file:
+        lifted = hashlib.sha256(file.read()).hexdigest()
+    lines = ['sample.bin: %d recorded answers of the oracle, %d bytes. The format is at the head of oracle/sample.py.' % (count, len(data)),
+             'Made by: oracle/sample.py %s %d %s' % (seed, count, os.path.relpath(os.path.abspath(out), ROOT)),
+             'from the accepted cases of `oracle gen %s %d` with a store of at most %d bytes, answered by `oracle run`.' % (seed, made, STORE),
+             'SHA-256 of sample.bin: ' + hashlib.sha256(data).hexdigest(),
+             'SHA-256 of oracle/LIFTED.txt (what the oracle runs): ' + lifted,
+             '', 'Cases by call:'] + ['  %-30s %d' % (c, by_call[c]) for c in CALLS if by_call[c]]
+    lines += ['Cases by kind:'] + ['  %-30d %d' % (k, by_kind[k]) for k in sorted(by_kind)]
+    with open(os.path.join(os.path.dirname(os.path.abspath(out)), 'README.txt'), 'w') as file:
+        file.write('\n'.join(lines) + '\n')
+    print('%d cases, %d bytes; cells filled: %d' % (count, len(data), len(keys)))
+
+
+if __name__ == '__main__':
+    main()
