@@ -29,7 +29,7 @@ fn plus(at: usize, n: usize) -> usize {
 }
 
 // Two bytes, the high one first.
-pub fn word(b: &[u8], at: usize) -> u32
+pub(crate) fn word(b: &[u8], at: usize) -> u32
     ensures { λ r. ⌜ r < 65536 ⌝ }
 {
     byte(b, at) * 256 + byte(b, plus(at, 1))
@@ -40,7 +40,7 @@ fn long(b: &[u8], at: usize) -> u32 {
 }
 
 // A byte below 251 is the number itself; 251 stands for all ones; 252, 253 and 254 come before one, two and four bytes.
-pub fn number(b: &[u8], at: usize) -> Taken {
+pub(crate) fn number(b: &[u8], at: usize) -> Taken {
     let first = byte(b, at);
     let from = plus(at, 1);
     if first < 251 {
@@ -88,7 +88,7 @@ fn set_byte(s: &mut [u8], i: u32, v: u32) {
 }
 
 // A count, then so many pairs: how far on from the last place, and the word there.
-pub fn words(b: &[u8], at: usize, w: &mut [u32; 136]) -> usize {
+pub(crate) fn words(b: &[u8], at: usize, w: &mut [u32; 136]) -> usize {
     let n = number(b, at);
     let count = n.value;
     let mut p = n.next;
@@ -106,7 +106,7 @@ pub fn words(b: &[u8], at: usize, w: &mut [u32; 136]) -> usize {
 }
 
 // The same of bytes.
-pub fn bytes(b: &[u8], at: usize, s: &mut [u8; 512]) -> usize {
+pub(crate) fn bytes(b: &[u8], at: usize, s: &mut [u8; 512]) -> usize {
     let n = number(b, at);
     let count = n.value;
     let mut p = n.next;
@@ -124,7 +124,7 @@ pub fn bytes(b: &[u8], at: usize, s: &mut [u8; 512]) -> usize {
 }
 
 // A count, then so many words, from the first place on.
-pub fn row(b: &[u8], at: usize, w: &mut [u32; 192]) -> usize {
+pub(crate) fn row(b: &[u8], at: usize, w: &mut [u32; 192]) -> usize {
     let n = number(b, at);
     let count = n.value;
     let mut p = n.next;
@@ -147,7 +147,7 @@ fn filler(i: u32, fill: u32) -> u32 {
     n ^ (i / 256)
 }
 
-pub fn fill(s: &mut [u8; 512], fill: u32) {
+pub(crate) fn fill(s: &mut [u8; 512], fill: u32) {
     let mut i: u32 = 0;
     while i < 512 {
         set_byte(s, i, filler(i, fill));

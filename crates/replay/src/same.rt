@@ -27,14 +27,14 @@ fn same_bytes(a: &[u8], b: &[u8]) -> bool {
     true
 }
 
-pub fn same_case(a: &[u32; 136], b: &[u32; 136]) -> bool {
+pub(crate) fn same_case(a: &[u32; 136], b: &[u32; 136]) -> bool {
     same_words(a, b)
 }
 
-pub fn same_log(a: &[u32; 192], b: &[u32; 192]) -> bool {
+pub(crate) fn same_log(a: &[u32; 192], b: &[u32; 192]) -> bool {
     same_words(a, b)
 }
 
-pub fn same_store(a: &[u8; 512], b: &[u8; 512]) -> bool {
+pub(crate) fn same_store(a: &[u8; 512], b: &[u8; 512]) -> bool {
     same_bytes(a, b)
 }
