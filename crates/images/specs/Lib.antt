@@ -1,0 +1,6 @@
+pub mod Pushes
+pub mod Images
+pub mod Lengths
+pub mod Jumps
+pub mod Examples
+pub mod Values
