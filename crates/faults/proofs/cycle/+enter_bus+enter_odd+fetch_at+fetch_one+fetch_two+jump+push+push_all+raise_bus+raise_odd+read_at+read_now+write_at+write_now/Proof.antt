@@ -2,7 +2,7 @@ use mathlib.Core.Path.{_≡_, refl, _∙_}
 use native.Mathlib.Omega.{arith}
 use borrow.Author.Needs.{needs}
 use Prim.Native.Nat.{_+_, _*_}
-use Rattle.faults.proofs.Ways.{enter-bus-way, enter-odd-way, fetch-at-way, fetch-at-way-2, fetch-one-way, fetch-one-way-2, fetch-one-way-3, fetch-one-way-4, fetch-two-way, fetch-two-way-2, fetch-two-way-3, fetch-two-way-4, fetch-two-way-5, fetch-two-way-6, jump-way, push-way, push-way-2, push-way-3, push-all-way, push-all-way-2, raise-bus-way, raise-bus-way-2, raise-bus-way-3, raise-bus-way-4, raise-odd-way, raise-odd-way-2, raise-odd-way-3, read-at-way, read-at-way-2, read-now-way, read-now-way-2, read-now-way-3, write-at-way, write-at-way-2, write-now-way, write-now-way-2, write-now-way-3}
+use Rattle.faults.proofs.Ways.{enter-bus-whole, enter-odd-whole, fetch-at-served, fetch-at-unserved, fetch-one-odd-pc, fetch-one-served, fetch-one-unserved, fetch-one-off, fetch-two-odd-pc, fetch-two-faulted, fetch-two-served, fetch-two-unserved, fetch-two-not-one, fetch-two-off, jump-whole, push-counted, push-raw, push-guarded, push-all-none, push-all-more, raise-bus-faulted, raise-bus-under-way, raise-bus-without-level, raise-bus-enters, raise-odd-faulted, raise-odd-without-level, raise-odd-enters, read-at-faulted, read-at-unfaulted, read-now-odd, read-now-served, read-now-unserved, write-at-faulted, write-at-unfaulted, write-now-odd, write-now-served, write-now-unserved}
 use Prim.Native.Nat.{ℕ, _<_}
 use borrow.Fn.Kinds.{In}
 use borrow.Fn.PlainCycle.{Measures, is, falls, and}
@@ -265,7 +265,7 @@ enter-bus-same-length-2 t c = c .before .before .before .before .jump .kept .1 .
 
 -- src/cycle.rt:76:1
 enter-bus-returns : (t : ℕ) → enter-bus-lts.Need-returns (enter-bus-claims t) (enter-bus-at t) enter-bus.Post
-enter-bus-returns t c = enter-bus-way _ _ _ _ _ _ _ _ _ _ _ _ _ _ _ _ _ _ (c .before .before .before .before .before .before .before .before .before .before .before .before .before .before .before .before .bus-frame .ensures) (c .before .before .before .before .before .before .before .before .before .before .before .before .before .before .before .bus-error-state .ensures) (c .before .before .before .before .before .before .before .before .before .before .before .before .before .before .count .ensures .0) (c .before .before .before .before .before .before .before .before .before .before .before .push-all .ensures) (c .before .before .before .before .jump .ensures)
+enter-bus-returns t c = enter-bus-whole _ _ _ _ _ _ _ _ _ _ _ _ _ _ _ _ _ _ (c .before .before .before .before .before .before .before .before .before .before .before .before .before .before .before .before .bus-frame .ensures) (c .before .before .before .before .before .before .before .before .before .before .before .before .before .before .before .bus-error-state .ensures) (c .before .before .before .before .before .before .before .before .before .before .before .before .before .before .count .ensures .0) (c .before .before .before .before .before .before .before .before .before .before .before .push-all .ensures) (c .before .before .before .before .jump .ensures)
 
 -- ---- enter-odd
 abbrev enter-odd-claims : ℕ → enter-odd-lts.Claims
@@ -301,7 +301,7 @@ enter-odd-same-length-2 t c = c .before .before .before .before .jump .kept .1 .
 
 -- src/cycle.rt:97:1
 enter-odd-returns : (t : ℕ) → enter-odd-lts.Need-returns (enter-odd-claims t) (enter-odd-at t) enter-odd.Post
-enter-odd-returns t c = enter-odd-way _ _ _ _ _ _ _ _ _ _ _ _ _ _ _ _ (c .before .before .before .before .before .before .before .before .before .before .before .before .before .before .before .before .address-frame .ensures) (c .before .before .before .before .before .before .before .before .before .before .before .before .before .before .before .supervisor .ensures) (c .before .before .before .before .before .before .before .before .before .before .before .before .before .before .count .ensures .0) (c .before .before .before .before .before .before .before .before .before .before .before .push-all .ensures) (c .before .before .before .before .jump .ensures)
+enter-odd-returns t c = enter-odd-whole _ _ _ _ _ _ _ _ _ _ _ _ _ _ _ _ (c .before .before .before .before .before .before .before .before .before .before .before .before .before .before .before .before .address-frame .ensures) (c .before .before .before .before .before .before .before .before .before .before .before .before .before .before .before .supervisor .ensures) (c .before .before .before .before .before .before .before .before .before .before .before .before .before .before .count .ensures .0) (c .before .before .before .before .before .before .before .before .before .before .before .push-all .ensures) (c .before .before .before .before .jump .ensures)
 
 -- ---- fetch-at
 abbrev fetch-at-claims : ℕ → fetch-at-lts.Claims
@@ -329,7 +329,7 @@ fetch-at-same-length-2 t c = c .before .before .before .before .before .try-read
 
 -- src/cycle.rt:268:9
 fetch-at-returns : (t : ℕ) → fetch-at-lts.Need-returns (fetch-at-claims t) (fetch-at-at t) fetch-at.Post
-fetch-at-returns t c = fetch-at-way _ _ _ _ _ _ _ _ _ _ _ _ (c .before .before .before .before .before .before .before .before .before .before .before .before .before .flush-sync .ensures) (c .before .before .before .before .before .before .before .before .masked .ensures) (c .before .before .before .before .before .try-read .ensures) (c .if1 .taken)
+fetch-at-returns t c = fetch-at-served _ _ _ _ _ _ _ _ _ _ _ _ (c .before .before .before .before .before .before .before .before .before .before .before .before .before .flush-sync .ensures) (c .before .before .before .before .before .before .before .before .masked .ensures) (c .before .before .before .before .before .try-read .ensures) (c .if1 .taken)
 
 -- src/cycle.rt:271:9
 fetch-at-raise-bus-requires : (t : ℕ) → fetch-at-lts.Need-raise-bus-requires (fetch-at-claims t) (fetch-at-at t) fetch-at.Post
@@ -345,7 +345,7 @@ fetch-at-same-length-4 t c = c .before .before .before .before .raise-bus .kept 
 
 -- src/cycle.rt:261:1
 fetch-at-returns-2 : (t : ℕ) → fetch-at-lts.Need-returns-2 (fetch-at-claims t) (fetch-at-at t) fetch-at.Post
-fetch-at-returns-2 t c = fetch-at-way-2 _ _ _ _ _ _ _ _ _ _ _ _ _ _ _ (c .before .before .before .before .before .before .before .before .before .before .before .before .before .before .before .before .before .before .before .before .before .flush-sync .ensures) (c .before .before .before .before .before .before .before .before .before .before .before .before .before .before .before .before .masked .ensures) (c .before .before .before .before .before .before .before .before .before .before .before .before .before .try-read .ensures) (c .before .before .before .before .before .before .before .before .if1 .left) (c .before .before .before .before .raise-bus .ensures)
+fetch-at-returns-2 t c = fetch-at-unserved _ _ _ _ _ _ _ _ _ _ _ _ _ _ _ (c .before .before .before .before .before .before .before .before .before .before .before .before .before .before .before .before .before .before .before .before .before .flush-sync .ensures) (c .before .before .before .before .before .before .before .before .before .before .before .before .before .before .before .before .masked .ensures) (c .before .before .before .before .before .before .before .before .before .before .before .before .before .try-read .ensures) (c .before .before .before .before .before .before .before .before .if1 .left) (c .before .before .before .before .raise-bus .ensures)
 
 -- ---- fetch-one
 abbrev fetch-one-claims : ℕ → fetch-one-lts.Claims
@@ -365,7 +365,7 @@ fetch-one-odd-pc-requires t c κs = tt
 
 -- src/cycle.rt:286:13
 fetch-one-returns : (t : ℕ) → fetch-one-lts.Need-returns (fetch-one-claims t) (fetch-one-at t) fetch-one.Post
-fetch-one-returns t c = fetch-one-way _ _ _ _ _ _ _ (c .before .before .before .before .fetches .ensures) (c .before .before .before .if1 .taken) (c .before .before .drop-queue .ensures) (c .before .odd-pc .ensures) (c .if2 .taken)
+fetch-one-returns t c = fetch-one-odd-pc _ _ _ _ _ _ _ (c .before .before .before .before .fetches .ensures) (c .before .before .before .if1 .taken) (c .before .before .drop-queue .ensures) (c .before .odd-pc .ensures) (c .if2 .taken)
 
 -- src/cycle.rt:288:13
 fetch-one-pc-requires : (t : ℕ) → fetch-one-lts.Need-pc-requires (fetch-one-claims t) (fetch-one-at t) fetch-one.Post
@@ -389,7 +389,7 @@ fetch-one-same-length-2 t c = c .before .before .before .before .before .before 
 
 -- src/cycle.rt:292:13
 fetch-one-returns-2 : (t : ℕ) → fetch-one-lts.Need-returns-2 (fetch-one-claims t) (fetch-one-at t) fetch-one.Post
-fetch-one-returns-2 t c = fetch-one-way-2 _ _ _ _ _ _ _ _ _ _ _ _ (c .before .before .before .before .before .before .before .before .before .before .before .before .before .before .before .fetches .ensures) (c .before .before .before .before .before .before .before .before .before .before .before .before .before .before .if1 .taken) (c .before .before .before .before .before .before .before .before .before .before .before .before .before .drop-queue .ensures) (c .before .before .before .before .before .before .before .before .before .before .before .before .odd-pc .ensures) (c .before .before .before .before .before .before .before .before .before .before .before .if2 .left) (c .before .before .before .before .before .before .before .before .before .before .pc .ensures) (c .before .before .before .before .before .before .before .fetch-at .ensures) (c .before .if3 .taken) (c .first-word .ensures)
+fetch-one-returns-2 t c = fetch-one-served _ _ _ _ _ _ _ _ _ _ _ _ (c .before .before .before .before .before .before .before .before .before .before .before .before .before .before .before .fetches .ensures) (c .before .before .before .before .before .before .before .before .before .before .before .before .before .before .if1 .taken) (c .before .before .before .before .before .before .before .before .before .before .before .before .before .drop-queue .ensures) (c .before .before .before .before .before .before .before .before .before .before .before .before .odd-pc .ensures) (c .before .before .before .before .before .before .before .before .before .before .before .if2 .left) (c .before .before .before .before .before .before .before .before .before .before .pc .ensures) (c .before .before .before .before .before .before .before .fetch-at .ensures) (c .before .if3 .taken) (c .first-word .ensures)
 
 -- src/cycle.rt:294:9
 fetch-one-same-length-3 : (t : ℕ) → fetch-one-lts.Need-same-length-3 (fetch-one-claims t) (fetch-one-at t) fetch-one.Post
@@ -401,11 +401,11 @@ fetch-one-same-length-4 t c = c .before .before .before .before .before .before 
 
 -- src/cycle.rt:294:9
 fetch-one-returns-3 : (t : ℕ) → fetch-one-lts.Need-returns-3 (fetch-one-claims t) (fetch-one-at t) fetch-one.Post
-fetch-one-returns-3 t c = fetch-one-way-3 _ _ _ _ _ _ _ _ _ _ _ (c .before .before .before .before .before .before .before .before .before .before .before .before .before .before .fetches .ensures) (c .before .before .before .before .before .before .before .before .before .before .before .before .before .if1 .taken) (c .before .before .before .before .before .before .before .before .before .before .before .before .drop-queue .ensures) (c .before .before .before .before .before .before .before .before .before .before .before .odd-pc .ensures) (c .before .before .before .before .before .before .before .before .before .before .if2 .left) (c .before .before .before .before .before .before .before .before .before .pc .ensures) (c .before .before .before .before .before .before .fetch-at .ensures) (c .if3 .left)
+fetch-one-returns-3 t c = fetch-one-unserved _ _ _ _ _ _ _ _ _ _ _ (c .before .before .before .before .before .before .before .before .before .before .before .before .before .before .fetches .ensures) (c .before .before .before .before .before .before .before .before .before .before .before .before .before .if1 .taken) (c .before .before .before .before .before .before .before .before .before .before .before .before .drop-queue .ensures) (c .before .before .before .before .before .before .before .before .before .before .before .odd-pc .ensures) (c .before .before .before .before .before .before .before .before .before .before .if2 .left) (c .before .before .before .before .before .before .before .before .before .pc .ensures) (c .before .before .before .before .before .before .fetch-at .ensures) (c .if3 .left)
 
 -- src/cycle.rt:280:1
 fetch-one-returns-4 : (t : ℕ) → fetch-one-lts.Need-returns-4 (fetch-one-claims t) (fetch-one-at t) fetch-one.Post
-fetch-one-returns-4 t c = fetch-one-way-4 _ _ _ _ _ (c .before .fetches .ensures) (c .if1 .left)
+fetch-one-returns-4 t c = fetch-one-off _ _ _ _ _ (c .before .fetches .ensures) (c .if1 .left)
 
 -- ---- fetch-two
 abbrev fetch-two-claims : ℕ → fetch-two-lts.Claims
@@ -425,7 +425,7 @@ fetch-two-odd-pc-requires t c κs = tt
 
 -- src/cycle.rt:306:17
 fetch-two-returns : (t : ℕ) → fetch-two-lts.Need-returns (fetch-two-claims t) (fetch-two-at t) fetch-two.Post
-fetch-two-returns t c = fetch-two-way _ _ _ _ _ _ _ (c .before .before .before .before .before .fetches .ensures) (c .before .before .before .before .if1 .taken) (c .before .before .before .one-fetched .ensures) (c .before .before .if2 .taken) (c .before .odd-pc .ensures) (c .if3 .taken)
+fetch-two-returns t c = fetch-two-odd-pc _ _ _ _ _ _ _ (c .before .before .before .before .before .fetches .ensures) (c .before .before .before .before .if1 .taken) (c .before .before .before .one-fetched .ensures) (c .before .before .if2 .taken) (c .before .odd-pc .ensures) (c .if3 .taken)
 
 -- src/cycle.rt:308:16
 fetch-two-is-faulted-requires : (t : ℕ) → fetch-two-lts.Need-is-faulted-requires (fetch-two-claims t) (fetch-two-at t) fetch-two.Post
@@ -433,7 +433,7 @@ fetch-two-is-faulted-requires t c κs = tt
 
 -- src/cycle.rt:309:17
 fetch-two-returns-2 : (t : ℕ) → fetch-two-lts.Need-returns-2 (fetch-two-claims t) (fetch-two-at t) fetch-two.Post
-fetch-two-returns-2 t c = fetch-two-way-2 _ _ _ _ _ _ _ _ (c .before .before .before .before .before .before .before .fetches .ensures) (c .before .before .before .before .before .before .if1 .taken) (c .before .before .before .before .before .one-fetched .ensures) (c .before .before .before .before .if2 .taken) (c .before .before .before .odd-pc .ensures) (c .before .before .if3 .left) (c .before .is-faulted .ensures) (c .if4 .taken)
+fetch-two-returns-2 t c = fetch-two-faulted _ _ _ _ _ _ _ _ (c .before .before .before .before .before .before .before .fetches .ensures) (c .before .before .before .before .before .before .if1 .taken) (c .before .before .before .before .before .one-fetched .ensures) (c .before .before .before .before .if2 .taken) (c .before .before .before .odd-pc .ensures) (c .before .before .if3 .left) (c .before .is-faulted .ensures) (c .if4 .taken)
 
 -- src/cycle.rt:311:48
 fetch-two-pc-requires : (t : ℕ) → fetch-two-lts.Need-pc-requires (fetch-two-claims t) (fetch-two-at t) fetch-two.Post
@@ -461,7 +461,7 @@ fetch-two-same-length-2 t c = c .before .before .before .before .before .before 
 
 -- src/cycle.rt:315:17
 fetch-two-returns-3 : (t : ℕ) → fetch-two-lts.Need-returns-3 (fetch-two-claims t) (fetch-two-at t) fetch-two.Post
-fetch-two-returns-3 t c = fetch-two-way-3 _ _ _ _ _ _ _ _ _ _ _ _ _ _ (c .before .before .before .before .before .before .before .before .before .before .before .before .before .before .before .before .before .before .before .fetches .ensures) (c .before .before .before .before .before .before .before .before .before .before .before .before .before .before .before .before .before .before .if1 .taken) (c .before .before .before .before .before .before .before .before .before .before .before .before .before .before .before .before .before .one-fetched .ensures) (c .before .before .before .before .before .before .before .before .before .before .before .before .before .before .before .before .if2 .taken) (c .before .before .before .before .before .before .before .before .before .before .before .before .before .before .before .odd-pc .ensures) (c .before .before .before .before .before .before .before .before .before .before .before .before .before .before .if3 .left) (c .before .before .before .before .before .before .before .before .before .before .before .before .before .is-faulted .ensures) (c .before .before .before .before .before .before .before .before .before .before .before .before .if4 .left) (c .before .before .before .before .before .before .before .before .before .before .before .pc .ensures) (c .before .before .before .before .before .before .before .before .before .before .wrapping-add-u32 .ensures) (c .before .before .before .before .before .before .before .fetch-at .ensures) (c .before .if5 .taken) (c .second-word .ensures)
+fetch-two-returns-3 t c = fetch-two-served _ _ _ _ _ _ _ _ _ _ _ _ _ _ (c .before .before .before .before .before .before .before .before .before .before .before .before .before .before .before .before .before .before .before .fetches .ensures) (c .before .before .before .before .before .before .before .before .before .before .before .before .before .before .before .before .before .before .if1 .taken) (c .before .before .before .before .before .before .before .before .before .before .before .before .before .before .before .before .before .one-fetched .ensures) (c .before .before .before .before .before .before .before .before .before .before .before .before .before .before .before .before .if2 .taken) (c .before .before .before .before .before .before .before .before .before .before .before .before .before .before .before .odd-pc .ensures) (c .before .before .before .before .before .before .before .before .before .before .before .before .before .before .if3 .left) (c .before .before .before .before .before .before .before .before .before .before .before .before .before .is-faulted .ensures) (c .before .before .before .before .before .before .before .before .before .before .before .before .if4 .left) (c .before .before .before .before .before .before .before .before .before .before .before .pc .ensures) (c .before .before .before .before .before .before .before .before .before .before .wrapping-add-u32 .ensures) (c .before .before .before .before .before .before .before .fetch-at .ensures) (c .before .if5 .taken) (c .second-word .ensures)
 
 -- src/cycle.rt:317:13
 fetch-two-same-length-3 : (t : ℕ) → fetch-two-lts.Need-same-length-3 (fetch-two-claims t) (fetch-two-at t) fetch-two.Post
@@ -473,15 +473,15 @@ fetch-two-same-length-4 t c = c .before .before .before .before .before .before 
 
 -- src/cycle.rt:317:13
 fetch-two-returns-4 : (t : ℕ) → fetch-two-lts.Need-returns-4 (fetch-two-claims t) (fetch-two-at t) fetch-two.Post
-fetch-two-returns-4 t c = fetch-two-way-4 _ _ _ _ _ _ _ _ _ _ _ _ _ (c .before .before .before .before .before .before .before .before .before .before .before .before .before .before .before .before .before .before .fetches .ensures) (c .before .before .before .before .before .before .before .before .before .before .before .before .before .before .before .before .before .if1 .taken) (c .before .before .before .before .before .before .before .before .before .before .before .before .before .before .before .before .one-fetched .ensures) (c .before .before .before .before .before .before .before .before .before .before .before .before .before .before .before .if2 .taken) (c .before .before .before .before .before .before .before .before .before .before .before .before .before .before .odd-pc .ensures) (c .before .before .before .before .before .before .before .before .before .before .before .before .before .if3 .left) (c .before .before .before .before .before .before .before .before .before .before .before .before .is-faulted .ensures) (c .before .before .before .before .before .before .before .before .before .before .before .if4 .left) (c .before .before .before .before .before .before .before .before .before .before .pc .ensures) (c .before .before .before .before .before .before .before .before .before .wrapping-add-u32 .ensures) (c .before .before .before .before .before .before .fetch-at .ensures) (c .if5 .left)
+fetch-two-returns-4 t c = fetch-two-unserved _ _ _ _ _ _ _ _ _ _ _ _ _ (c .before .before .before .before .before .before .before .before .before .before .before .before .before .before .before .before .before .before .fetches .ensures) (c .before .before .before .before .before .before .before .before .before .before .before .before .before .before .before .before .before .if1 .taken) (c .before .before .before .before .before .before .before .before .before .before .before .before .before .before .before .before .one-fetched .ensures) (c .before .before .before .before .before .before .before .before .before .before .before .before .before .before .before .if2 .taken) (c .before .before .before .before .before .before .before .before .before .before .before .before .before .before .odd-pc .ensures) (c .before .before .before .before .before .before .before .before .before .before .before .before .before .if3 .left) (c .before .before .before .before .before .before .before .before .before .before .before .before .is-faulted .ensures) (c .before .before .before .before .before .before .before .before .before .before .before .if4 .left) (c .before .before .before .before .before .before .before .before .before .before .pc .ensures) (c .before .before .before .before .before .before .before .before .before .wrapping-add-u32 .ensures) (c .before .before .before .before .before .before .fetch-at .ensures) (c .if5 .left)
 
 -- src/cycle.rt:319:9
 fetch-two-returns-5 : (t : ℕ) → fetch-two-lts.Need-returns-5 (fetch-two-claims t) (fetch-two-at t) fetch-two.Post
-fetch-two-returns-5 t c = fetch-two-way-5 _ _ _ _ _ _ (c .before .before .before .fetches .ensures) (c .before .before .if1 .taken) (c .before .one-fetched .ensures) (c .if2 .left)
+fetch-two-returns-5 t c = fetch-two-not-one _ _ _ _ _ _ (c .before .before .before .fetches .ensures) (c .before .before .if1 .taken) (c .before .one-fetched .ensures) (c .if2 .left)
 
 -- src/cycle.rt:300:1
 fetch-two-returns-6 : (t : ℕ) → fetch-two-lts.Need-returns-6 (fetch-two-claims t) (fetch-two-at t) fetch-two.Post
-fetch-two-returns-6 t c = fetch-two-way-6 _ _ _ _ _ (c .before .fetches .ensures) (c .if1 .left)
+fetch-two-returns-6 t c = fetch-two-off _ _ _ _ _ (c .before .fetches .ensures) (c .if1 .left)
 
 -- ---- jump
 abbrev jump-claims : ℕ → jump-lts.Claims
@@ -529,7 +529,7 @@ jump-same-length-2 t c = c .before .before .before .before .fetch-two .kept .1 .
 
 -- src/cycle.rt:246:1
 jump-returns : (t : ℕ) → jump-lts.Need-returns (jump-claims t) (jump-at t) jump.Post
-jump-returns t c = jump-way _ _ _ _ _ _ _ _ _ _ _ _ _ _ _ _ _ _ _ _ _ (c .before .before .before .before .before .before .before .before .before .before .before .before .before .before .before .before .before .before .before .before .before .before .before .before .before .before .before .before .before .before .release-sample .ensures) (c .before .before .before .before .before .before .before .before .before .before .before .before .before .before .before .before .before .before .before .before .before .before .before .before .before .vector-address .ensures) (c .before .before .before .before .before .before .before .before .before .before .before .before .before .before .before .before .before .before .before .before .before .before .before .before .start-vector .ensures) (c .before .before .before .before .before .before .before .before .before .before .before .before .before .before .before .before .before .before .before .before .before .read-at .ensures) (c .before .before .before .before .before .before .before .before .before .before .before .before .before .before .before .with-pc .ensures) (c .before .before .before .before .before .before .before .before .before .before .before .before .fetch-one .ensures) (c .before .before .before .before .before .before .before .internal-cycles .ensures) (c .before .before .before .before .fetch-two .ensures)
+jump-returns t c = jump-whole _ _ _ _ _ _ _ _ _ _ _ _ _ _ _ _ _ _ _ _ _ (c .before .before .before .before .before .before .before .before .before .before .before .before .before .before .before .before .before .before .before .before .before .before .before .before .before .before .before .before .before .before .release-sample .ensures) (c .before .before .before .before .before .before .before .before .before .before .before .before .before .before .before .before .before .before .before .before .before .before .before .before .before .vector-address .ensures) (c .before .before .before .before .before .before .before .before .before .before .before .before .before .before .before .before .before .before .before .before .before .before .before .before .start-vector .ensures) (c .before .before .before .before .before .before .before .before .before .before .before .before .before .before .before .before .before .before .before .before .before .read-at .ensures) (c .before .before .before .before .before .before .before .before .before .before .before .before .before .before .before .with-pc .ensures) (c .before .before .before .before .before .before .before .before .before .before .before .before .fetch-one .ensures) (c .before .before .before .before .before .before .before .internal-cycles .ensures) (c .before .before .before .before .fetch-two .ensures)
 
 -- ---- push
 abbrev push-claims : ℕ → push-lts.Claims
@@ -549,7 +549,7 @@ push-is-counted-requires t c κs = tt
 
 -- src/cycle.rt:134:9
 push-returns : (t : ℕ) → push-lts.Need-returns (push-claims t) (push-at t) push.Post
-push-returns t c = push-way _ _ _ _ _ _ _ _ (c .before .before .before .width .ensures) (c .before .before .lower .ensures) (c .before .is-counted .ensures) (c .if1 .taken)
+push-returns t c = push-counted _ _ _ _ _ _ _ _ (c .before .before .before .width .ensures) (c .before .before .lower .ensures) (c .before .is-counted .ensures) (c .if1 .taken)
 
 -- src/cycle.rt:136:9
 push-top-requires : (t : ℕ) → push-lts.Need-top-requires (push-claims t) (push-at t) push.Post
@@ -577,7 +577,7 @@ push-same-length-2 t c = c .before .before .before .before .raw-write .kept .1 .
 
 -- src/cycle.rt:139:9
 push-returns-2 : (t : ℕ) → push-lts.Need-returns-2 (push-claims t) (push-at t) push.Post
-push-returns-2 t c = push-way-2 _ _ _ _ _ _ _ _ _ _ _ _ _ _ (c .before .before .before .before .before .before .before .before .before .before .before .before .before .before .width .ensures) (c .before .before .before .before .before .before .before .before .before .before .before .before .before .lower .ensures) (c .before .before .before .before .before .before .before .before .before .before .before .before .is-counted .ensures) (c .before .before .before .before .before .before .before .before .before .before .before .if1 .left) (c .before .before .before .before .before .before .before .before .before .before .top .ensures) (c .before .before .before .before .before .before .before .before .before .is-raw .ensures) (c .before .before .before .before .before .before .before .before .if2 .taken) (c .before .before .before .before .before .before .before .masked .ensures) (c .before .before .before .before .raw-write .ensures)
+push-returns-2 t c = push-raw _ _ _ _ _ _ _ _ _ _ _ _ _ _ (c .before .before .before .before .before .before .before .before .before .before .before .before .before .before .width .ensures) (c .before .before .before .before .before .before .before .before .before .before .before .before .before .lower .ensures) (c .before .before .before .before .before .before .before .before .before .before .before .before .is-counted .ensures) (c .before .before .before .before .before .before .before .before .before .before .before .if1 .left) (c .before .before .before .before .before .before .before .before .before .before .top .ensures) (c .before .before .before .before .before .before .before .before .before .is-raw .ensures) (c .before .before .before .before .before .before .before .before .if2 .taken) (c .before .before .before .before .before .before .before .masked .ensures) (c .before .before .before .before .raw-write .ensures)
 
 -- src/cycle.rt:141:5
 push-write-at-requires : (t : ℕ) → push-lts.Need-write-at-requires (push-claims t) (push-at t) push.Post
@@ -593,7 +593,7 @@ push-same-length-4 t c = c .before .before .before .before .write-at .kept .1 .1
 
 -- src/cycle.rt:128:1
 push-returns-3 : (t : ℕ) → push-lts.Need-returns-3 (push-claims t) (push-at t) push.Post
-push-returns-3 t c = push-way-3 _ _ _ _ _ _ _ _ _ _ _ _ _ (c .before .before .before .before .before .before .before .before .before .before .before .before .before .width .ensures) (c .before .before .before .before .before .before .before .before .before .before .before .before .lower .ensures) (c .before .before .before .before .before .before .before .before .before .before .before .is-counted .ensures) (c .before .before .before .before .before .before .before .before .before .before .if1 .left) (c .before .before .before .before .before .before .before .before .before .top .ensures) (c .before .before .before .before .before .before .before .before .is-raw .ensures) (c .before .before .before .before .before .before .before .if2 .left) (c .before .before .before .before .write-at .ensures)
+push-returns-3 t c = push-guarded _ _ _ _ _ _ _ _ _ _ _ _ _ (c .before .before .before .before .before .before .before .before .before .before .before .before .before .width .ensures) (c .before .before .before .before .before .before .before .before .before .before .before .before .lower .ensures) (c .before .before .before .before .before .before .before .before .before .before .before .is-counted .ensures) (c .before .before .before .before .before .before .before .before .before .before .if1 .left) (c .before .before .before .before .before .before .before .before .before .top .ensures) (c .before .before .before .before .before .before .before .before .is-raw .ensures) (c .before .before .before .before .before .before .before .if2 .left) (c .before .before .before .before .write-at .ensures)
 
 -- ---- push-all
 abbrev push-all-claims : ℕ → push-all-lts.Claims
@@ -601,7 +601,7 @@ push-all-claims t = (field-at-reads.Asked, field-at-reads.Learnt, push-below t, 
 
 -- src/cycle.rt:120:9
 push-all-returns : (t : ℕ) → push-all-lts.Need-returns (push-all-claims t) (push-all-at t) push-all.Post
-push-all-returns t c = push-all-way _ _ _ _ _ _ (c .if1 .taken)
+push-all-returns t c = push-all-none _ _ _ _ _ _ (c .if1 .taken)
 
 -- src/cycle.rt:122:33
 push-all-sub-field-at : (t : ℕ) → push-all-lts.Need-sub-field-at (push-all-claims t) (push-all-at t) push-all.Post
@@ -633,7 +633,7 @@ push-all-same-length-2 t c = c .before .before .before .before .push-all .kept .
 
 -- src/cycle.rt:116:1
 push-all-returns-2 : (t : ℕ) → push-all-lts.Need-returns-2 (push-all-claims t) (push-all-at t) push-all.Post
-push-all-returns-2 t c = push-all-way-2 _ _ _ _ _ _ _ _ _ _ _ _ _ (c .before .before .before .before .before .before .before .before .before .before .before .before .before .before .before .if1 .left) (c .before .before .before .before .before .before .before .before .before .before .before .before .before .before .field-at .ensures) (c .before .before .before .before .before .before .before .before .before .before .before .push .ensures) (c .before .before .before .before .push-all .ensures)
+push-all-returns-2 t c = push-all-more _ _ _ _ _ _ _ _ _ _ _ _ _ (c .before .before .before .before .before .before .before .before .before .before .before .before .before .before .before .if1 .left) (c .before .before .before .before .before .before .before .before .before .before .before .before .before .before .field-at .ensures) (c .before .before .before .before .before .before .before .before .before .before .before .push .ensures) (c .before .before .before .before .push-all .ensures)
 
 -- ---- raise-bus
 abbrev raise-bus-claims : ℕ → raise-bus-lts.Claims
@@ -645,7 +645,7 @@ raise-bus-is-faulted-requires t c κs = tt
 
 -- src/cycle.rt:28:9
 raise-bus-returns : (t : ℕ) → raise-bus-lts.Need-returns (raise-bus-claims t) (raise-bus-at t) raise-bus.Post
-raise-bus-returns t c = raise-bus-way _ _ _ _ _ _ _ _ _ (c .before .is-faulted .ensures) (c .if1 .taken)
+raise-bus-returns t c = raise-bus-faulted _ _ _ _ _ _ _ _ _ (c .before .is-faulted .ensures) (c .if1 .taken)
 
 -- src/cycle.rt:30:8
 raise-bus-in-exception-requires : (t : ℕ) → raise-bus-lts.Need-in-exception-requires (raise-bus-claims t) (raise-bus-at t) raise-bus.Post
@@ -657,7 +657,7 @@ raise-bus-halt-requires t c κs = tt
 
 -- src/cycle.rt:31:9
 raise-bus-returns-2 : (t : ℕ) → raise-bus-lts.Need-returns-2 (raise-bus-claims t) (raise-bus-at t) raise-bus.Post
-raise-bus-returns-2 t c = raise-bus-way-2 _ _ _ _ _ _ _ _ _ _ _ (c .before .before .before .before .is-faulted .ensures) (c .before .before .before .if1 .left) (c .before .before .in-exception .ensures) (c .before .if2 .taken) (c .halt .ensures)
+raise-bus-returns-2 t c = raise-bus-under-way _ _ _ _ _ _ _ _ _ _ _ (c .before .before .before .before .is-faulted .ensures) (c .before .before .before .if1 .left) (c .before .before .in-exception .ensures) (c .before .if2 .taken) (c .halt .ensures)
 
 -- src/cycle.rt:34:9
 raise-bus-halt-requires-2 : (t : ℕ) → raise-bus-lts.Need-halt-requires-2 (raise-bus-claims t) (raise-bus-at t) raise-bus.Post
@@ -665,7 +665,7 @@ raise-bus-halt-requires-2 t c κs = tt
 
 -- src/cycle.rt:34:9
 raise-bus-returns-3 : (t : ℕ) → raise-bus-lts.Need-returns-3 (raise-bus-claims t) (raise-bus-at t) raise-bus.Post
-raise-bus-returns-3 t c = raise-bus-way-3 _ _ _ _ _ _ _ _ _ _ _ (c .before .before .before .before .before .is-faulted .ensures) (c .before .before .before .before .if1 .left) (c .before .before .before .in-exception .ensures) (c .before .before .if2 .left) (c .before .if3 .taken) (c .halt2 .ensures)
+raise-bus-returns-3 t c = raise-bus-without-level _ _ _ _ _ _ _ _ _ _ _ (c .before .before .before .before .before .is-faulted .ensures) (c .before .before .before .before .if1 .left) (c .before .before .before .in-exception .ensures) (c .before .before .if2 .left) (c .before .if3 .taken) (c .halt2 .ensures)
 
 -- src/cycle.rt:36:9
 raise-bus-cause-requires : (t : ℕ) → raise-bus-lts.Need-cause-requires (raise-bus-claims t) (raise-bus-at t) raise-bus.Post
@@ -697,7 +697,7 @@ raise-bus-same-length-2 t c = c .before .before .before .before .before .enter-b
 
 -- src/cycle.rt:15:1
 raise-bus-returns-4 : (t : ℕ) → raise-bus-lts.Need-returns-4 (raise-bus-claims t) (raise-bus-at t) raise-bus.Post
-raise-bus-returns-4 t c = raise-bus-way-4 _ _ _ _ _ _ _ _ _ _ _ _ _ _ _ _ (c .before .before .before .before .before .before .before .before .before .before .before .before .before .before .is-faulted .ensures) (c .before .before .before .before .before .before .before .before .before .before .before .before .before .if1 .left) (c .before .before .before .before .before .before .before .before .before .before .before .before .in-exception .ensures) (c .before .before .before .before .before .before .before .before .before .before .before .if2 .left) (c .before .before .before .before .before .before .before .before .before .before .if3 .left) (c .before .before .before .before .before .before .before .before .before .cause .ensures) (c .before .before .before .before .before .before .before .before .begin-bus .ensures) (c .before .before .before .before .before .enter-bus .ensures) (c .close-bus .ensures)
+raise-bus-returns-4 t c = raise-bus-enters _ _ _ _ _ _ _ _ _ _ _ _ _ _ _ _ (c .before .before .before .before .before .before .before .before .before .before .before .before .before .before .is-faulted .ensures) (c .before .before .before .before .before .before .before .before .before .before .before .before .before .if1 .left) (c .before .before .before .before .before .before .before .before .before .before .before .before .in-exception .ensures) (c .before .before .before .before .before .before .before .before .before .before .before .if2 .left) (c .before .before .before .before .before .before .before .before .before .before .if3 .left) (c .before .before .before .before .before .before .before .before .before .cause .ensures) (c .before .before .before .before .before .before .before .before .begin-bus .ensures) (c .before .before .before .before .before .enter-bus .ensures) (c .close-bus .ensures)
 
 -- ---- raise-odd
 abbrev raise-odd-claims : ℕ → raise-odd-lts.Claims
@@ -709,7 +709,7 @@ raise-odd-is-faulted-requires t c κs = tt
 
 -- src/cycle.rt:65:9
 raise-odd-returns : (t : ℕ) → raise-odd-lts.Need-returns (raise-odd-claims t) (raise-odd-at t) raise-odd.Post
-raise-odd-returns t c = raise-odd-way _ _ _ _ _ _ _ _ (c .before .is-faulted .ensures) (c .if1 .taken)
+raise-odd-returns t c = raise-odd-faulted _ _ _ _ _ _ _ _ (c .before .is-faulted .ensures) (c .if1 .taken)
 
 -- src/cycle.rt:68:9
 raise-odd-halt-requires : (t : ℕ) → raise-odd-lts.Need-halt-requires (raise-odd-claims t) (raise-odd-at t) raise-odd.Post
@@ -717,7 +717,7 @@ raise-odd-halt-requires t c κs = tt
 
 -- src/cycle.rt:68:9
 raise-odd-returns-2 : (t : ℕ) → raise-odd-lts.Need-returns-2 (raise-odd-claims t) (raise-odd-at t) raise-odd.Post
-raise-odd-returns-2 t c = raise-odd-way-2 _ _ _ _ _ _ _ _ _ (c .before .before .before .is-faulted .ensures) (c .before .before .if1 .left) (c .before .if2 .taken) (c .halt .ensures)
+raise-odd-returns-2 t c = raise-odd-without-level _ _ _ _ _ _ _ _ _ (c .before .before .before .is-faulted .ensures) (c .before .before .if1 .left) (c .before .if2 .taken) (c .halt .ensures)
 
 -- src/cycle.rt:70:9
 raise-odd-begin-address-requires : (t : ℕ) → raise-odd-lts.Need-begin-address-requires (raise-odd-claims t) (raise-odd-at t) raise-odd.Post
@@ -745,7 +745,7 @@ raise-odd-same-length-2 t c = c .before .before .before .before .before .enter-o
 
 -- src/cycle.rt:53:1
 raise-odd-returns-3 : (t : ℕ) → raise-odd-lts.Need-returns-3 (raise-odd-claims t) (raise-odd-at t) raise-odd.Post
-raise-odd-returns-3 t c = raise-odd-way-3 _ _ _ _ _ _ _ _ _ _ _ _ _ (c .before .before .before .before .before .before .before .before .before .before .before .is-faulted .ensures) (c .before .before .before .before .before .before .before .before .before .before .if1 .left) (c .before .before .before .before .before .before .before .before .before .if2 .left) (c .before .before .before .before .before .before .before .before .begin-address .ensures) (c .before .before .before .before .before .enter-odd .ensures) (c .close-address .ensures)
+raise-odd-returns-3 t c = raise-odd-enters _ _ _ _ _ _ _ _ _ _ _ _ _ (c .before .before .before .before .before .before .before .before .before .before .before .is-faulted .ensures) (c .before .before .before .before .before .before .before .before .before .before .if1 .left) (c .before .before .before .before .before .before .before .before .before .if2 .left) (c .before .before .before .before .before .before .before .before .begin-address .ensures) (c .before .before .before .before .before .enter-odd .ensures) (c .close-address .ensures)
 
 -- ---- read-at
 abbrev read-at-claims : ℕ → read-at-lts.Claims
@@ -757,7 +757,7 @@ read-at-is-faulted-requires t c κs = tt
 
 -- src/cycle.rt:201:9
 read-at-returns : (t : ℕ) → read-at-lts.Need-returns (read-at-claims t) (read-at-at t) read-at.Post
-read-at-returns t c = read-at-way _ _ _ _ _ _ _ (c .before .is-faulted .ensures) (c .if1 .taken)
+read-at-returns t c = read-at-faulted _ _ _ _ _ _ _ (c .before .is-faulted .ensures) (c .if1 .taken)
 
 -- src/cycle.rt:207:9
 read-at-flush-sync-requires : (t : ℕ) → read-at-lts.Need-flush-sync-requires (read-at-claims t) (read-at-at t) read-at.Post
@@ -781,7 +781,7 @@ read-at-same-length-2 t c = c .before .before .before .before .read-now .kept .1
 
 -- src/cycle.rt:190:1
 read-at-returns-2 : (t : ℕ) → read-at-lts.Need-returns-2 (read-at-claims t) (read-at-at t) read-at.Post
-read-at-returns-2 t c = read-at-way-2 _ _ _ _ _ _ _ _ _ _ _ _ _ _ (c .before .before .before .before .before .before .before .before .before .before .before .before .before .before .before .before .is-faulted .ensures) (c .before .before .before .before .before .before .before .before .before .before .before .before .before .before .before .if1 .left) (c .before .before .before .before .before .before .before .before .before .before .before .before .flush-sync .ensures) (c .before .before .before .before .before .before .before .masked .ensures) (c .before .before .before .before .read-now .ensures)
+read-at-returns-2 t c = read-at-unfaulted _ _ _ _ _ _ _ _ _ _ _ _ _ _ (c .before .before .before .before .before .before .before .before .before .before .before .before .before .before .before .before .is-faulted .ensures) (c .before .before .before .before .before .before .before .before .before .before .before .before .before .before .before .if1 .left) (c .before .before .before .before .before .before .before .before .before .before .before .before .flush-sync .ensures) (c .before .before .before .before .before .before .before .masked .ensures) (c .before .before .before .before .read-now .ensures)
 
 -- ---- read-now
 abbrev read-now-claims : ℕ → read-now-lts.Claims
@@ -805,7 +805,7 @@ read-now-same-length-2 t c = c .before .before .before .before .raise-odd .kept 
 
 -- src/cycle.rt:225:9
 read-now-returns : (t : ℕ) → read-now-lts.Need-returns (read-now-claims t) (read-now-at t) read-now.Post
-read-now-returns t c = read-now-way _ _ _ _ _ _ _ _ _ _ (c .before .before .before .before .before .before .before .before .refuses-odd .ensures) (c .before .before .before .before .before .before .before .if1 .taken) (c .before .before .before .before .raise-odd .ensures)
+read-now-returns t c = read-now-odd _ _ _ _ _ _ _ _ _ _ (c .before .before .before .before .before .before .before .before .refuses-odd .ensures) (c .before .before .before .before .before .before .before .if1 .taken) (c .before .before .before .before .raise-odd .ensures)
 
 -- src/cycle.rt:231:9
 read-now-try-read-requires : (t : ℕ) → read-now-lts.Need-try-read-requires (read-now-claims t) (read-now-at t) read-now.Post
@@ -821,7 +821,7 @@ read-now-same-length-4 t c = c .before .before .before .before .before .try-read
 
 -- src/cycle.rt:233:9
 read-now-returns-2 : (t : ℕ) → read-now-lts.Need-returns-2 (read-now-claims t) (read-now-at t) read-now.Post
-read-now-returns-2 t c = read-now-way-2 _ _ _ _ _ _ _ _ _ _ (c .before .before .before .before .before .before .before .before .before .refuses-odd .ensures) (c .before .before .before .before .before .before .before .before .if1 .left) (c .before .before .before .before .before .try-read .ensures) (c .if2 .taken)
+read-now-returns-2 t c = read-now-served _ _ _ _ _ _ _ _ _ _ (c .before .before .before .before .before .before .before .before .before .refuses-odd .ensures) (c .before .before .before .before .before .before .before .before .if1 .left) (c .before .before .before .before .before .try-read .ensures) (c .if2 .taken)
 
 -- src/cycle.rt:236:9
 read-now-width-requires : (t : ℕ) → read-now-lts.Need-width-requires (read-now-claims t) (read-now-at t) read-now.Post
@@ -841,7 +841,7 @@ read-now-same-length-6 t c = c .before .before .before .before .raise-bus .kept 
 
 -- src/cycle.rt:213:1
 read-now-returns-3 : (t : ℕ) → read-now-lts.Need-returns-3 (read-now-claims t) (read-now-at t) read-now.Post
-read-now-returns-3 t c = read-now-way-3 _ _ _ _ _ _ _ _ _ _ _ _ _ _ (c .before .before .before .before .before .before .before .before .before .before .before .before .before .before .before .before .before .before .refuses-odd .ensures) (c .before .before .before .before .before .before .before .before .before .before .before .before .before .before .before .before .before .if1 .left) (c .before .before .before .before .before .before .before .before .before .before .before .before .before .before .try-read .ensures) (c .before .before .before .before .before .before .before .before .before .if2 .left) (c .before .before .before .before .before .before .before .width .ensures) (c .before .before .before .before .raise-bus .ensures)
+read-now-returns-3 t c = read-now-unserved _ _ _ _ _ _ _ _ _ _ _ _ _ _ (c .before .before .before .before .before .before .before .before .before .before .before .before .before .before .before .before .before .before .refuses-odd .ensures) (c .before .before .before .before .before .before .before .before .before .before .before .before .before .before .before .before .before .if1 .left) (c .before .before .before .before .before .before .before .before .before .before .before .before .before .before .try-read .ensures) (c .before .before .before .before .before .before .before .before .before .if2 .left) (c .before .before .before .before .before .before .before .width .ensures) (c .before .before .before .before .raise-bus .ensures)
 
 -- ---- write-at
 abbrev write-at-claims : ℕ → write-at-lts.Claims
@@ -853,7 +853,7 @@ write-at-is-faulted-requires t c κs = tt
 
 -- src/cycle.rt:157:9
 write-at-returns : (t : ℕ) → write-at-lts.Need-returns (write-at-claims t) (write-at-at t) write-at.Post
-write-at-returns t c = write-at-way _ _ _ _ _ _ _ _ (c .before .is-faulted .ensures) (c .if1 .taken)
+write-at-returns t c = write-at-faulted _ _ _ _ _ _ _ _ (c .before .is-faulted .ensures) (c .if1 .taken)
 
 -- src/cycle.rt:159:9
 write-at-flush-sync-requires : (t : ℕ) → write-at-lts.Need-flush-sync-requires (write-at-claims t) (write-at-at t) write-at.Post
@@ -877,7 +877,7 @@ write-at-same-length-2 t c = c .before .before .before .before .write-now .kept 
 
 -- src/cycle.rt:145:1
 write-at-returns-2 : (t : ℕ) → write-at-lts.Need-returns-2 (write-at-claims t) (write-at-at t) write-at.Post
-write-at-returns-2 t c = write-at-way-2 _ _ _ _ _ _ _ _ _ _ _ _ _ _ _ (c .before .before .before .before .before .before .before .before .before .before .before .before .before .before .before .before .is-faulted .ensures) (c .before .before .before .before .before .before .before .before .before .before .before .before .before .before .before .if1 .left) (c .before .before .before .before .before .before .before .before .before .before .before .before .flush-sync .ensures) (c .before .before .before .before .before .before .before .masked .ensures) (c .before .before .before .before .write-now .ensures)
+write-at-returns-2 t c = write-at-unfaulted _ _ _ _ _ _ _ _ _ _ _ _ _ _ _ (c .before .before .before .before .before .before .before .before .before .before .before .before .before .before .before .before .is-faulted .ensures) (c .before .before .before .before .before .before .before .before .before .before .before .before .before .before .before .if1 .left) (c .before .before .before .before .before .before .before .before .before .before .before .before .flush-sync .ensures) (c .before .before .before .before .before .before .before .masked .ensures) (c .before .before .before .before .write-now .ensures)
 
 -- ---- write-now
 abbrev write-now-claims : ℕ → write-now-lts.Claims
@@ -901,7 +901,7 @@ write-now-same-length-2 t c = c .before .before .before .before .raise-odd .kept
 
 -- src/cycle.rt:177:9
 write-now-returns : (t : ℕ) → write-now-lts.Need-returns (write-now-claims t) (write-now-at t) write-now.Post
-write-now-returns t c = write-now-way _ _ _ _ _ _ _ _ _ _ _ (c .before .before .before .before .before .before .before .before .refuses-odd .ensures) (c .before .before .before .before .before .before .before .if1 .taken) (c .before .before .before .before .raise-odd .ensures)
+write-now-returns t c = write-now-odd _ _ _ _ _ _ _ _ _ _ _ (c .before .before .before .before .before .before .before .before .refuses-odd .ensures) (c .before .before .before .before .before .before .before .if1 .taken) (c .before .before .before .before .raise-odd .ensures)
 
 -- src/cycle.rt:179:9
 write-now-with-wdata-requires : (t : ℕ) → write-now-lts.Need-with-wdata-requires (write-now-claims t) (write-now-at t) write-now.Post
@@ -921,7 +921,7 @@ write-now-same-length-4 t c = c .before .before .before .before .before .before 
 
 -- src/cycle.rt:183:9
 write-now-returns-2 : (t : ℕ) → write-now-lts.Need-returns-2 (write-now-claims t) (write-now-at t) write-now.Post
-write-now-returns-2 t c = write-now-way-2 _ _ _ _ _ _ _ _ _ _ _ _ (c .before .before .before .before .before .before .before .before .before .before .before .refuses-odd .ensures) (c .before .before .before .before .before .before .before .before .before .before .if1 .left) (c .before .before .before .before .before .before .before .before .before .with-wdata .ensures) (c .before .before .before .before .before .before .try-write .ensures) (c .if2 .taken)
+write-now-returns-2 t c = write-now-served _ _ _ _ _ _ _ _ _ _ _ _ (c .before .before .before .before .before .before .before .before .before .before .before .refuses-odd .ensures) (c .before .before .before .before .before .before .before .before .before .before .if1 .left) (c .before .before .before .before .before .before .before .before .before .with-wdata .ensures) (c .before .before .before .before .before .before .try-write .ensures) (c .if2 .taken)
 
 -- src/cycle.rt:185:9
 write-now-width-requires : (t : ℕ) → write-now-lts.Need-width-requires (write-now-claims t) (write-now-at t) write-now.Post
@@ -941,7 +941,7 @@ write-now-same-length-6 t c = c .before .before .before .before .raise-bus .kept
 
 -- src/cycle.rt:165:1
 write-now-returns-3 : (t : ℕ) → write-now-lts.Need-returns-3 (write-now-claims t) (write-now-at t) write-now.Post
-write-now-returns-3 t c = write-now-way-3 _ _ _ _ _ _ _ _ _ _ _ _ _ _ _ _ (c .before .before .before .before .before .before .before .before .before .before .before .before .before .before .before .before .before .before .before .refuses-odd .ensures) (c .before .before .before .before .before .before .before .before .before .before .before .before .before .before .before .before .before .before .if1 .left) (c .before .before .before .before .before .before .before .before .before .before .before .before .before .before .before .before .before .with-wdata .ensures) (c .before .before .before .before .before .before .before .before .before .before .before .before .before .before .try-write .ensures) (c .before .before .before .before .before .before .before .before .if2 .left) (c .before .before .before .before .before .before .before .width .ensures) (c .before .before .before .before .raise-bus .ensures)
+write-now-returns-3 t c = write-now-unserved _ _ _ _ _ _ _ _ _ _ _ _ _ _ _ _ (c .before .before .before .before .before .before .before .before .before .before .before .before .before .before .before .before .before .before .before .refuses-odd .ensures) (c .before .before .before .before .before .before .before .before .before .before .before .before .before .before .before .before .before .before .if1 .left) (c .before .before .before .before .before .before .before .before .before .before .before .before .before .before .before .before .before .with-wdata .ensures) (c .before .before .before .before .before .before .before .before .before .before .before .before .before .before .try-write .ensures) (c .before .before .before .before .before .before .before .before .if2 .left) (c .before .before .before .before .before .before .before .width .ensures) (c .before .before .before .before .raise-bus .ensures)
 
 pub +enter-bus+enter-odd+fetch-at+fetch-one+fetch-two+jump+push+push-all+raise-bus+raise-odd+read-at+read-now+write-at+write-now-spec :
     {M : Type 1} → statement M
