@@ -1,0 +1,22 @@
+use mathlib.Core.Path.{_≡_, refl, sym, _∙_}
+use native.Mathlib.Omega.{arith}
+use lib.ListN.{length-set}
+use borrow.Author.Tests.{lt-ltb, le-ltb, le-leb, lt-leb, eq-eqb, ne-eqb}
+use Rattle.calls.specs.Refusals.{shortLog}
+use Rattle.calls.proofs.refusals.short_log.Statement.{statement}
+use Rattle.calls.proofs.refusals.short_log.Tie as tie
+use Rattle.calls.proofs.refusals.short_log.Reads as reads
+use Rattle.calls.proofs.refusals.short_log.Lts as lts
+
+-- src/refusals.rt:236:9
+returns : tie.Need-returns
+unfolding shortLog
+returns c = simp (c .if1 .taken)
+
+-- src/refusals.rt:232:1
+returns-2 : tie.Need-returns-2
+unfolding shortLog
+returns-2 c = simp (c .if1 .left)
+
+pub short-log-spec : {M : Type 1} → statement M
+short-log-spec = tie.close (tie.spec returns returns-2)

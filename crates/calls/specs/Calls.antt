@@ -1,0 +1,123 @@
+-- What a call makes of a world: refused by number with nothing touched, or performed from an empty log. This is the definition
+-- that the public contract cites.
+use Prim.Native.Nat.{ℕ}
+use mathlib.Core.Bool.{Bool, true, false}
+use lib.Dec.{eqb}
+use Rattle.types.specs.Kinds.{pick}
+use Rattle.types.specs.Causes.{causeNumber}
+use Rattle.cpu.specs.declared.trace.Traced.{Traced}
+use Rattle.cpu.specs.Trace.{checkTrace}
+use Rattle.cpu.specs.Interrupts.{setIrq, checkInterrupts}
+use Rattle.memory.specs.declared.Core.{Core}
+use Rattle.memory.specs.declared.Bus.{Bus}
+use Rattle.memory.specs.World.{World, Attempt, world}
+use Rattle.faults.specs.Frames.{word, long}
+use Rattle.faults.specs.Faults.{cpuOf, on, raised, busFault, addressFault, guardRead, guardWrite, pushed, prefetchFirst, prefetchSecond, entryBus, entryAddress}
+use Rattle.exceptions.specs.Exceptions.{Entry, takeException, takeGroup2, trap, exceptionTrace, takeRewound, takeFpUnimp060, takeFpDisabled060}
+use Rattle.interrupts.specs.Interrupts.{checkAndService}
+use Rattle.calls.specs.declared.Call.{Call}
+use Rattle.calls.specs.declared.Call.the-variants.{TakeException, Trap, TakeGroup2Exception, ExceptionChk, ExceptionZeroDivide, ExceptionPrivilege, ExceptionTrace, ExceptionAddressError, ExceptionBusError, TakeFpUnimp060, TakeFpDisabled060, TakeAlineException, TakeFlineException, TakeTrapException, TakeBkptException, TakeIllegalException, TriggerAddressError, TriggerBusError, CheckTrace, SetIrq, CheckInterrupts, CheckAndServiceInterrupts, Read16, Read32, Write16, Write32, Push16, Push32, PrefetchFirst, PrefetchSecond}
+use Rattle.calls.specs.declared.Answer.{Answer}
+use Rattle.calls.specs.declared.Answer.the-variants.{Cycles, Flag, Value, Done, Refused}
+use Rattle.calls.specs.Refusals.{refusal}
+
+-- the numbers that paper 01 gives an answer: of its refusal, 0 for none; its value; its events
+abbrev pub bit : Bool → ℕ
+bit b = pick b 1 0
+
+unfoldable pub refusedBy : Answer → ℕ
+refusedBy (Refused n) = n
+refusedBy (Cycles n e) = 0
+refusedBy (Flag b e) = 0
+refusedBy (Value n e) = 0
+refusedBy (Done e) = 0
+
+unfoldable pub valueOf : Answer → ℕ
+valueOf (Cycles n e) = n
+valueOf (Flag b e) = bit b
+valueOf (Value n e) = n
+valueOf (Done e) = 0
+valueOf (Refused n) = 0
+
+unfoldable pub countOf : Answer → ℕ
+countOf (Cycles n e) = e
+countOf (Flag b e) = e
+countOf (Value n e) = e
+countOf (Done e) = e
+countOf (Refused n) = 0
+
+-- a world after a call, and the answer
+pub record Performance : Type 0 where
+  pub after : World
+  pub answer : Answer
+
+abbrev pub answered : World → Answer → Performance
+answered w a = record { after = w; answer = a }
+
+abbrev pub eventsOf : Core → ℕ
+eventsOf m = m .bus .events
+
+unfoldable pub cycles : World → ℕ → Performance
+cycles w n = answered w (Cycles n (eventsOf (w .core)))
+
+unfoldable pub flag : World → Bool → Performance
+flag w b = answered w (Flag b (eventsOf (w .core)))
+
+unfoldable pub plain : World → Performance
+plain w = answered w (Done (eventsOf (w .core)))
+
+unfoldable pub ofEntry : Entry → Performance
+ofEntry x = cycles (x .after) (x .cycles)
+
+unfoldable pub ofRead : Attempt → Performance
+ofRead x = answered (x .after) (Value (x .value) (eventsOf (x .after .core)))
+
+unfoldable pub ofService : Attempt → Performance
+ofService x = flag (x .after) (x .ok)
+
+unfoldable pub ofTrace : World → Traced → Performance
+ofTrace w x = flag (on w (x .cpu)) (x .trace)
+
+-- a call that is not refused; error entries answer 50 cycles
+unfoldable pub run : World → Call → Performance
+run w (TakeException v) = ofEntry (takeException w v)
+run w (Trap n) = ofEntry (trap w n)
+run w (TakeGroup2Exception v) = ofEntry (takeGroup2 w v)
+run w ExceptionChk = ofEntry (takeGroup2 w 6)
+run w ExceptionZeroDivide = ofEntry (takeGroup2 w 5)
+run w ExceptionPrivilege = ofEntry (takeException w 8)
+run w ExceptionTrace = ofEntry (exceptionTrace w)
+run w (ExceptionAddressError a write instruction) = cycles (entryAddress raised w a write instruction) 50
+run w (ExceptionBusError a write instruction z cause) = cycles (entryBus raised w a write instruction z (causeNumber cause)) 50
+run w (TakeFpUnimp060 ea) = ofEntry (takeFpUnimp060 w ea)
+run w TakeFpDisabled060 = ofEntry (takeFpDisabled060 w)
+run w TakeAlineException = ofEntry (takeRewound w 10)
+run w TakeFlineException = ofEntry (takeRewound w 11)
+run w (TakeTrapException n) = ofEntry (trap w n)
+run w TakeBkptException = ofEntry (takeRewound w 4)
+run w TakeIllegalException = ofEntry (takeRewound w 4)
+run w (TriggerAddressError a write instruction) = plain (raised w (addressFault a write instruction))
+run w (TriggerBusError a write instruction z) = plain (raised w (busFault a write instruction z))
+run w CheckTrace = ofTrace w (checkTrace (cpuOf w))
+run w (SetIrq n) = plain (on w (setIrq (cpuOf w) n))
+run w CheckInterrupts = flag w (checkInterrupts (cpuOf w))
+run w CheckAndServiceInterrupts = ofService (checkAndService w)
+run w (Read16 a) = ofRead (guardRead raised w a false)
+run w (Read32 a) = ofRead (guardRead raised w a true)
+run w (Write16 a v) = plain (guardWrite raised w a false v)
+run w (Write32 a v) = plain (guardWrite raised w a true v)
+run w (Push16 v) = plain (pushed raised w (word v))
+run w (Push32 v) = plain (pushed raised w (long v))
+run w PrefetchFirst = plain (prefetchFirst raised w)
+run w PrefetchSecond = plain (prefetchSecond raised w)
+
+-- the log starts at its first word
+unfoldable pub restarted : Core → Core
+restarted m = record { cpu = m .cpu; bus = record { base = m .bus .base; windows = m .bus .windows; starts = m .bus .starts; lengths = m .bus .lengths; responses = m .bus .responses; events = 0 } }
+
+unfoldable pub begun : World → World
+begun w = world (restarted (w .core)) (w .store) (w .log)
+
+-- the public call
+unfoldable pub perform : World → Call → Performance
+perform w c = pick (eqb (refusal w c) 0) (run (begun w) c) (answered w (Refused (refusal w c)))
