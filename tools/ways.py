@@ -124,6 +124,7 @@ class Way:
 class Walker:
     def __init__(self, crate, functions, types):
         self.crate, self.functions, self.types = crate, functions, types
+        self.variants = variants(deps(crate))
 
     def find(self, path, module):
         name = path.split("::")[-1]
@@ -216,6 +217,17 @@ class Walker:
                     t.next()
             t.next()
             return made
+        if re.fullmatch(r"[A-Z]\w*::[A-Z]\w*", tok) and tok.split("::")[1] in self.variants:
+            t.next()
+            args = []
+            if t.peek() == "(":
+                t.next()
+                while t.peek() != ")":
+                    args.append(self.wrap(self.expression(t, w, module)))
+                    if t.peek() == ",":
+                        t.next()
+                t.next()
+            return " ".join([tok.split("::")[1], *args])
         return self.sum(t, w)
 
     def call(self, t, w, module):
@@ -413,8 +425,21 @@ def structs(crates):
     for crate in crates:
         folder = os.path.join(ROOT, "crates", crate, "src")
         for file in os.listdir(folder):
-            for m in re.finditer(r"pub struct (\w+)", open(os.path.join(folder, file), encoding="utf-8").read()):
+            for m in re.finditer(r"pub (?:struct|enum) (\w+)", open(os.path.join(folder, file), encoding="utf-8").read()):
                 found[m.group(1)] = (crate, "" if file == "lib.rt" else file[:-3] + ".")
+    return found
+
+
+def variants(crates):
+    """The constructors of the enums: name -> (crate, module of the enum)."""
+    found = {}
+    for crate in crates:
+        folder = os.path.join(ROOT, "crates", crate, "src")
+        for file in os.listdir(folder):
+            text = open(os.path.join(folder, file), encoding="utf-8").read()
+            for m in re.finditer(r"pub enum (\w+) \{\n(.*?)^\}", text, re.S | re.M):
+                for v in re.findall(r"^    (\w+)", m.group(2), re.M):
+                    found[v] = (crate, ("" if file == "lib.rt" else file[:-3] + ".") + m.group(1))
     return found
 
 
@@ -528,6 +553,7 @@ def main():
     p.add_argument("--laws", default="Ways", help="the file of proofs/ for the laws")
     p.add_argument("--show", action="store_true")
     p.add_argument("--reuse", help="what an earlier `rt dev CRATE` printed, in place of a new run")
+    p.add_argument("--generated", help="a folder that `rt dev CRATE --generated` wrote, in place of a new run")
     a = p.parse_args()
     crates = deps(a.crate)
     functions = [f for c in crates for f in read_functions(c)]
@@ -568,6 +594,9 @@ def write_laws(a, laws, defs, kinds, crates):
         if x in kinds and x not in defs:
             c, m = kinds[x]
             uses.setdefault(f"Rattle.{c}" + ("·specs" if c == a.crate else "") + f".specs.declared.{m}{x}", []).append(x)
+    for x, (c, m) in sorted(variants(crates).items()):
+        if x in words and x not in defs and x not in kinds:
+            uses.setdefault(f"Rattle.{c}" + ("·specs" if c == a.crate else "") + f".specs.declared.{m}.the-variants", []).append(x)
     head = "-- A law for each way through a function: its premises are how each test went and what each call ensures, in the order\n-- of the code. Written by tools/ways.py from the code and the contracts.\n"
     head += "use Prim.Native.Nat.{ℕ, zero, suc, _+_, _-_, _*_, _/_, _%_, _^_, _<_, _≤_}\nuse mathlib.Core.Path.{_≡_, refl}\nuse mathlib.Core.Bool.{Bool, true, false}\nuse mathlib.Core.List.{List}\nuse lib.ListN.{length, getD, set}\nuse lib.Dec.{eqb, ltb, leb}\nuse native.Mathlib.Numerals.{sub-one}\n"
     head += "".join(f"use {m}.{{{', '.join(ns)}}}\n" for m, ns in sorted(uses.items()))
@@ -587,8 +616,9 @@ def write_files(a, wanted, plans):
         if os.path.exists(path):
             os.remove(path)
     out = open(a.reuse, encoding="utf-8").read() if a.reuse else dev(a.crate)
-    generated = tempfile.mkdtemp()
-    dev(a.crate, "--generated", generated)
+    generated = a.generated or tempfile.mkdtemp()
+    if not a.generated:
+        dev(a.crate, "--generated", generated)
     for path, body in blocks(out):
         rel = os.path.dirname(path).split("/proofs/", 1)[1]
         if rel not in plans:

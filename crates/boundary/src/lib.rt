@@ -1,6 +1,9 @@
 // The C boundary: a call by number on a record and a bus by value and lent slices, and the leaf functions of the record, exported
-// for programs in other languages. The numbers are those of the case format; what a call does is the contracts of `faults`,
-// `exceptions` and `interrupts`. It refuses nothing yet but unknown numbers.
+// for programs in other languages. The numbers are those of the case format. It uses `calls`, and what it exports is proved equal
+// to the public function there; programs in other languages and `replay` use it.
+use calls::Answer;
+use calls::Call;
+use calls::Performed;
 use cpu::Cpu;
 use memory::Core;
 ghost use mathlib.Core.Path.{_≡_};
@@ -8,7 +11,9 @@ ghost use mathlib.Core.Bool.{true, false};
 ghost use lib.Dec.{eqb};
 ghost use Prim.Native.Nat.{_%_};
 ghost use Rattle.memory.specs.World.{world};
-ghost use Rattle.boundary.specs.Calls.{outcome, bit, flag, callAccess, callStack, callError, callException, callWrapper, callInterrupt};
+ghost use Rattle.types.specs.Causes.{causeOf};
+ghost use Rattle.calls.specs.Calls.{bit, refusedBy, valueOf, countOf};
+ghost use Rattle.boundary.specs.Calls.{outcome, flag, decodeAccess, decodeStack, decodeError, decodeException, decodeWrapper, decodeInterrupt, rawOf, rawCall};
 ghost use Rattle.cpu.specs.Status.{statusOf, setSrNointNosp, putBackSr, setCcr};
 ghost use Rattle.cpu.specs.Banks.{spIndex, backupSp, restoreSp, setSFlag, setSmFlag, setSmFlagNosp};
 ghost use Rattle.cpu.specs.Clocks.{internalCycles, prefetchEnabled};
@@ -26,12 +31,19 @@ pub struct RawCall {
     pub e: u32,
 }
 
-// `refused` is 0, or 99 where the number names no call.
+// `refused` is 0, the number of the refusal, or 99 where the number names no call.
 #[repr(C)]
 pub struct RawAnswer {
     pub core: Core,
     pub refused: u32,
     pub answer: u32,
+    pub events: u32,
+}
+
+// A call by number is a call, or none.
+pub enum Decoded {
+    Known(Call),
+    Unknown,
 }
 
 fn is(n: u32, k: u32) -> bool
@@ -68,230 +80,222 @@ fn bit_of(b: bool) -> u32
     0
 }
 
-fn answered(m: Core, n: u32) -> RawAnswer
-    ensures { λ r. ⌜ r ≡ record { core = m; refused = 0; answer = n } ⌝ }
-{
-    RawAnswer {
-        core: m,
-        refused: 0,
-        answer: n,
-    }
-}
-
-fn unknown(m: Core) -> RawAnswer
-    ensures { λ r. ⌜ r ≡ record { core = m; refused = 99; answer = 0 } ⌝ }
-{
-    RawAnswer {
-        core: m,
-        refused: 99,
-        answer: 0,
-    }
-}
-
 // Trace and interrupts.
-fn call_interrupt(m: Core, store: &mut [u8], log: &mut [u32], call: RawCall) -> RawAnswer
-    ensures { λ r. ⌜ outcome (world (r .core) (now (store .exit)) (now (log .exit))) (r .refused) (r .answer) ≡ callInterrupt (world m (now (store .entry)) (now (log .entry))) call ⌝ }
+fn decode_interrupt(call: RawCall) -> Decoded
+    ensures { λ r. ⌜ r ≡ decodeInterrupt call ⌝ }
 {
     if is(call.number, 19) {
-        let r = cpu::trace::check_trace(m.cpu);
-        let d = memory::with_cpu(m, r.cpu);
-        let n = bit_of(r.trace);
-        return answered(d, n);
+        return Decoded::Known(Call::CheckTrace);
     }
     if is(call.number, 20) {
         let xa = low_byte(call.a);
-        let r = cpu::interrupts::set_irq(m.cpu, xa);
-        let d = memory::with_cpu(m, r);
-        return answered(d, 0);
+        return Decoded::Known(Call::SetIrq(xa));
     }
     if is(call.number, 21) {
-        let b = cpu::interrupts::check_interrupts(m.cpu);
-        let n = bit_of(b);
-        return answered(m, n);
+        return Decoded::Known(Call::CheckInterrupts);
     }
     if is(call.number, 22) {
-        let r = interrupts::check_and_service_interrupts(m, store, log);
-        let d = r.core;
-        let n = bit_of(r.taken);
-        return answered(d, n);
+        return Decoded::Known(Call::CheckAndServiceInterrupts);
     }
-    unknown(m)
+    Decoded::Unknown
 }
 
 // Floating-point entries and wrappers, or one of the calls below.
-fn call_wrapper(m: Core, store: &mut [u8], log: &mut [u32], call: RawCall) -> RawAnswer
-    ensures { λ r. ⌜ outcome (world (r .core) (now (store .exit)) (now (log .exit))) (r .refused) (r .answer) ≡ callWrapper (world m (now (store .entry)) (now (log .entry))) call ⌝ }
+fn decode_wrapper(call: RawCall) -> Decoded
+    ensures { λ r. ⌜ r ≡ decodeWrapper call ⌝ }
 {
     if is(call.number, 10) {
-        let r = exceptions::take_fp_unimp_060(m, store, log, call.a);
-        let d = r.core;
-        return answered(d, r.cycles);
+        let xa = call.a;
+        return Decoded::Known(Call::TakeFpUnimp060(xa));
     }
     if is(call.number, 11) {
-        let r = exceptions::take_fp_disabled_060(m, store, log);
-        let d = r.core;
-        return answered(d, r.cycles);
+        return Decoded::Known(Call::TakeFpDisabled060);
     }
     if is(call.number, 12) {
-        let r = exceptions::take_aline_exception(m, store, log);
-        let d = r.core;
-        return answered(d, r.cycles);
+        return Decoded::Known(Call::TakeAlineException);
     }
     if is(call.number, 13) {
-        let r = exceptions::take_fline_exception(m, store, log);
-        let d = r.core;
-        return answered(d, r.cycles);
+        return Decoded::Known(Call::TakeFlineException);
     }
     if is(call.number, 14) {
         let xa = low_byte(call.a);
-        let r = exceptions::take_trap_exception(m, store, log, xa);
-        let d = r.core;
-        return answered(d, r.cycles);
+        return Decoded::Known(Call::TakeTrapException(xa));
     }
     if is(call.number, 15) {
-        let r = exceptions::take_bkpt_exception(m, store, log);
-        let d = r.core;
-        return answered(d, r.cycles);
+        return Decoded::Known(Call::TakeBkptException);
     }
     if is(call.number, 16) {
-        let r = exceptions::take_illegal_exception(m, store, log);
-        let d = r.core;
-        return answered(d, r.cycles);
+        return Decoded::Known(Call::TakeIllegalException);
     }
-    call_interrupt(m, store, log, call)
+    decode_interrupt(call)
 }
 
 // Exceptions, or one of the calls below.
-fn call_exception(m: Core, store: &mut [u8], log: &mut [u32], call: RawCall) -> RawAnswer
-    ensures { λ r. ⌜ outcome (world (r .core) (now (store .exit)) (now (log .exit))) (r .refused) (r .answer) ≡ callException (world m (now (store .entry)) (now (log .entry))) call ⌝ }
+fn decode_exception(call: RawCall) -> Decoded
+    ensures { λ r. ⌜ r ≡ decodeException call ⌝ }
 {
     if is(call.number, 1) {
-        let r = exceptions::take_exception(m, store, log, call.a);
-        let d = r.core;
-        return answered(d, r.cycles);
+        let xa = call.a;
+        return Decoded::Known(Call::TakeException(xa));
     }
     if is(call.number, 2) {
         let xa = low_byte(call.a);
-        let r = exceptions::trap(m, store, log, xa);
-        let d = r.core;
-        return answered(d, r.cycles);
+        return Decoded::Known(Call::Trap(xa));
     }
     if is(call.number, 3) {
-        let r = exceptions::take_group2_exception(m, store, log, call.a);
-        let d = r.core;
-        return answered(d, r.cycles);
+        let xa = call.a;
+        return Decoded::Known(Call::TakeGroup2Exception(xa));
     }
     if is(call.number, 4) {
-        let r = exceptions::exception_chk(m, store, log);
-        let d = r.core;
-        return answered(d, r.cycles);
+        return Decoded::Known(Call::ExceptionChk);
     }
     if is(call.number, 5) {
-        let r = exceptions::exception_zero_divide(m, store, log);
-        let d = r.core;
-        return answered(d, r.cycles);
+        return Decoded::Known(Call::ExceptionZeroDivide);
     }
     if is(call.number, 6) {
-        let r = exceptions::exception_privilege(m, store, log);
-        let d = r.core;
-        return answered(d, r.cycles);
+        return Decoded::Known(Call::ExceptionPrivilege);
     }
     if is(call.number, 7) {
-        let r = exceptions::exception_trace(m, store, log);
-        let d = r.core;
-        return answered(d, r.cycles);
+        return Decoded::Known(Call::ExceptionTrace);
     }
-    call_wrapper(m, store, log, call)
+    decode_wrapper(call)
 }
 
 // Error entries and triggers, or one of the calls below.
-fn call_error(m: Core, store: &mut [u8], log: &mut [u32], call: RawCall) -> RawAnswer
-    ensures { λ r. ⌜ outcome (world (r .core) (now (store .exit)) (now (log .exit))) (r .refused) (r .answer) ≡ callError (world m (now (store .entry)) (now (log .entry))) call ⌝ }
+fn decode_error(call: RawCall) -> Decoded
+    ensures { λ r. ⌜ r ≡ decodeError call ⌝ }
 {
     if is(call.number, 8) {
+        let xa = call.a;
         let xb = is_set(call.b);
         let xc = is_set(call.c);
-        let d = faults::exception_address_error(m, store, log, call.a, xb, xc);
-        return answered(d, 50);
+        return Decoded::Known(Call::ExceptionAddressError(xa, xb, xc));
     }
     if is(call.number, 9) {
+        let xa = call.a;
         let xb = is_set(call.b);
         let xc = is_set(call.c);
+        let xd = call.d;
         let xe = low_byte(call.e);
-        let d = faults::exception_bus_error(m, store, log, call.a, xb, xc, call.d, xe);
-        return answered(d, 50);
+        let cause = types::cause_of(xe);
+        return Decoded::Known(Call::ExceptionBusError(xa, xb, xc, xd, cause));
     }
     if is(call.number, 17) {
+        let xa = call.a;
         let xb = is_set(call.b);
         let xc = is_set(call.c);
-        let d = faults::trigger_address_error(m, store, log, call.a, xb, xc);
-        return answered(d, 0);
+        return Decoded::Known(Call::TriggerAddressError(xa, xb, xc));
     }
     if is(call.number, 18) {
+        let xa = call.a;
         let xb = is_set(call.b);
         let xc = is_set(call.c);
-        let d = faults::trigger_bus_error(m, store, log, call.a, xb, xc, call.d);
-        return answered(d, 0);
+        let xd = call.d;
+        return Decoded::Known(Call::TriggerBusError(xa, xb, xc, xd));
     }
-    call_exception(m, store, log, call)
+    decode_exception(call)
 }
 
 // Pushes and prefetch, or one of the calls below.
-fn call_stack(m: Core, store: &mut [u8], log: &mut [u32], call: RawCall) -> RawAnswer
-    ensures { λ r. ⌜ outcome (world (r .core) (now (store .exit)) (now (log .exit))) (r .refused) (r .answer) ≡ callStack (world m (now (store .entry)) (now (log .entry))) call ⌝ }
+fn decode_stack(call: RawCall) -> Decoded
+    ensures { λ r. ⌜ r ≡ decodeStack call ⌝ }
 {
     if is(call.number, 27) {
         let xa = low_word(call.a);
-        let d = faults::push_16(m, store, log, xa);
-        return answered(d, 0);
+        return Decoded::Known(Call::Push16(xa));
     }
     if is(call.number, 28) {
-        let d = faults::push_32(m, store, log, call.a);
-        return answered(d, 0);
+        let xa = call.a;
+        return Decoded::Known(Call::Push32(xa));
     }
     if is(call.number, 29) {
-        let d = faults::prefetch_first(m, store, log);
-        return answered(d, 0);
+        return Decoded::Known(Call::PrefetchFirst);
     }
     if is(call.number, 30) {
-        let d = faults::prefetch_second(m, store, log);
-        return answered(d, 0);
+        return Decoded::Known(Call::PrefetchSecond);
     }
-    call_error(m, store, log, call)
+    decode_error(call)
 }
 
-// Guarded accesses, or one of the calls below.
-fn call_access(m: Core, store: &mut [u8], log: &mut [u32], call: RawCall) -> RawAnswer
-    ensures { λ r. ⌜ outcome (world (r .core) (now (store .exit)) (now (log .exit))) (r .refused) (r .answer) ≡ callAccess (world m (now (store .entry)) (now (log .entry))) call ⌝ }
+// Guarded accesses, or one of the calls below: every call by its number.
+fn decode_access(call: RawCall) -> Decoded
+    ensures { λ r. ⌜ r ≡ decodeAccess call ⌝ }
 {
     if is(call.number, 23) {
-        let r = faults::read_16(m, store, log, call.a);
-        let d = r.core;
-        return answered(d, r.value);
+        let xa = call.a;
+        return Decoded::Known(Call::Read16(xa));
     }
     if is(call.number, 24) {
-        let r = faults::read_32(m, store, log, call.a);
-        let d = r.core;
-        return answered(d, r.value);
+        let xa = call.a;
+        return Decoded::Known(Call::Read32(xa));
     }
     if is(call.number, 25) {
+        let xa = call.a;
         let xb = low_word(call.b);
-        let d = faults::write_16(m, store, log, call.a, xb);
-        return answered(d, 0);
+        return Decoded::Known(Call::Write16(xa, xb));
     }
     if is(call.number, 26) {
-        let d = faults::write_32(m, store, log, call.a, call.b);
-        return answered(d, 0);
+        let xa = call.a;
+        let xb = call.b;
+        return Decoded::Known(Call::Write32(xa, xb));
     }
-    call_stack(m, store, log, call)
+    decode_stack(call)
+}
+
+fn raw(m: Core, refused: u32, answer: u32, events: u32) -> RawAnswer
+    ensures { λ r. ⌜ r ≡ record { core = m; refused = refused; answer = answer; events = events } ⌝ }
+{
+    RawAnswer {
+        core: m,
+        refused: refused,
+        answer: answer,
+        events: events,
+    }
+}
+
+// An answer in numbers.
+fn numbers(m: Core, a: Answer) -> RawAnswer
+    ensures { λ r. ⌜ r ≡ record { core = m; refused = refusedBy a; answer = valueOf a; events = countOf a } ⌝ }
+{
+    match a {
+        Answer::Cycles(n, e) => raw(m, 0, n, e),
+        Answer::Flag(b, e) => raw(m, 0, bit_of(b), e),
+        Answer::Value(n, e) => raw(m, 0, n, e),
+        Answer::Done(e) => raw(m, 0, 0, e),
+        Answer::Refused(n) => raw(m, n, 0, 0),
+    }
+}
+
+fn performed(x: Performed) -> RawAnswer
+    ensures { λ r. ⌜ r ≡ record { core = x .core; refused = refusedBy (x .answer); answer = valueOf (x .answer); events = countOf (x .answer) } ⌝ }
+{
+    let m = x.core;
+    let a = x.answer;
+    numbers(m, a)
+}
+
+fn unknown(m: Core) -> RawAnswer
+    ensures { λ r. ⌜ r ≡ record { core = m; refused = 99; answer = 0; events = 0 } ⌝ }
+{
+    raw(m, 99, 0, 0)
+}
+
+fn call_decoded(m: Core, store: &mut [u8], log: &mut [u32], call: Decoded) -> RawAnswer
+    ensures { λ r. ⌜ outcome (world (r .core) (now (store .exit)) (now (log .exit))) (r .refused) (r .answer) (r .events) ≡ rawOf (world m (now (store .entry)) (now (log .entry))) call ⌝ }
+{
+    match call {
+        Decoded::Known(c) => performed(calls::perform(m, store, log, c)),
+        Decoded::Unknown => unknown(m),
+    }
 }
 
 // A call by number.
 #[no_mangle]
 pub extern "C" fn m68k_call(m: Core, store: &mut [u8], log: &mut [u32], call: RawCall) -> RawAnswer
-    ensures { λ r. ⌜ outcome (world (r .core) (now (store .exit)) (now (log .exit))) (r .refused) (r .answer) ≡ callAccess (world m (now (store .entry)) (now (log .entry))) call ⌝ }
+    ensures { λ r. ⌜ outcome (world (r .core) (now (store .exit)) (now (log .exit))) (r .refused) (r .answer) (r .events) ≡ rawCall (world m (now (store .entry)) (now (log .entry))) call ⌝ }
 {
-    call_access(m, store, log, call)
+    let d = decode_access(call);
+    call_decoded(m, store, log, d)
 }
 
 #[no_mangle]

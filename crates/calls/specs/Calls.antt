@@ -3,6 +3,7 @@
 use Prim.Native.Nat.{ℕ}
 use mathlib.Core.Bool.{Bool, true, false}
 use lib.Dec.{eqb}
+use lib.ListN.{length}
 use Rattle.types.specs.Kinds.{pick}
 use Rattle.types.specs.Causes.{causeNumber}
 use Rattle.cpu.specs.declared.trace.Traced.{Traced}
@@ -19,7 +20,8 @@ use Rattle.calls.specs.declared.Call.{Call}
 use Rattle.calls.specs.declared.Call.the-variants.{TakeException, Trap, TakeGroup2Exception, ExceptionChk, ExceptionZeroDivide, ExceptionPrivilege, ExceptionTrace, ExceptionAddressError, ExceptionBusError, TakeFpUnimp060, TakeFpDisabled060, TakeAlineException, TakeFlineException, TakeTrapException, TakeBkptException, TakeIllegalException, TriggerAddressError, TriggerBusError, CheckTrace, SetIrq, CheckInterrupts, CheckAndServiceInterrupts, Read16, Read32, Write16, Write32, Push16, Push32, PrefetchFirst, PrefetchSecond}
 use Rattle.calls.specs.declared.Answer.{Answer}
 use Rattle.calls.specs.declared.Answer.the-variants.{Cycles, Flag, Value, Done, Refused}
-use Rattle.calls.specs.Refusals.{refusal}
+use Rattle.refusals.specs.Refusals.{refusalOf}
+use Rattle.calls.specs.Matters.{matterOf}
 
 -- the numbers that paper 01 gives an answer: of its refusal, 0 for none; its value; its events
 abbrev pub bit : Bool → ℕ
@@ -117,6 +119,10 @@ restarted m = record { cpu = m .cpu; bus = record { base = m .bus .base; windows
 
 unfoldable pub begun : World → World
 begun w = world (restarted (w .core)) (w .store) (w .log)
+
+-- the lowest number that refuses a call, or 0
+unfoldable pub refusal : World → Call → ℕ
+refusal w c = refusalOf (w .core) (length (w .store)) (length (w .log)) (matterOf c)
 
 -- the public call
 unfoldable pub perform : World → Call → Performance

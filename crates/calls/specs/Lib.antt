@@ -1,3 +1,2 @@
 pub mod Matters
-pub mod Refusals
 pub mod Calls

@@ -1,5 +1,5 @@
 // The public calls: one enum of calls and one function that refuses a call by number, with nothing touched, or performs it. It
-// uses `interrupts`, `exceptions`, `faults` and everything below; `boundary` hands it to C, and programs use it.
+// uses `refusals`, `interrupts`, `exceptions`, `faults` and everything below; `boundary` hands it to C, and programs use it.
 use cpu::Cpu;
 use cpu::trace::Traced;
 use exceptions::Entered;
@@ -8,12 +8,11 @@ use memory::Core;
 use memory::Reply;
 use types::FaultCause;
 
-pub mod refusals; // the numbers 1 to 9
+pub mod matters; // what each call is given
 
 ghost use mathlib.Core.Path.{_≡_};
-ghost use lib.ListN.{length};
+ghost use lib.Dec.{eqb};
 ghost use Rattle.memory.specs.World.{world, putCpu, reply, tried};
-ghost use Rattle.calls.specs.Matters.{matterOf};
 ghost use Rattle.calls.specs.Calls.{answered, eventsOf, restarted, begun, run, perform};
 
 // The calls, in the order of the case format and by the names of the Rust.
@@ -148,6 +147,12 @@ fn begin(m: Core) -> Core
     r
 }
 
+fn accepts(n: u32) -> bool
+    ensures { λ r. ⌜ r ≡ eqb n 0 ⌝ }
+{
+    n == 0
+}
+
 // A call that is not refused.
 fn run(m: Core, store: &mut [u8], log: &mut [u32], call: Call) -> Performed
     ensures { λ r. ⌜ answered (world (r .core) (now (store .exit)) (now (log .exit))) (r .answer) ≡ run (world m (now (store .entry)) (now (log .entry))) call ⌝ }
@@ -230,8 +235,9 @@ fn run(m: Core, store: &mut [u8], log: &mut [u32], call: Call) -> Performed
 pub fn perform(m: Core, store: &mut [u8], log: &mut [u32], call: Call) -> Performed
     ensures { λ r. ⌜ answered (world (r .core) (now (store .exit)) (now (log .exit))) (r .answer) ≡ perform (world m (now (store .entry)) (now (log .entry))) call ⌝ }
 {
-    let n = refusals::refusal(m, store.len(), log.len(), call);
-    if refusals::accepts(n) {
+    let x = matters::matter_of(call);
+    let n = refusals::refusal(m, store.len(), log.len(), x);
+    if accepts(n) {
         let d = begin(m);
         return run(d, store, log, call);
     }

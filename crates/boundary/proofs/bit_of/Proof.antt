@@ -2,7 +2,6 @@ use mathlib.Core.Path.{_≡_, refl, sym, _∙_}
 use native.Mathlib.Omega.{arith}
 use lib.ListN.{length-set}
 use borrow.Author.Tests.{lt-ltb, le-ltb, le-leb, lt-leb, eq-eqb, ne-eqb}
-use Rattle.boundary.specs.Calls.{bit}
 use Rattle.boundary.proofs.bit_of.Statement.{statement}
 use Rattle.boundary.proofs.bit_of.Tie as tie
 use Rattle.boundary.proofs.bit_of.Reads as reads
@@ -10,12 +9,10 @@ use Rattle.boundary.proofs.bit_of.Lts as lts
 
 -- src/lib.rt:66:9
 returns : tie.Need-returns
-unfolding bit
 returns c = simp (c .if1 .taken)
 
 -- src/lib.rt:62:1
 returns-2 : tie.Need-returns-2
-unfolding bit
 returns-2 c = simp (c .if1 .left)
 
 pub bit-of-spec : {M : Type 1} → statement M

@@ -1,0 +1,37 @@
+use Rattle.refusals.proofs.Ways.{odd-base-way, odd-base-way-2}
+use mathlib.Core.Path.{_≡_, refl, sym, _∙_}
+use native.Mathlib.Omega.{arith}
+use lib.ListN.{length-set}
+use borrow.Author.Tests.{lt-ltb, le-ltb, le-leb, lt-leb, eq-eqb, ne-eqb}
+use borrow.Author.Needs.{needs}
+use Rattle.refusals.proofs.odd_base.Statement.{statement}
+use Rattle.refusals.proofs.odd_base.Tie as tie
+use Rattle.refusals.proofs.odd_base.Reads as reads
+use Rattle.refusals.proofs.odd_base.Lts as lts
+use Rattle.refusals.proofs.odd.Reads as odd-reads
+use Rattle.cpu.proofs.fields.aligned_kind.Reads as aligned-kind-reads
+use Rattle.cpu.proofs.fields.vbr.Reads as vbr-reads
+
+-- src/lib.rt:147:8
+aligned-kind-requires : tie.Need-aligned-kind-requires
+aligned-kind-requires c κs = search needs
+
+-- src/lib.rt:148:20
+vbr-requires : tie.Need-vbr-requires
+vbr-requires c κs = search needs
+
+-- src/lib.rt:148:9
+odd-requires : tie.Need-odd-requires
+odd-requires c κs = search needs
+
+-- src/lib.rt:148:9
+returns : tie.Need-returns
+returns c = odd-base-way _ _ _ _ (c .before .before .before .aligned-kind .ensures) (c .before .before .if1 .taken) (c .before .vbr .ensures) (c .odd .ensures)
+
+-- src/lib.rt:144:1
+returns-2 : tie.Need-returns-2
+returns-2 c = odd-base-way-2 _ _ (c .before .aligned-kind .ensures) (c .if1 .left)
+
+pub odd-base-spec : {M : Type 1} → statement M
+odd-base-spec =
+    tie.close (tie.spec aligned-kind-requires vbr-requires odd-requires returns returns-2)

@@ -1,0 +1,202 @@
+// The refusals 1 to 9: what each number tests, and the lowest that applies to a call, given what the call is lent. It uses
+// `memory`, `cpu` and `types`; `calls` uses it, and says what each call is given.
+use cpu::Cpu;
+use memory::Bus;
+use memory::Core;
+ghost use mathlib.Core.Path.{_≡_};
+ghost use mathlib.Core.Bool.{Bool, true, false, not};
+ghost use Prim.Native.Nat.{_%_, _<_, _≤_};
+ghost use lib.Dec.{eqb, ltb};
+ghost use Rattle.types.specs.Kinds.{either, both};
+ghost use Rattle.refusals.specs.Refusals.{badFlags, oddBase, badCycles, badCode, badStore, pastTop, anyPast, badWindows, shortLog, badVector, badKind, refusalOf};
+
+// What a call is given besides the record: store and log; a vector, 0 where there is none; and whether it is the interrupt call or
+// a floating-point entry.
+pub struct Matter {
+    pub lent: bool,
+    pub vector: u32,
+    pub interrupt: bool,
+    pub floating: bool,
+}
+
+// Whether a flag is 0 or its one other value.
+fn is_flag(n: u32, k: u32) -> bool
+    ensures { λ r. ⌜ r ≡ either (eqb n 0) (eqb n k) ⌝ }
+{
+    if n == 0 {
+        return true;
+    }
+    n == k
+}
+
+// 1.
+pub fn bad_flags(c: Cpu) -> bool
+    ensures { λ r. ⌜ r ≡ badFlags c ⌝ }
+{
+    let f = c.flags;
+    if is_flag(f.s_flag, 4) {
+        return !is_flag(f.m_flag, 2);
+    }
+    true
+}
+
+fn odd(a: u32) -> bool
+    ensures { λ r. ⌜ r ≡ eqb (a % 2) 1 ⌝ }
+{
+    a % 2 == 1
+}
+
+// 2.
+pub fn odd_base(c: Cpu) -> bool
+    ensures { λ r. ⌜ r ≡ oddBase c ⌝ }
+{
+    if cpu::fields::aligned_kind(c) {
+        return odd(cpu::fields::vbr(c));
+    }
+    false
+}
+
+// 3, of the interrupt call.
+pub fn bad_cycles(interrupt: bool, c: Cpu) -> bool
+    ensures { λ r. ⌜ r ≡ badCycles interrupt c ⌝ }
+{
+    if interrupt {
+        return !cpu::interrupts::has_cycles(c);
+    }
+    false
+}
+
+// 4.
+pub fn bad_code(c: Cpu) -> bool
+    ensures { λ r. ⌜ r ≡ badCode c ⌝ }
+{
+    if cpu::fields::has_fc_override(c) {
+        return 7 < cpu::fields::fc_override(c);
+    }
+    false
+}
+
+// 5, for a store of `len` bytes, where one is lent.
+pub fn bad_store(lent: bool, b: Bus, len: usize) -> bool
+    ensures { λ r. ⌜ r ≡ badStore lent b len ⌝ }
+{
+    if lent {
+        if 65536 < len {
+            return true;
+        }
+        return 4294967296 < b.base as usize + len;
+    }
+    false
+}
+
+fn wide(x: u32) -> u64
+    ensures { λ r. ⌜ (r ≡ x) × (r < 4294967296) ⌝ }
+{
+    x as u64
+}
+
+// Whether window k ends past 2^32.
+fn past_top(b: Bus, k: usize) -> bool
+    requires { ⌜ k < 8 ⌝ }
+    ensures { λ r. ⌜ r ≡ pastTop b k ⌝ }
+{
+    let from = wide(b.starts[k]);
+    let size = wide(b.lengths[k]);
+    4294967296 < from + size
+}
+
+// Whether one of the first `left` windows does.
+fn any_past(b: Bus, left: u32) -> bool
+    requires { ⌜ left ≤ 8 ⌝ }
+    ensures { λ r. ⌜ r ≡ anyPast b left ⌝ }
+{
+    if left == 0 {
+        return false;
+    }
+    let k = (left - 1) as usize;
+    if past_top(b, k) {
+        return true;
+    }
+    any_past(b, left - 1)
+}
+
+// 6, where a store is lent.
+pub fn bad_windows(lent: bool, b: Bus) -> bool
+    ensures { λ r. ⌜ r ≡ badWindows lent b ⌝ }
+{
+    let n = b.windows;
+    if lent {
+        if 8 < n {
+            return true;
+        }
+        return any_past(b, n);
+    }
+    false
+}
+
+// 7, for a log of `len` words, where one is lent.
+pub fn short_log(lent: bool, len: usize) -> bool
+    ensures { λ r. ⌜ r ≡ shortLog lent len ⌝ }
+{
+    if lent {
+        return len < 192;
+    }
+    false
+}
+
+// 8.
+pub fn bad_vector(v: u32) -> bool
+    ensures { λ r. ⌜ r ≡ badVector v ⌝ }
+{
+    255 < v
+}
+
+// 9.
+pub fn bad_kind(floating: bool, c: Cpu) -> bool
+    ensures { λ r. ⌜ r ≡ badKind floating c ⌝ }
+{
+    let k = cpu::fields::kind(c);
+    if 11 < k {
+        return true;
+    }
+    if floating {
+        return k != 11;
+    }
+    false
+}
+
+// The lowest number that refuses a call given this matter, on a store of `stored` bytes and a log of `logged` words; or 0.
+pub fn refusal(m: Core, stored: usize, logged: usize, x: Matter) -> u32
+    ensures { λ r. ⌜ r ≡ refusalOf m stored logged x ⌝ }
+{
+    let c = m.cpu;
+    let b = m.bus;
+    if bad_flags(c) {
+        return 1;
+    }
+    if odd_base(c) {
+        return 2;
+    }
+    if bad_cycles(x.interrupt, c) {
+        return 3;
+    }
+    if bad_code(c) {
+        return 4;
+    }
+    if bad_store(x.lent, b, stored) {
+        return 5;
+    }
+    if bad_windows(x.lent, b) {
+        return 6;
+    }
+    if short_log(x.lent, logged) {
+        return 7;
+    }
+    if bad_vector(x.vector) {
+        return 8;
+    }
+    if bad_kind(x.floating, c) {
+        return 9;
+    }
+    0
+}
