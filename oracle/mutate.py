@@ -275,7 +275,7 @@ class Bench:
     def build(self, text):
         with open(os.path.join(self.dir, "lifted", "lifted.rs"), "w", encoding="utf-8") as f:
             f.write(text)
-        done = subprocess.run(["cargo", "build", "-q", "--offline", "--manifest-path",
+        done = subprocess.run(["cargo", "build", "-q", "--offline", "--bin", "oracle", "--manifest-path",
                                os.path.join(HERE, "Cargo.toml")], env=self.env,
                               stdout=subprocess.DEVNULL, stderr=subprocess.PIPE, text=True)
         return done.returncode == 0, done.stderr

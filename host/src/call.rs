@@ -127,7 +127,7 @@ impl Call {
         }
     }
 
-    fn to_mirror(self) -> mirror::RawCall {
+    pub(crate) fn to_mirror(self) -> mirror::RawCall {
         let (number, [a, b, c, d, e]) = self.numbers();
         mirror::RawCall { number, a, b, c, d, e }
     }

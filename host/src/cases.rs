@@ -17,10 +17,10 @@ const UNWRITTEN: u32 = 0xA5C3_96F0;
 
 /// Answers cases; its buffers serve one case after the other.
 pub struct Cases {
-    bus: Bus,
-    store: Vec<u8>,
+    pub(crate) bus: Bus,
+    pub(crate) store: Vec<u8>,
     before: Vec<u8>,
-    log: Vec<u32>,
+    pub(crate) log: Vec<u32>,
 }
 
 /// What a line says beside the call.
@@ -72,14 +72,25 @@ impl Cases {
         if refused == NO_SUCH_CALL {
             return Err("not available".into());
         }
+        self.show(&before, &after, (refused, value), out)
+    }
+
+    /// The answer in text: what the call said, and what it left of record, store and log.
+    pub(crate) fn show(
+        &self,
+        before: &Record,
+        after: &Record,
+        (refused, value): (u32, u32),
+        out: &mut Vec<u8>,
+    ) -> Result<(), String> {
         let events = self.events()?;
         write!(out, "refused={refused} ans={value} nev={} ev=", self.bus.events).unwrap();
         show_events(out, events);
         out.extend_from_slice(b" rows=- chg=");
         show_changes(out, &self.before, &self.store);
         out.extend_from_slice(b" status=");
-        leaf::get_sr(&after).show(out);
-        show_changed(out, &before, &after);
+        leaf::get_sr(after).show(out);
+        show_changed(out, before, after);
         Ok(())
     }
 
@@ -97,7 +108,7 @@ impl Cases {
 
     /// Reads an input: the call, if there is such a one here, and the record; bus, store and log are
     /// laid ready.
-    fn read(&mut self, input: &str) -> Result<(Option<Call>, Record), String> {
+    pub(crate) fn read(&mut self, input: &str) -> Result<(Option<Call>, Record), String> {
         let mut pairs = [(0, ""); NAMES.len()];
         let (mut count, mut seen, mut next) = (0, 0u64, 0);
         for part in input.split(' ') {

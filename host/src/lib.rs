@@ -3,7 +3,7 @@
 //! The work is done by functions of a static library that is proved and compiled from Rattle. This
 //! crate has the types, the conversions and the one place where the library is called. [`call`]
 //! performs a call on a [`Record`] and a [`Bus`]; [`leaf`] has small functions on the record alone;
-//! [`cases`] answers test cases in text.
+//! [`cases`] answers test cases in text; [`measure`] makes one call over and over.
 //!
 //! ```
 //! use m68k_host::{Record, leaf};
@@ -21,6 +21,7 @@ mod bus;
 mod call;
 pub mod cases;
 pub mod leaf;
+pub mod measure;
 mod mirror;
 mod record;
 

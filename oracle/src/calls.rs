@@ -117,7 +117,7 @@ fn lifted_call(case: &Case, out: &mut Outcome) {
 }
 
 /// The runs of bytes that differ.
-fn changes(before: &[u8], bus: &Bus) -> Vec<(u32, Vec<u8>)> {
+pub(crate) fn changes(before: &[u8], bus: &Bus) -> Vec<(u32, Vec<u8>)> {
     let mut runs: Vec<(u32, Vec<u8>)> = vec![];
     let (first, end) = bus.written;
     for (at, &byte) in bus.bytes.iter().enumerate().take(end).skip(first) {

@@ -8,6 +8,7 @@ pub mod calls;
 pub mod case;
 pub mod generate;
 pub mod leaf;
+pub mod measure;
 pub mod record;
 pub mod rng;
 pub mod stubs;
