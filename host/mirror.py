@@ -4,8 +4,10 @@
 usage: mirror.py [--check] [--crates FOLDER]
 
 --check writes nothing and fails if src/mirror.rs is not what the sources give. --crates names the
-folder of the Rattle crates; without it, ../crates. Sizes and offsets are worked out here by the
-rules of C and asserted in the Rust, so that two readings of the layout are compared.
+folder of the Rattle crates, beside which crates.txt stands; without it, ../crates. The functions are
+those that the crate `boundary` exports, the structs those that they take, give or hold inside. Sizes and
+offsets are worked out here by the rules of C and asserted in the Rust, so that two readings of the
+layout are compared.
 """
 
 import pathlib
@@ -13,7 +15,7 @@ import re
 import sys
 
 HERE = pathlib.Path(__file__).resolve().parent
-CRATES = ["cpu", "memory", "boundary"]
+BOUNDARY = "boundary"
 SCALARS = {"bool": 1, "u8": 1, "i8": 1, "u16": 2, "i16": 2, "u32": 4, "i32": 4, "u64": 8, "i64": 8, "usize": 8}
 
 STRUCT = re.compile(r"#\[repr\(C\)\]\s*pub struct (\w+)\s*\{([^}]*)\}")
@@ -40,6 +42,18 @@ def source(crates, name):
     if not files:
         raise Bad(f"no Rattle source in crates/{name}/src")
     return "\n".join(re.sub(r"//[^\n]*", "", f.read_text()) for f in files)
+
+
+def used(crates):
+    """The crates of this repository that the boundary uses, lowest first, and the boundary."""
+    deps = {}
+    for line in (crates.parent / "crates.txt").read_text().splitlines():
+        name, _, rest = line.split("#")[0].partition(":")
+        if name.strip():
+            deps[name.strip()] = rest.split()
+    if BOUNDARY not in deps:
+        raise Bad(f"crates.txt has no crate {BOUNDARY}")
+    return [name for name in reversed(deps[BOUNDARY]) if name in deps] + [BOUNDARY]
 
 
 def bare(path):
@@ -111,20 +125,33 @@ def declaration(name, given, answer):
     return [f"    pub fn {name}(", *(f"        {parameter}," for parameter in given), f"    ){answer};"]
 
 
+def inside(layout, kind):
+    """The structs that a type is made of, innermost first, itself last."""
+    array = ARRAY.match(kind)
+    name = bare(array[1] if array else kind)
+    if name in SCALARS or name not in layout.structs:
+        return []
+    return [s for _, field in layout.structs[name] for s in inside(layout, field)] + [name]
+
+
 def mirror(crates):
     """The text of src/mirror.rs."""
-    layout, out, exports = Layout(), [HEAD], []
-    for crate in CRATES:
+    layout, out = Layout(), [HEAD]
+    for crate in used(crates):
         text = source(crates, crate)
         for name, body in STRUCT.findall(text):
             if name in layout.structs:
                 raise Bad(f"two structs {name}")
             layout.structs[name] = list(pairs(body))
-            out.append("#[repr(C)]\n#[derive(Clone, Copy, Debug, PartialEq, Eq)]")
-            out.append(f"pub struct {name} {{")
-            out += [f"    pub {field}: {rust_type(kind)}," for field, kind in layout.structs[name]]
-            out.append("}\n")
-        exports += EXPORT.findall(text)
+    exports = EXPORT.findall(text)
+    kinds = [kind for _, args, _, _ in exports for _, kind in pairs(args)] + [answer for _, _, answer, _ in exports]
+    needed = {name for kind in kinds for name in inside(layout, kind)}
+    layout.structs = {name: fields for name, fields in layout.structs.items() if name in needed}
+    for name, fields in layout.structs.items():
+        out.append("#[repr(C)]\n#[derive(Clone, Copy, Debug, PartialEq, Eq)]")
+        out.append(f"pub struct {name} {{")
+        out += [f"    pub {field}: {rust_type(kind)}," for field, kind in fields]
+        out.append("}\n")
     for name in layout.structs:
         size, align, offsets = layout.struct(name)
         out.append(f"const _: () = assert!(size_of::<{name}>() == {size} && align_of::<{name}>() == {align});")

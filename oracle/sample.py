@@ -1,10 +1,10 @@
 #!/usr/bin/env python3
-"""sample.py SEED COUNT OUT [ORACLE]: recorded answers of the oracle, for crates/replay.
+"""sample.py SEED ACCEPTED REFUSED OUT [ORACLE]: recorded answers of the oracle, for crates/replay.
 
-Takes accepted cases of `oracle gen SEED ..` whose store has at most 512 bytes and whose log has 192 words, spread evenly over
-the calls and the kinds, asks `oracle run` for each answer, and writes them to OUT (crates/replay/data/sample.bin), with how it was
-done in README.txt beside it. ORACLE is the binary, by default target/oracle/release/oracle. The same seed, count and oracle give the
-same bytes.
+Takes cases of `oracle gen SEED ..` whose store has at most 512 bytes and whose log has at most 192 words, asks `oracle run` for each
+answer, and writes them to OUT (crates/replay/data/sample.bin), with how it was done in README.txt beside it: so many that are
+accepted, spread evenly over the calls and the kinds, then so many that are refused, spread over the numbers, then the calls and the kinds.
+ORACLE is the binary, by default target/oracle/release/oracle. The same seed, counts and oracle give the same bytes.
 
 A case is two bytes of length (high byte first) and so many bytes: numbers of one to five bytes. A byte below 251 is the number;
 251 stands for ffffffff; 252, 253 and 254 come before one, two and four bytes, high byte first. In this order:
@@ -14,7 +14,8 @@ A case is two bytes of length (high byte first) and so many bytes: numbers of on
   bytes      pairs: the bytes of the store that the call changed
   log        the words of the events, three each
 Pairs are a count, and for each how far on its place is from the one before (the first: from 0) and its value; the log is a count and
-its words. The words' places are WORDS below and in crates/replay/src/record.rt.
+its words. The words' places are WORDS below and in crates/replay/src/record.rt. Every fourth case starts with a count of events in
+its bus, as an earlier call would leave it: an accepted call does not mind it, a refused one leaves it.
 """
 import collections
 import hashlib
@@ -47,7 +48,11 @@ OPTIONS = [('instruction_exception_vector', 69, 1), ('last_exception_vector', 71
            ('fault_resume', 77, 18)]
 KIND, CYCLES = 45, 51
 BASE, WINDOWS, STARTS, LENGTHS, RESPONSES, EVENTS, LENGTH, FILL = 96, 97, 98, 106, 114, 122, 123, 124
-REFUSED, ANSWER, NUMBER, ARGUMENTS = 125, 126, 128, 129
+# What the call says: its refusal, answer and number of events. EVENTS above is the count that the bus holds.
+REFUSED, ANSWER, SAID_EVENTS = 125, 126, 127
+NUMBER, ARGUMENTS = 128, 129
+# Words that the lent log has less than 192.
+LACKING = 134
 WORDS = 136
 
 
@@ -86,7 +91,8 @@ def start_words(f):
     words[BASE] = int(f['base'], 16)
     windows = [w.split(':') for w in items(f['win'])]
     words[WINDOWS] = len(windows)
-    for i, (start, length) in enumerate(windows):
+    # More than eight are refused for their number, and the bus has no place for them.
+    for i, (start, length) in enumerate(windows[:8]):
         words[STARTS + i] = int(start, 16)
         words[LENGTHS + i] = int(length, 16)
     words[RESPONSES:RESPONSES + 8] = [int(x, 16) for x in f['ack'].split('.')]
@@ -96,6 +102,7 @@ def start_words(f):
     words[NUMBER] = CALLS.index(call[0]) + 1
     for i, x in enumerate(call[1:]):
         words[ARGUMENTS + i] = int(x, 16)
+    words[LACKING] = LOG - int(f['log'])
     return words
 
 
@@ -143,29 +150,57 @@ def pairs(old, new):
     return number(count) + out
 
 
-def encode(f, o):
+def encode(f, o, held):
+    """The bytes of a case that starts with a count of events in its bus."""
     words = start_words(f)
+    words[EVENTS] = held
     filled, n = filling(f)
     store = bytearray(filled)
     lay(store, n, f['patch'])
     after = list(words)
     put_record(after, o)
-    after[EVENTS] = int(o['nev'])
+    after[SAID_EVENTS] = int(o['nev'])
     after[REFUSED] = int(o['refused'])
+    if after[REFUSED] == 0:
+        after[EVENTS] = after[SAID_EVENTS]
     after[ANSWER] = int(o['ans']) % 2**32
     changed = bytearray(store)
     lay(changed, n, o['chg'])
     log = [int(x, 16) for e in items(o['ev']) for x in e.split(':')]
-    if len(log) != 3 * after[EVENTS] or len(log) > LOG:
-        raise SystemExit('sample.py: %d log words of %d events' % (len(log), after[EVENTS]))
+    if len(log) != 3 * after[SAID_EVENTS] or len(log) > LOG:
+        raise SystemExit('sample.py: %d log words of %d events' % (len(log), after[SAID_EVENTS]))
     case = pairs([0] * WORDS, words) + pairs(filled, store) + pairs(words, after) + pairs(store, changed)
     case += number(len(log)) + b''.join(number(x) for x in log)
     return case
 
 
-def wanted(f, o):
-    return (o['refused'] == '0' and f['call'].split(':')[0] in CALLS and int(f['kind']) < 12 and int(f['len']) <= STORE
-            and int(f['log']) == LOG)
+def wanted(f):
+    return f['call'].split(':')[0] in CALLS and int(f['len']) <= STORE and int(f['log']) <= LOG
+
+
+def turns(lists):
+    """One of each list in turn, as long as any has one left."""
+    for turn in range(max(map(len, lists), default=0)):
+        yield from (one[turn] for one in lists if turn < len(one))
+
+
+def spread(cells):
+    """The cases of one number: turn by turn one of each call, of another kind each time and from call to call."""
+    by_call = collections.defaultdict(dict)
+    for (call, kind), cases in cells.items():
+        by_call[call][kind] = cases
+    lists = []
+    for call in sorted(by_call, key=CALLS.index):
+        kinds = sorted(by_call[call])
+        first = len(lists) % len(kinds)
+        lists.append(list(turns([by_call[call][kind] for kind in kinds[first:] + kinds[:first]])))
+    return list(turns(lists))
+
+
+def take(name, count, cases):
+    if len(cases) < count:
+        raise SystemExit('sample.py: only %d cases that are %s' % (len(cases), name))
+    return cases[:count]
 
 
 def run(oracle, words, text=None):
@@ -174,53 +209,53 @@ def run(oracle, words, text=None):
 
 
 def main():
-    if len(sys.argv) not in (4, 5):
-        raise SystemExit('usage: sample.py SEED COUNT OUT [ORACLE]')
-    seed, count, out = sys.argv[1], int(sys.argv[2]), sys.argv[3]
-    oracle = sys.argv[4] if len(sys.argv) == 5 else os.path.join(ROOT, 'target/oracle/release/oracle')
-    made = count * 40
-    cells = collections.defaultdict(list)
+    if len(sys.argv) not in (5, 6):
+        raise SystemExit('usage: sample.py SEED ACCEPTED REFUSED OUT [ORACLE]')
+    seed, accepted, refused, out = sys.argv[1], int(sys.argv[2]), int(sys.argv[3]), sys.argv[4]
+    oracle = sys.argv[5] if len(sys.argv) == 6 else os.path.join(ROOT, 'target/oracle/release/oracle')
+    made = (accepted + refused) * 60
+    cells = collections.defaultdict(lambda: collections.defaultdict(list))
     for line in run(oracle, ['gen', seed, str(made)]):
         given, answer = line.split(' => ')
         f = fields(given)
-        if wanted(f, fields(answer)):
-            cells[(f['call'].split(':')[0], int(f['kind']))].append(given)
-    # Turn by turn one case of each call and kind that has one left.
-    chosen = []
-    turn = 0
-    keys = sorted(cells, key=lambda k: (CALLS.index(k[0]), k[1]))
-    while len(chosen) < count:
-        some = [(k, cells[k][turn]) for k in keys if turn < len(cells[k])]
-        if not some:
-            raise SystemExit('sample.py: only %d cases in %d' % (len(chosen), made))
-        chosen += some
-        turn += 1
-    chosen = chosen[:count]
-    answers = run(oracle, ['run'], '\n'.join(given for _, given in chosen) + '\n')
+        if wanted(f):
+            cells[int(fields(answer)['refused'])][(f['call'].split(':')[0], int(f['kind']))].append(given)
+    first = cells.pop(0)
+    chosen = take('accepted', accepted, list(turns([first[k] for k in sorted(first, key=lambda k: (CALLS.index(k[0]), k[1]))])))
+    chosen += take('refused', refused, list(turns([spread(cells[number]) for number in sorted(cells)])))
+    answers = run(oracle, ['run'], '\n'.join(chosen) + '\n')
     data = bytearray()
-    by_call = collections.Counter()
-    by_kind = collections.Counter()
-    for (key, given), answer in zip(chosen, answers, strict=True):
-        case = encode(fields(given), fields(answer))
+    counts = collections.defaultdict(collections.Counter)
+    for i, (given, answer) in enumerate(zip(chosen, answers, strict=True)):
+        f, o = fields(given), fields(answer)
+        case = encode(f, o, 0 if i % 4 else 1 + i % 300)
         if len(case) > CASE:
             raise SystemExit('sample.py: a case of %d bytes: %s' % (len(case), given))
         data += len(case).to_bytes(2, 'big') + case
-        by_call[key[0]] += 1
-        by_kind[key[1]] += 1
+        answered = 'refused' if int(o['refused']) else 'accepted'
+        counts['call'][(CALLS.index(f['call'].split(':')[0]), answered)] += 1
+        counts['kind'][(int(f['kind']), answered)] += 1
+        counts['number'][int(o['refused'])] += 1
     with open(out, 'wb') as file:
         file.write(data)
     with open(os.path.join(HERE, 'LIFTED.txt'), 'rb') as file:
         lifted = hashlib.sha256(file.read()).hexdigest()
-    lines = ['sample.bin: %d recorded answers of the oracle, %d bytes. The format is at the head of oracle/sample.py.' % (count, len(data)),
-             'Made by: oracle/sample.py %s %d %s' % (seed, count, os.path.relpath(os.path.abspath(out), ROOT)),
-             'from the accepted cases of `oracle gen %s %d` with a store of at most %d bytes, answered by `oracle run`.' % (seed, made, STORE),
+    lines = ['sample.bin: %d recorded answers of the oracle, %d of them refusals, %d bytes. The format is at the head of oracle/sample.py.'
+             % (accepted + refused, refused, len(data)),
+             'Made by: oracle/sample.py %s %d %d %s' % (seed, accepted, refused, os.path.relpath(os.path.abspath(out), ROOT)),
+             'from the cases of `oracle gen %s %d` with a store of at most %d bytes and a log of at most %d words, answered by `oracle run`.'
+             % (seed, made, STORE, LOG),
              'SHA-256 of sample.bin: ' + hashlib.sha256(data).hexdigest(),
              'SHA-256 of oracle/LIFTED.txt (what the oracle runs): ' + lifted,
-             '', 'Cases by call:'] + ['  %-30s %d' % (c, by_call[c]) for c in CALLS if by_call[c]]
-    lines += ['Cases by kind:'] + ['  %-30d %d' % (k, by_kind[k]) for k in sorted(by_kind)]
+             '', 'Cases by call, accepted and refused:']
+    lines += ['  %-30s %5d %5d' % (c, counts['call'][(i, 'accepted')], counts['call'][(i, 'refused')]) for i, c in enumerate(CALLS)]
+    lines += ['Cases by kind, accepted and refused:']
+    kinds = sorted({kind for kind, _ in counts['kind']})
+    lines += ['  %-30d %5d %5d' % (k, counts['kind'][(k, 'accepted')], counts['kind'][(k, 'refused')]) for k in kinds]
+    lines += ['Cases by refusal, 0 for none:'] + ['  %-30d %5d' % (n, counts['number'][n]) for n in sorted(counts['number'])]
     with open(os.path.join(os.path.dirname(os.path.abspath(out)), 'README.txt'), 'w') as file:
         file.write('\n'.join(lines) + '\n')
-    print('%d cases, %d bytes; cells filled: %d' % (count, len(data), len(keys)))
+    print('%d accepted, %d refused, %d bytes; cells filled: %d' % (accepted, refused, len(data), len(first)))
 
 
 if __name__ == '__main__':

@@ -22,7 +22,8 @@ pub struct Bus {
     pub windows: Vec<Window>,
     /// What the acknowledge of each level answers; 0xFFFFFFFF for no vector.
     pub responses: [u32; 8],
-    /// Events of the last call: it wrote three words of the log for each.
+    /// Events of the last call that was accepted: it wrote three words of the log for each. A call
+    /// starts its log anew, whatever stands here.
     pub events: u32,
 }
 
@@ -34,8 +35,8 @@ impl Default for Bus {
 }
 
 impl Bus {
-    /// The bus as the boundary takes it, with no event yet. Windows after the eighth are only
-    /// counted: the call is refused for their number.
+    /// The bus as the boundary takes it. Windows after the eighth are only counted: the call is
+    /// refused for their number.
     pub(crate) fn to_mirror(&self) -> mirror::Bus {
         let mut raw = mirror::Bus {
             base: self.base,
@@ -43,7 +44,7 @@ impl Bus {
             starts: [0; 8],
             lengths: [0; 8],
             responses: self.responses,
-            events: 0,
+            events: self.events,
         };
         for (i, window) in self.windows.iter().take(8).enumerate() {
             raw.starts[i] = window.start;

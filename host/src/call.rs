@@ -143,7 +143,8 @@ pub struct Answer {
     pub events: u32,
 }
 
-/// Why a call was refused. It left record, store and log as they came.
+/// Why a call was refused: the lowest number of those that apply. The call left record, bus, store and
+/// log as they came.
 #[derive(Debug, Clone, Copy, PartialEq, Eq)]
 pub enum Refusal {
     /// 1: `s_flag` is not 0 or 4, or `m_flag` is not 0 or 2.
@@ -164,7 +165,7 @@ pub enum Refusal {
     Vector,
     /// 9: the kind is above 11, or a floating-point entry meets another kind than 11.
     Kind,
-    /// Any other number: 99 where the archive does not have the call.
+    /// Any other number: 99 where no call has the number that was asked for.
     Other(u32),
 }
 
@@ -223,10 +224,50 @@ impl fmt::Display for Refusal {
 
 impl std::error::Error for Refusal {}
 
+/// What the boundary says of a call beside what it leaves.
+pub(crate) struct Said {
+    pub(crate) refused: u32,
+    pub(crate) answer: u32,
+    pub(crate) events: u32,
+}
+
+/// Hands a call over the boundary; record and bus are then what came back.
+pub(crate) fn ask(
+    record: &mut Record,
+    bus: &mut Bus,
+    store: &mut [u8],
+    log: &mut [u32],
+    call: Call,
+) -> Said {
+    let core = mirror::Core { cpu: record.to_mirror(), bus: bus.to_mirror() };
+    // Sound: the function is proved for every record, bus, store, log and call, and asks nothing of
+    // its caller but what the types say. The structs have the layout that it was compiled for
+    // (mirror.rs is made from its source and asserts sizes and offsets), their bools are Rust's, and
+    // both slices are borrowed here for longer than the call, which keeps no pointer.
+    let raw = unsafe {
+        mirror::m68k_call(
+            core,
+            store.as_mut_ptr(),
+            store.len(),
+            log.as_mut_ptr(),
+            log.len(),
+            call.to_mirror(),
+        )
+    };
+    debug_assert_eq!(
+        mirror::Bus { events: bus.events, ..raw.core.bus },
+        core.bus,
+        "{call:?} changed the bus"
+    );
+    *record = Record::from_mirror(&raw.core.cpu);
+    bus.events = raw.core.bus.events;
+    Said { refused: raw.refused, answer: raw.answer, events: raw.events }
+}
+
 /// Performs a call on the record and the bus, over a lent store and a lent log.
 ///
 /// After it `bus.events` is the number of events, also given in the answer; nothing else of the
-/// bus changes. A call that is refused leaves record, store and log as they came.
+/// bus changes. A call that is refused leaves record, bus, store and log as they came.
 ///
 /// # Examples
 ///
@@ -255,31 +296,10 @@ pub fn call(
     log: &mut [u32],
     call: Call,
 ) -> Result<Answer, Refusal> {
-    let core = mirror::Core { cpu: record.to_mirror(), bus: bus.to_mirror() };
-    // Sound: the function is proved for every record, bus, store, log and call, and asks nothing of
-    // its caller but what the types say. The structs have the layout that it was compiled for
-    // (mirror.rs is made from its source and asserts sizes and offsets), their bools are Rust's, and
-    // both slices are borrowed here for longer than the call, which keeps no pointer.
-    let raw = unsafe {
-        mirror::m68k_call(
-            core,
-            store.as_mut_ptr(),
-            store.len(),
-            log.as_mut_ptr(),
-            log.len(),
-            call.to_mirror(),
-        )
-    };
-    debug_assert_eq!(
-        mirror::Bus { events: 0, ..raw.core.bus },
-        core.bus,
-        "{call:?} changed the bus"
-    );
-    *record = Record::from_mirror(&raw.core.cpu);
-    bus.events = raw.core.bus.events;
-    match Refusal::from_number(raw.refused) {
+    let said = ask(record, bus, store, log, call);
+    match Refusal::from_number(said.refused) {
         Some(refusal) => Err(refusal),
-        None => Ok(Answer { value: raw.answer, events: bus.events }),
+        None => Ok(Answer { value: said.answer, events: said.events }),
     }
 }
 
@@ -302,19 +322,35 @@ mod tests {
                 base: next(),
                 windows: vec![Window { start: next(), length: next() }; round % 11],
                 responses: std::array::from_fn(|_| next()),
-                events: 0,
+                events: next(),
             };
             let core = mirror::Core { cpu: record.to_mirror(), bus: bus.to_mirror() };
             let call = mirror::RawCall { number: 1000, a: 1, b: 2, c: 3, d: 4, e: 5 };
             let (mut store, mut log) = ([1, 2, 3, 4], [5, 6, 7]);
-            // Sound as in `call`.
+            // Sound as in `ask`.
             let raw = unsafe {
                 mirror::m68k_call(core, store.as_mut_ptr(), 4, log.as_mut_ptr(), 3, call)
             };
-            assert!(raw.refused != 0 && raw.answer == 0);
+            assert!(raw.refused != 0 && raw.answer == 0 && raw.events == 0);
             assert_eq!(raw.core, core);
             assert_eq!(Record::from_mirror(&raw.core.cpu), record);
             assert_eq!((store, log), ([1, 2, 3, 4], [5, 6, 7]));
+        }
+    }
+
+    /// Where nothing else is wrong the number is 99.
+    #[test]
+    fn an_unknown_number_is_99() {
+        let core =
+            mirror::Core { cpu: Record::fresh(4).to_mirror(), bus: Bus::default().to_mirror() };
+        for number in [0, 99, u32::MAX] {
+            let call = mirror::RawCall { number, a: 0, b: 0, c: 0, d: 0, e: 0 };
+            let (mut store, mut log) = ([0; 64], [0; 192]);
+            // Sound as in `ask`.
+            let raw = unsafe {
+                mirror::m68k_call(core, store.as_mut_ptr(), 64, log.as_mut_ptr(), 192, call)
+            };
+            assert_eq!((raw.refused, raw.answer, raw.events, raw.core), (99, 0, 0, core));
         }
     }
 }

@@ -1,25 +1,33 @@
 //! Test cases in text: a line says a call, a record and a store; the answer says what came of it.
 
-use crate::{Bus, Call, Cause, Record, Resume, Window, call, leaf};
+use crate::call::{Said, ask};
+use crate::{Bus, Call, Cause, Record, Resume, Window, leaf};
+use std::hint::black_box;
 use std::io::Write;
 
 /// The answer to a call that this crate does not have.
 pub const NOT_AVAILABLE: &str = "error: not available";
 
-/// The number of a refusal by an archive that does not have the call.
-const NO_SUCH_CALL: u32 = 99;
-/// Most bytes of a store that is accepted; a longer one is lent with one byte more.
-const STORE_LIMIT: u64 = 65_536;
+/// Most bytes of a store that is accepted, and that a case says the contents of.
+const STORE_LIMIT: usize = 65_536;
+/// Most bytes that are lent, whatever the case says.
+const LONG_LIMIT: usize = 1 << 32;
 /// Most words that are lent as a log, whatever the case says: no call writes nearly as many.
 const LOG_LIMIT: u32 = 65_536;
 /// What the log holds before a call.
 const UNWRITTEN: u32 = 0xA5C3_96F0;
 
-/// Answers cases; its buffers serve one case after the other.
+/// Answers cases; its buffers serve one case after the other. The bus keeps the number of events of
+/// the case before, which a call must not mind.
 pub struct Cases {
     pub(crate) bus: Bus,
+    /// The bytes that a case says, 65,536 at most.
     pub(crate) store: Vec<u8>,
     before: Vec<u8>,
+    /// Bytes that are lent.
+    len: u64,
+    /// What is lent of a longer store: zero after the bytes that the case says.
+    long: Vec<u8>,
     pub(crate) log: Vec<u32>,
 }
 
@@ -44,7 +52,8 @@ impl Default for Cases {
 impl Cases {
     /// Buffers for cases.
     pub fn new() -> Cases {
-        Cases { bus: Bus::default(), store: vec![], before: vec![], log: vec![] }
+        let (store, before, long, log) = (vec![], vec![], vec![], vec![]);
+        Cases { bus: Bus::default(), store, before, len: 0, long, log }
     }
 
     /// Puts the answer of a line into `out`, without a line end; what follows ` => ` is not looked at.
@@ -64,15 +73,36 @@ impl Cases {
             return Err("not available".into());
         };
         let mut after = before.clone();
-        let done = call(&mut after, &mut self.bus, &mut self.store, &mut self.log, wanted);
-        let (refused, value) = match done {
-            Ok(answer) => (0, answer.value),
-            Err(refusal) => (refusal.number(), 0),
+        let held = self.bus.events;
+        let said = if self.len > STORE_LIMIT as u64 {
+            self.ask_long(&mut after, wanted)?
+        } else {
+            ask(&mut after, &mut self.bus, &mut self.store, &mut self.log, wanted)
         };
-        if refused == NO_SUCH_CALL {
-            return Err("not available".into());
+        if self.bus.events != if said.refused == 0 { said.events } else { held } {
+            return Err(format!("the bus counts {} events", self.bus.events));
         }
-        self.show(&before, &after, (refused, value), out)
+        self.show(&before, &after, &said, out)
+    }
+
+    /// A call on a store that is longer than any that is accepted, really lent.
+    fn ask_long(&mut self, record: &mut Record, wanted: Call) -> Result<Said, String> {
+        if self.long.is_empty() {
+            self.long = room();
+        }
+        let len = self.long.len().min(usize::try_from(self.len).unwrap_or(usize::MAX));
+        let long = &mut self.long[..len];
+        long[..STORE_LIMIT].copy_from_slice(&self.store);
+        let said = ask(record, &mut self.bus, long, &mut self.log, wanted);
+        self.store.copy_from_slice(&long[..STORE_LIMIT]);
+        // Of a very long one, its ends: the rest was never touched and is not to be.
+        let rest = &long[STORE_LIMIT..];
+        let ends =
+            [&rest[..rest.len().min(STORE_LIMIT)], &rest[rest.len().saturating_sub(STORE_LIMIT)..]];
+        if ends.iter().any(|end| end.iter().any(|&byte| byte != 0)) {
+            return Err("the store was written behind its first 65,536 bytes".into());
+        }
+        Ok(said)
     }
 
     /// The answer in text: what the call said, and what it left of record, store and log.
@@ -80,11 +110,12 @@ impl Cases {
         &self,
         before: &Record,
         after: &Record,
-        (refused, value): (u32, u32),
+        said: &Said,
         out: &mut Vec<u8>,
     ) -> Result<(), String> {
-        let events = self.events()?;
-        write!(out, "refused={refused} ans={value} nev={} ev=", self.bus.events).unwrap();
+        let events = self.events(said.events)?;
+        let Said { refused, answer, events: count } = said;
+        write!(out, "refused={refused} ans={answer} nev={count} ev=").unwrap();
         show_events(out, events);
         out.extend_from_slice(b" rows=- chg=");
         show_changes(out, &self.before, &self.store);
@@ -95,8 +126,8 @@ impl Cases {
     }
 
     /// The words of the events; all behind them must be as they were.
-    fn events(&self) -> Result<&[u32], String> {
-        let words = (self.bus.events as usize).saturating_mul(3);
+    fn events(&self, count: u32) -> Result<&[u32], String> {
+        let words = (count as usize).saturating_mul(3);
         let Some((events, rest)) = self.log.split_at_checked(words) else {
             return Err("more events than the log has room for".into());
         };
@@ -111,9 +142,9 @@ impl Cases {
     pub(crate) fn read(&mut self, input: &str) -> Result<(Option<Call>, Record), String> {
         let mut pairs = [(0, ""); NAMES.len()];
         let (mut count, mut seen, mut next) = (0, 0u64, 0);
-        for part in input.split(' ') {
+        for part in parts(input, b' ') {
             let (name, value) =
-                part.split_once('=').ok_or_else(|| format!("`{part}` is no name=value"))?;
+                cut(part, b'=').ok_or_else(|| format!("`{part}` is no name=value"))?;
             let place = find(name, next).ok_or_else(|| format!("{name}: no such field"))?;
             if seen & 1 << place != 0 {
                 return Err(format!("`{name}` stands twice"));
@@ -130,10 +161,9 @@ impl Cases {
         self.bus.base = 0;
         self.bus.windows.clear();
         self.bus.responses = [u32::MAX; 8];
-        self.bus.events = 0;
         let record = Record::fresh(kind);
-        let bus = &mut self.bus;
-        let mut draft = Draft { record, len: STORE_LIMIT, fill: 0, patch: "-", log: 192, bus };
+        let (len, bus) = (STORE_LIMIT as u64, &mut self.bus);
+        let mut draft = Draft { record, len, fill: 0, patch: "-", log: 192, bus };
         for &(place, value) in pairs {
             let (name, set) = NAMES[place];
             set(&mut draft, value).map_err(|e| format!("{name}: {e}"))?;
@@ -145,9 +175,10 @@ impl Cases {
         Ok((wanted, record))
     }
 
-    /// The store and a copy of it: length as claimed, fill and patches.
+    /// The store and a copy of it: fill and patches. Of a length over 65,536 the first 65,536 bytes.
     fn lay_store(&mut self, len: u64, fill: u32, patch: &str) -> Set {
-        let size = len.min(STORE_LIMIT) as usize;
+        let size = len.min(STORE_LIMIT as u64) as usize;
+        self.len = len;
         let store = &mut self.store;
         store.clear();
         store.resize(size, 0);
@@ -174,13 +205,22 @@ impl Cases {
                 }
             }
         }
-        if len > STORE_LIMIT {
-            store.push(0);
-        }
         self.before.clear();
         self.before.extend_from_slice(&self.store);
         Ok(())
     }
+}
+
+/// Room for long stores, zero and not touched, so that it costs addresses and no memory. Where there is
+/// none for 2^32 bytes, one more than is accepted must do.
+fn room() -> Vec<u8> {
+    let mut probe: Vec<u8> = vec![];
+    if probe.try_reserve_exact(LONG_LIMIT).is_ok() {
+        drop(black_box(probe));
+        return vec![0; LONG_LIMIT];
+    }
+    eprintln!("cases: no room for stores of more than {} bytes", STORE_LIMIT + 1);
+    vec![0; STORE_LIMIT + 1]
 }
 
 /// One value of the text format.
@@ -263,7 +303,7 @@ impl Value for i32 {
 impl<T: Value + Copy + Default, const N: usize> Value for [T; N] {
     fn read(s: &str) -> Result<Self, String> {
         let mut out = [T::default(); N];
-        let mut parts = s.split('.');
+        let mut parts = parts(s, b'.');
         for place in &mut out {
             *place = T::read(parts.next().ok_or_else(|| format!("`{s}` has not {N} values"))?)?;
         }
@@ -323,13 +363,30 @@ impl Value for Resume {
     }
 }
 
+/// What stands before and after the first separator. Parts are short: this is quicker than `split_once`.
+fn cut(s: &str, by: u8) -> Option<(&str, &str)> {
+    let at = s.bytes().position(|b| b == by)?;
+    Some((&s[..at], &s[at + 1..]))
+}
+
+/// The parts between separators.
+fn parts(s: &str, by: u8) -> impl Iterator<Item = &str> {
+    let mut rest = Some(s);
+    std::iter::from_fn(move || {
+        let s = rest?;
+        let (part, after) = cut(s, by).map_or((s, None), |(part, after)| (part, Some(after)));
+        rest = after;
+        Some(part)
+    })
+}
+
 fn pair(s: &str) -> Result<(&str, &str), String> {
-    s.split_once(':').ok_or_else(|| format!("`{s}` has no colon"))
+    cut(s, b':').ok_or_else(|| format!("`{s}` has no colon"))
 }
 
 /// The items of a list; `-` is the empty one.
 fn items(s: &str) -> impl Iterator<Item = &str> {
-    s.split(',').filter(move |_| s != "-")
+    parts(s, b',').filter(move |_| s != "-")
 }
 
 /// Where a name stands in `NAMES`; most often at the place that is looked at first.

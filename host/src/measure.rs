@@ -4,6 +4,7 @@
 //! call gets them by value, so what it costs to hand them over is the call's. Store and log are
 //! those of the first turn: an entry writes the same bytes and events every time.
 
+use crate::call::Said;
 use crate::cases::Cases;
 use crate::{Record, mirror};
 use std::hint::black_box;
@@ -31,10 +32,9 @@ pub fn calls(line: &str, turns: u32) -> Result<String, String> {
         black_box(&exported(core, &mut cases.store, &mut cases.log, call));
     }
     let raw = exported(start, &mut cases.store, &mut cases.log, call);
-    cases.bus.events = raw.core.bus.events;
+    let said = Said { refused: raw.refused, answer: raw.answer, events: raw.events };
     let mut out = vec![];
-    let after = Record::from_mirror(&raw.core.cpu);
-    cases.show(&before, &after, (raw.refused, raw.answer), &mut out)?;
+    cases.show(&before, &Record::from_mirror(&raw.core.cpu), &said, &mut out)?;
     String::from_utf8(out).map_err(|e| e.to_string())
 }
 
@@ -45,7 +45,7 @@ fn exported(
     log: &mut [u32],
     call: mirror::RawCall,
 ) -> mirror::RawAnswer {
-    // Sound as in `call`.
+    // Sound as in `ask`.
     unsafe {
         mirror::m68k_call(core, store.as_mut_ptr(), store.len(), log.as_mut_ptr(), log.len(), call)
     }

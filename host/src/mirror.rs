@@ -133,6 +133,7 @@ pub struct RawAnswer {
     pub core: Core,
     pub refused: u32,
     pub answer: u32,
+    pub events: u32,
 }
 
 const _: () = assert!(size_of::<OptionalVector>() == 8 && align_of::<OptionalVector>() == 4);
@@ -211,10 +212,11 @@ const _: () = assert!(offset_of!(RawCall, b) == 8);
 const _: () = assert!(offset_of!(RawCall, c) == 12);
 const _: () = assert!(offset_of!(RawCall, d) == 16);
 const _: () = assert!(offset_of!(RawCall, e) == 20);
-const _: () = assert!(size_of::<RawAnswer>() == 480 && align_of::<RawAnswer>() == 4);
+const _: () = assert!(size_of::<RawAnswer>() == 484 && align_of::<RawAnswer>() == 4);
 const _: () = assert!(offset_of!(RawAnswer, core) == 0);
 const _: () = assert!(offset_of!(RawAnswer, refused) == 472);
 const _: () = assert!(offset_of!(RawAnswer, answer) == 476);
+const _: () = assert!(offset_of!(RawAnswer, events) == 480);
 
 unsafe extern "C" {
     pub fn m68k_call(

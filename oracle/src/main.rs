@@ -49,7 +49,7 @@ fn numbers(seed: &str, count: &str, f: impl Fn(u64, u64) -> Done) -> Done {
 
 fn generated(seed: u64, count: u64) -> Done {
     let mut rng = Rng::new(seed);
-    let mut out = BufWriter::new(std::io::stdout().lock());
+    let mut out = BufWriter::with_capacity(1 << 18, std::io::stdout().lock());
     for _ in 0..count {
         let case = generate::case(&mut rng);
         writeln!(out, "{} => {}", format_case(&case), answer(&case)).map_err(text)?;
@@ -75,7 +75,7 @@ fn is_case(line: &str) -> bool {
 }
 
 fn answers() -> Done {
-    let mut out = BufWriter::new(std::io::stdout().lock());
+    let mut out = BufWriter::with_capacity(1 << 18, std::io::stdout().lock());
     for line in std::io::stdin().lock().lines() {
         let line = line.map_err(text)?;
         if is_case(&line) {

@@ -19,6 +19,14 @@ fn hex(s: &str) -> Result<u32, String> {
     Ok(u32::from_str_radix(s, 16).unwrap())
 }
 
+/// Bare lower-case hexadecimal, as `{:x}`; most of a case is such numbers, and this is quicker.
+fn show_hex(out: &mut String, number: u32) {
+    let digits = number.checked_ilog2().unwrap_or(0) / 4;
+    for i in (0..=digits).rev() {
+        out.push(char::from(b"0123456789abcdef"[(number >> (4 * i) & 15) as usize]));
+    }
+}
+
 fn decimal<T: std::str::FromStr>(s: &str) -> Result<T, String> {
     let digits = s.strip_prefix('-').unwrap_or(s);
     if digits.is_empty() || !digits.bytes().all(|b| b.is_ascii_digit()) {
@@ -33,7 +41,7 @@ macro_rules! hexadecimal {
             <$t>::try_from(hex(s)?).map_err(|_| format!("`{s}` is out of range"))
         }
         fn show(&self, out: &mut String) {
-            write!(out, "{self:x}").unwrap();
+            show_hex(out, (*self).into());
         }
     })* };
 }
@@ -401,7 +409,7 @@ pub fn changed(before: &Record, after: &Record) -> String {
 pub fn format(case: &Case, o: &Outcome) -> String {
     let mut out = String::new();
     write!(out, "refused={} ans={} nev={} ev=", o.refused, o.answer, o.events.len()).unwrap();
-    listed(&mut out, &o.events, |out, [c, a, v]| write!(out, "{c:x}:{a:x}:{v:x}").unwrap());
+    listed(&mut out, &o.events, |out, event| joined(out, ':', event, |out, v| v.show(out)));
     out.push_str(" rows=");
     listed(&mut out, &o.rows, |out, row: &Row| row.show(out));
     out.push_str(" chg=");

@@ -4,19 +4,27 @@ use m68k_host::cases::{Cases, NOT_AVAILABLE};
 use std::collections::BTreeMap;
 use std::io::{BufRead, BufReader, Read};
 use std::path::PathBuf;
-use std::process::{Child, Command, ExitCode, Stdio};
+use std::process::{Command, ExitCode, Stdio};
+use std::sync::Mutex;
+use std::sync::atomic::{AtomicBool, AtomicU64, Ordering::Relaxed};
+use std::thread;
 use std::time::{Duration, Instant};
 
-const USAGE: &str = "usage: compare --seed N --count M [--calls NAME,...] [--accepted] [--oracle PROGRAM]
-       compare --file FILE|- [--calls NAME,...] [--accepted]
+const USAGE: &str = "usage: compare --seed N --count M [--calls NAME,...] [--jobs J] [--oracle PROGRAM]
+       compare --file FILE|- [--calls NAME,...]
 
 Compares answers line by line and shows the first 10 differences. The cases are those of `oracle gen N M`
 (the program named by --oracle or ORACLE, else target/oracle/release/oracle of the repository), or the lines
-INPUT => OUTPUT of a file. Calls that are not available are counted and not compared; with --accepted neither are
-those that the oracle refuses.";
+INPUT => OUTPUT of a file. More than 50,000 are made in parts of 50,000, J at a time (as many as there are
+processors): part K, from 0 on, has the seed N + K * 2^32. Calls that are not available are counted and not
+compared. Exit status 1: a difference; 2: not all could be compared.";
 
 /// Differences that are shown.
 const SHOWN: u64 = 10;
+/// Cases of one run of the oracle.
+const PART: u64 = 50_000;
+/// Between two lines that say how far it is.
+const PAUSE: Duration = Duration::from_secs(5);
 
 #[derive(Default)]
 struct Options {
@@ -25,17 +33,13 @@ struct Options {
     file: Option<String>,
     oracle: Option<PathBuf>,
     calls: Vec<String>,
-    accepted: bool,
+    jobs: Option<u64>,
 }
 
 fn options() -> Option<Options> {
     let mut options = Options::default();
     let mut args = std::env::args().skip(1);
     while let Some(name) = args.next() {
-        if name == "--accepted" {
-            options.accepted = true;
-            continue;
-        }
         let value = args.next()?;
         match name.as_str() {
             "--seed" => options.seed = Some(value.parse().ok()?),
@@ -43,6 +47,7 @@ fn options() -> Option<Options> {
             "--file" => options.file = Some(value),
             "--oracle" => options.oracle = Some(value.into()),
             "--calls" => options.calls = value.split(',').map(String::from).collect(),
+            "--jobs" => options.jobs = Some(value.parse().ok().filter(|&jobs| jobs > 0)?),
             _ => return None,
         }
     }
@@ -65,8 +70,8 @@ fn main() -> ExitCode {
         return ExitCode::from(2);
     };
     match run(&options) {
-        Ok(true) => ExitCode::SUCCESS,
-        Ok(false) => ExitCode::FAILURE,
+        Ok(0) => ExitCode::SUCCESS,
+        Ok(_) => ExitCode::FAILURE,
         Err(reason) => {
             eprintln!("compare: error: {reason}");
             ExitCode::from(2)
@@ -74,139 +79,216 @@ fn main() -> ExitCode {
     }
 }
 
-fn run(options: &Options) -> Result<bool, String> {
-    let mut tally = Tally::new(options);
+/// The number of differences.
+fn run(options: &Options) -> Result<u64, String> {
+    let shared = Shared::new(&options.calls);
     if let Some(file) = &options.file {
         let input: Box<dyn Read> = match file.as_str() {
             "-" => Box::new(std::io::stdin()),
             _ => Box::new(std::fs::File::open(file).map_err(|e| format!("{file}: {e}"))?),
         };
-        tally.all(input)?;
-        return Ok(tally.end());
+        shared.lines(&mut Cases::new(), input)?;
+        return shared.end(&format!("file {file}"));
     }
-    let program = options.oracle.clone().unwrap_or_else(oracle);
     let (seed, count) = (options.seed.unwrap_or(0), options.count.unwrap_or(0));
-    let mut child: Child = Command::new(&program)
-        .args(["gen", &seed.to_string(), &count.to_string()])
-        .stdout(Stdio::piped())
-        .spawn()
-        .map_err(|e| format!("{}: {e}", program.display()))?;
-    let output = child.stdout.take().ok_or("the oracle has no output")?;
-    tally.all(output)?;
-    let status = child.wait().map_err(|e| e.to_string())?;
-    if !status.success() || tally.read != count {
-        return Err(format!("the oracle gave {} of {count} cases ({status})", tally.read));
-    }
-    Ok(tally.end())
+    let program = options.oracle.clone().unwrap_or_else(oracle);
+    let processors = thread::available_parallelism().map_or(1, |n| n.get() as u64);
+    let jobs = options.jobs.unwrap_or(processors).min(count.div_ceil(PART));
+    let next = AtomicU64::new(0);
+    let work = || {
+        let mut cases = Cases::new();
+        loop {
+            let part = next.fetch_add(1, Relaxed);
+            let before = part.saturating_mul(PART);
+            if before >= count || shared.stop.load(Relaxed) {
+                return Ok(());
+            }
+            let seed = seed.wrapping_add(part << 32);
+            if let Err(reason) = shared.part(&mut cases, &program, seed, PART.min(count - before)) {
+                shared.stop.store(true, Relaxed);
+                return Err(reason);
+            }
+        }
+    };
+    thread::scope(|scope| {
+        let threads: Vec<_> = (0..jobs).map(|_| scope.spawn(work)).collect();
+        let done =
+            threads.into_iter().map(|t| t.join().unwrap_or(Err("a comparison stopped".into())));
+        done.fold(Ok(()), Result::and)
+    })?;
+    shared.end(&format!("seed {seed}"))
 }
 
-/// What was found so far.
-struct Tally<'a> {
-    options: &'a Options,
+/// What all jobs found so far.
+struct Shared<'a> {
+    calls: &'a [String],
     start: Instant,
-    shown: Instant,
-    read: u64,
-    refused: u64,
+    read: AtomicU64,
+    differences: AtomicU64,
+    stop: AtomicBool,
+    said: Mutex<Instant>,
+    tally: Mutex<Tally>,
+}
+
+/// What one job found in a part.
+#[derive(Default)]
+struct Tally {
     compared: u64,
-    differences: u64,
+    /// By the number that the recorded answer has.
+    refused: BTreeMap<String, u64>,
     missing: BTreeMap<String, u64>,
     differing: BTreeMap<String, u64>,
 }
 
-impl Tally<'_> {
-    fn new(options: &Options) -> Tally<'_> {
+impl Shared<'_> {
+    fn new(calls: &[String]) -> Shared<'_> {
         let now = Instant::now();
-        Tally {
-            options,
+        Shared {
+            calls,
             start: now,
-            shown: now,
-            read: 0,
-            refused: 0,
-            compared: 0,
-            differences: 0,
-            missing: BTreeMap::new(),
-            differing: BTreeMap::new(),
+            read: AtomicU64::new(0),
+            differences: AtomicU64::new(0),
+            stop: AtomicBool::new(false),
+            said: Mutex::new(now),
+            tally: Mutex::default(),
         }
     }
 
-    fn all(&mut self, input: impl Read) -> Result<(), String> {
-        let mut input = BufReader::with_capacity(1 << 18, input);
-        let (mut cases, mut line, mut answer) = (Cases::new(), String::new(), vec![]);
-        while input.read_line(&mut line).map_err(|e| e.to_string())? > 0 {
-            let text = line.strip_suffix('\n').unwrap_or(&line);
-            if !text.is_empty() && !text.starts_with('#') {
-                self.one(&mut cases, text, &mut answer);
-            }
-            line.clear();
+    /// The cases of one run of the oracle.
+    fn part(
+        &self,
+        cases: &mut Cases,
+        program: &PathBuf,
+        seed: u64,
+        count: u64,
+    ) -> Result<(), String> {
+        let mut child = Command::new(program)
+            .args(["gen", &seed.to_string(), &count.to_string()])
+            .stdout(Stdio::piped())
+            .spawn()
+            .map_err(|e| format!("{}: {e}", program.display()))?;
+        let output = child.stdout.take().ok_or("the oracle has no output")?;
+        let read = self.lines(cases, output)?;
+        let status = child.wait().map_err(|e| e.to_string())?;
+        if !status.success() || read != count {
+            return Err(format!(
+                "the oracle gave {read} of {count} cases of seed {seed} ({status})"
+            ));
         }
         Ok(())
     }
 
-    fn one(&mut self, cases: &mut Cases, line: &str, found: &mut Vec<u8>) {
-        self.read += 1;
-        if self.read.is_multiple_of(4096) && self.shown.elapsed() > Duration::from_secs(5) {
-            self.shown = Instant::now();
-            let rate = self.read as f64 / self.start.elapsed().as_secs_f64();
-            let (read, differences) = (self.read, self.differences);
-            eprintln!("compare: {read} cases read, {differences} differences, {rate:.0} a second");
+    /// The cases of an input; how many there are.
+    fn lines(&self, cases: &mut Cases, input: impl Read) -> Result<u64, String> {
+        let mut input = BufReader::with_capacity(1 << 18, input);
+        let (mut tally, mut read) = (Tally::default(), 0u64);
+        let (mut line, mut found) = (String::new(), vec![]);
+        while input.read_line(&mut line).map_err(|e| e.to_string())? > 0 {
+            let text = line.strip_suffix('\n').unwrap_or(&line);
+            if !text.is_empty() && !text.starts_with('#') {
+                read += 1;
+                self.one(&mut tally, cases, text, &mut found);
+                if self.read.fetch_add(1, Relaxed) % 1024 == 1023 {
+                    self.say();
+                }
+            }
+            line.clear();
         }
+        self.tally.lock().map_err(|e| e.to_string())?.add(tally);
+        Ok(read)
+    }
+
+    fn one(&self, tally: &mut Tally, cases: &mut Cases, line: &str, found: &mut Vec<u8>) {
         let name = call_name(line);
-        let calls = &self.options.calls;
-        if !calls.is_empty() && !calls.iter().any(|c| c == name) {
+        if !self.calls.is_empty() && !self.calls.iter().any(|c| c == name) {
             return;
         }
         let (input, expected) = line.split_once(" => ").unwrap_or((line, "(no answer recorded)"));
-        if self.options.accepted && !expected.starts_with("refused=0 ") {
-            self.refused += 1;
-            return;
-        }
         cases.answer(input, found);
         if found == NOT_AVAILABLE.as_bytes() {
-            count(&mut self.missing, name);
+            count(&mut tally.missing, name, 1);
             return;
         }
-        self.compared += 1;
+        tally.compared += 1;
+        if let Some(number) = expected.strip_prefix("refused=").and_then(|e| e.split(' ').next())
+            && number != "0"
+        {
+            count(&mut tally.refused, number, 1);
+        }
         let errors = found.starts_with(b"error: ") && expected.starts_with("error: ");
         if found == expected.as_bytes() || errors {
             return;
         }
-        self.differences += 1;
-        count(&mut self.differing, name);
-        if self.differences <= SHOWN {
+        count(&mut tally.differing, name, 1);
+        let number = 1 + self.differences.fetch_add(1, Relaxed);
+        if number <= SHOWN {
             let found = String::from_utf8_lossy(found);
-            println!("difference {}", self.differences);
-            println!("  input    {input}\n  expected {expected}\n  got      {found}");
+            println!(
+                "difference {number}\n  input    {input}\n  expected {expected}\n  got      {found}"
+            );
         }
     }
 
-    /// The last lines; true if there was no difference.
-    fn end(&self) -> bool {
-        if self.refused > 0 {
-            println!("compare: refused by the oracle, not compared: {}", self.refused);
+    /// A line that says how far it is, every few seconds.
+    fn say(&self) {
+        let Ok(mut said) = self.said.try_lock() else { return };
+        if said.elapsed() >= PAUSE {
+            *said = Instant::now();
+            let (read, differences) = (self.read.load(Relaxed), self.differences.load(Relaxed));
+            let rate = self.rate();
+            eprintln!("compare: {read} cases read, {differences} differences, {rate:.0} a second");
         }
-        let lists = [("not available", &self.missing), ("different", &self.differing)];
+    }
+
+    fn rate(&self) -> f64 {
+        self.read.load(Relaxed) as f64 / self.start.elapsed().as_secs_f64().max(0.001)
+    }
+
+    /// The last lines, and the number of differences.
+    fn end(&self, of: &str) -> Result<u64, String> {
+        let tally = self.tally.lock().map_err(|e| e.to_string())?;
+        let lists = [
+            ("not available", &tally.missing),
+            ("compared refusals", &tally.refused),
+            ("different", &tally.differing),
+        ];
         for (what, list) in lists {
             if !list.is_empty() {
                 let parts: Vec<String> = list.iter().map(|(n, c)| format!("{n} {c}")).collect();
                 println!("compare: {what}: {}", parts.join(", "));
             }
         }
-        let rate = self.read as f64 / self.start.elapsed().as_secs_f64().max(0.001);
-        println!("compare: {rate:.0} cases a second");
-        let of = match (&self.options.file, self.options.seed) {
-            (Some(file), _) => format!("file {file}"),
-            (None, seed) => format!("seed {}", seed.unwrap_or(0)),
-        };
-        println!("compare: {} cases, {} differences, {of}", self.compared, self.differences);
-        self.differences == 0
+        println!("compare: {:.0} cases a second", self.rate());
+        let (compared, differences) = (tally.compared, self.differences.load(Relaxed));
+        println!("compare: {compared} cases, {differences} differences, {of}");
+        if compared == 0 {
+            return Err("no case was compared".into());
+        }
+        Ok(differences)
     }
 }
 
-fn count(list: &mut BTreeMap<String, u64>, name: &str) {
+impl Tally {
+    fn add(&mut self, other: Tally) {
+        self.compared += other.compared;
+        let lists = [
+            (&mut self.refused, other.refused),
+            (&mut self.missing, other.missing),
+            (&mut self.differing, other.differing),
+        ];
+        for (list, others) in lists {
+            for (name, n) in others {
+                count(list, &name, n);
+            }
+        }
+    }
+}
+
+fn count(list: &mut BTreeMap<String, u64>, name: &str, n: u64) {
     match list.get_mut(name) {
-        Some(n) => *n += 1,
+        Some(sum) => *sum += n,
         None => {
-            list.insert(name.into(), 1);
+            list.insert(name.into(), n);
         }
     }
 }
