@@ -43,7 +43,8 @@ guardCost k = pick (isPre68020 k) (addressCost k) (busCost k)
 abbrev pub underCost : ℕ → ℕ
 underCost k = pick (isPre68020 k) (ownCost k) 0
 
-refills-sum : (q : Bool) (n : ℕ) → refills q n ≡ pick q 3 0 + n
+-- what a refill comes to, as a sum
+pub refills-sum : (q : Bool) (n : ℕ) → refills q n ≡ pick q 3 0 + n
 refills-sum true n = omega arith
 refills-sum false n = omega arith
 
@@ -55,7 +56,8 @@ Bill k Exc c l n w = Kept k Exc n w × Books c l n w
 pub bill-steps : (k : ℕ) (Exc : Bool → Type 0) (c : ℕ) (l : List ℕ) → Steps (Bill k Exc c l) (isPrefetchKind k)
 bill-steps k Exc c l = both-steps (Kept k Exc) (Books c l) (isPrefetchKind k) (steps k Exc) (books-steps c l (isPrefetchKind k))
 
-more-bill : (k : ℕ) (Exc : Bool → Type 0) (c : ℕ) (l : List ℕ) {n m : ℕ} (w : World) → n ≤ m → Bill k Exc c l n w → Bill k Exc c l m w
+-- what costs less may cost more
+pub more-bill : (k : ℕ) (Exc : Bool → Type 0) (c : ℕ) (l : List ℕ) {n m : ℕ} (w : World) → n ≤ m → Bill k Exc c l n w → Bill k Exc c l m w
 more-bill k Exc c l w h p = (p .0, pay (omega arith) (p .1))
 
 -- the ways through a trigger, over any statement of the world that it comes to
@@ -224,7 +226,7 @@ module _ (w : World) (s : w .core .bus .events ≡ 0) (d : Domain w) where
   K = kindOf (cpuOf w)
 
   -- no event
-  none : Written 0 (w .log) w
+  pub none : Written 0 (w .log) w
   unfolding replay spell
   none = record { es = []; few = omega arith; count = s; spells = record { count = s; log = refl }; log = λ h. refl }
 

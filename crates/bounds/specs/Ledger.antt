@@ -9,7 +9,7 @@ use Rattle.types.specs.Kinds.{pick}
 use Rattle.cpu.specs.Fields.{isFaulted, setA7, setPc, halted, setException, setWdata, startVector, lowerA7, restoreRegisters, clearCause, clearFcOverride}
 use Rattle.cpu.specs.Status.{keepResume, clearTrace, restoreSr, setSrNointNosp}
 use Rattle.cpu.specs.Banks.{enterSupervisor, setSFlag, restoreSp, putS, backupSp}
-use Rattle.cpu.specs.Clocks.{hasClocks, clocksOf, setClocks, clearPrefetch, firstWord, secondWord}
+use Rattle.cpu.specs.Clocks.{hasClocks, clocksOf, prefetchEnabled, setClocks, internalCycles, clearPrefetch, firstWord, secondWord}
 use Rattle.memory.specs.Log.{noteLog, counted}
 use Rattle.memory.specs.LogLaws.{Event, replay, spell, replay-spell, Spells}
 use Rattle.memory.specs.World.{World, putCpu, withCpu, noted, stored, flush, release, rawWrite, rawRead}
@@ -60,23 +60,32 @@ module _ (c : ℕ) (l : List ℕ) where
   unfolding noted counted
   reads n w a g p = read-ways (Books c l (suc n)) w a g (λ d x y. enter d x y (omega arith) p)
 
-  releases : (n : ℕ) (w : World) → Books c l n w → Books c l (suc n) (release w)
-  unfolding release noted counted
-  releases n w p = enter 7 0 0 (omega arith) p
+  -- an event of any code pays for itself
+  pub noted-books : (n : ℕ) (w : World) (code a v : ℕ) → Books c l n w → Books c l (suc n) (noted w code a v)
+  unfolding noted counted
+  noted-books n w code a v p = enter code a v (omega arith) p
 
-  clocked : (q : Bool) (n : ℕ) (w : World) → q ≡ true → Books c l n w → Books c l (more q n) (on w (setClocks (cpuOf w) ((clocksOf (cpuOf w) + 2) % 2 ^ 32)))
+  releases : (n : ℕ) (w : World) → Books c l n w → Books c l (suc n) (release w)
+  unfolding release
+  releases n w p = noted-books n w 7 0 0 p
+
+  clocked : (q : Bool) (n : ℕ) (w : World) (v : ℕ) → q ≡ true → Books c l n w → Books c l (more q n) (on w (setClocks (cpuOf w) ((clocksOf (cpuOf w) + v) % 2 ^ 32)))
   unfolding setClocks putCpu isFaulted
-  clocked q n w h p = rw h (pay (let z = one-low (hasClocks (setClocks (cpuOf w) ((clocksOf (cpuOf w) + 2) % 2 ^ 32))) in omega arith) p)
+  clocked q n w v h p = rw h (pay (let z = one-low (hasClocks (setClocks (cpuOf w) ((clocksOf (cpuOf w) + v) % 2 ^ 32))) in omega arith) p)
 
   idle : (q : Bool) (n : ℕ) (w : World) → Books c l n w → Books c l (more q n) (on w (cpuOf w))
   unfolding putCpu
   idle true n w p = pay (omega arith) p
   idle false n w p = p
 
+  -- clocks that begin to wait are an event to come, on the kinds with a queue
+  pub clocks-books : (q : Bool) (n : ℕ) (w : World) (v : ℕ) → (prefetchEnabled (cpuOf w) ≡ true → q ≡ true) → Books c l n w → Books c l (more q n) (on w (internalCycles (cpuOf w) v))
+  clocks-books q n w v h p = clocks-ways (Books c l (more q n)) w v (λ e. clocked q n w v (h e) p) (idle q n w p)
+
   -- each step pays for its own event
   pub books-steps : (q : Bool) → Steps (Books c l) q
   unfolding lowerA7 setA7 setWdata startVector setPc clearPrefetch firstWord secondWord putCpu hasClocks isFaulted
-  books-steps q = record { weaken = λ n w p. pay (omega arith) p; flushes = flushes; lowers = λ n w g p. p; datum = λ n w v p. p; writes = writes; reads = reads; releases = releases; starts = λ n w v p. p; goes = λ n w v p. p; drops = λ n w p. p; firsts = λ n w v p. p; seconds = λ n w v p. p; clocks = λ n w h p. clocks-ways (Books c l (more q n)) w 2 (λ e. clocked q n w (h e) p) (idle q n w p) }
+  books-steps q = record { weaken = λ n w p. pay (omega arith) p; flushes = flushes; lowers = λ n w g p. p; datum = λ n w v p. p; writes = writes; reads = reads; releases = releases; starts = λ n w v p. p; goes = λ n w v p. p; drops = λ n w p. p; firsts = λ n w v p. p; seconds = λ n w v p. p; clocks = λ n w h p. clocks-books q n w 2 h p }
 
   -- not faulted: what is due is paid for
   pub afford : (n : ℕ) (w : World) → isFaulted (cpuOf w) ≡ false → Books c l n w → c ≤ n
