@@ -24,15 +24,18 @@ fn not_run(m: Core) -> RawAnswer {
         core: m,
         refused: 98,
         answer: 0,
+        events: 0,
     }
 }
 
-// The call on the first n bytes of the store.
-fn call(w: [u32; 136], store: &mut [u8], log: &mut [u32], n: usize) -> RawAnswer {
+// The call on the first n bytes of the store and the first k words of the log.
+fn call(w: [u32; 136], store: &mut [u8], log: &mut [u32], n: usize, k: usize) -> RawAnswer {
     let m = record::core_of(w);
     let c = call_of(w);
     if n <= store.len() {
-        return boundary::m68k_call(m, &mut store[0..n], log, c);
+        if k <= log.len() {
+            return boundary::m68k_call(m, &mut store[0..n], &mut log[0..k], c);
+        }
     }
     not_run(m)
 }
@@ -41,9 +44,17 @@ fn size(n: u32) -> usize {
     n as usize
 }
 
+// The words of a log that has x fewer than 192.
+fn words(x: u32) -> usize {
+    if x <= 192 {
+        return size(192 - x);
+    }
+    193
+}
+
 // The call of a case.
 fn call_case(w: [u32; 136], store: &mut [u8; 512], log: &mut [u32; 192]) -> RawAnswer {
-    call(w, store, log, size(w[123]))
+    call(w, store, log, size(w[123]), words(w[134]))
 }
 
 // The core and the answer that a call left, laid over the words of its case.
@@ -51,6 +62,7 @@ fn put_answer(w: &mut [u32; 136], r: RawAnswer, cycles: u32) {
     record::put_core(w, r.core, cycles);
     w[125] = r.refused;
     w[126] = r.answer;
+    w[127] = r.events;
 }
 
 // Whether the call leaves what was recorded.
