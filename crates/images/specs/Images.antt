@@ -214,9 +214,12 @@ bytes-below f i (suc k) h = go (ltb i k) refl (bytes-below f i k)
     go true e r = omega (arith, r (ltb-true i k e))
     go false e r = let z : i ≡ k = omega (arith, ltb-false i k e) in rw z (omega arith)
 
-wide : (g : Bool) → 0 < widthOf g
-wide true = omega arith
-wide false = omega arith
+bytes-upto : (f : Frame) (i k : ℕ) → i < suc k → frameBytes f i ≤ frameBytes f k
+bytes-upto f i k h = go (ltb i k) refl
+  where
+    go : (t : Bool) → ltb i k ≡ t → frameBytes f i ≤ frameBytes f k
+    go true e = omega (arith, bytes-below f i k (ltb-true i k e))
+    go false e = let z : i ≡ k = omega (arith, ltb-false i k e) in rw z (omega arith)
 
 bits : (kd a n : ℕ) → n < 2 ^ 32 → maskAddress kd a + n < 2 ^ addressBits kd → a < 2 ^ 32 → maskAddress kd ((a + n) % 2 ^ 32) ≡ maskAddress kd a + n
 unfolding maskAddress addressBits
@@ -234,13 +237,41 @@ below32 kd = go (ltb kd 3)
     go true = omega arith
     go false = omega arith
 
--- where a frame of k fields does not cross the top of the addresses, field i is at its offset above the new A7, masked
-pub address-offset : (kd q : ℕ) (f : Frame) (k : ℕ) → q < 2 ^ 32 → maskAddress kd q + frameBytes f k ≤ 2 ^ addressBits kd → (i : ℕ) → i < k → fieldAddress kd q f i ≡ maskAddress kd q + frameBytes f i
+-- a field is at its offset above the new A7, masked, where that is below the top of the addresses
+pub address-offset : (kd q : ℕ) (f : Frame) (i : ℕ) → q < 2 ^ 32 → maskAddress kd q + frameBytes f i < 2 ^ addressBits kd → fieldAddress kd q f i ≡ maskAddress kd q + frameBytes f i
 unfolding fieldAddress
-address-offset kd q f k l h i j =
-    let z = bytes-below f i k j in
-    let y = wide (fieldAt f i .long) in
-    bits kd q (frameBytes f i) (omega (arith, below32 kd)) (omega arith) l
+address-offset kd q f i l h = bits kd q (frameBytes f i) (omega (arith, below32 kd)) h l
+
+-- a masked address is below the top
+mask-below : (kd q : ℕ) → q < 2 ^ 32 → maskAddress kd q < 2 ^ addressBits kd
+unfolding maskAddress addressBits
+mask-below kd q = go (ltb kd 3)
+  where
+    go : (t : Bool) → q < 2 ^ 32 → pick t (q % 16777216) q < 2 ^ pick t 24 32
+    go true l = omega arith
+    go false l = omega arith
+
+-- the most bytes of a store that number 5 does not refuse
+abbrev pub mostStore : ℕ
+mostStore = 65536
+
+-- a field at most 92 bytes above the new A7 that wraps lies more than 65,536 bytes below it, so that no store holds both
+no-wrap : (kd q n base len : ℕ) → q < 2 ^ 32 → n ≤ 92 → len ≤ mostStore → maskAddress kd q ≤ base + len → base ≤ maskAddress kd ((q + n) % 2 ^ 32) → maskAddress kd q + n < 2 ^ addressBits kd
+unfolding maskAddress addressBits
+no-wrap kd q n base len = go (ltb kd 3)
+  where
+    go : (t : Bool) → q < 2 ^ 32 → n ≤ 92 → len ≤ mostStore → pick t (q % 16777216) q ≤ base + len → base ≤ pick t ((q + n) % 2 ^ 32 % 16777216) ((q + n) % 2 ^ 32) → pick t (q % 16777216) q + n < 2 ^ pick t 24 32
+    go true l m u x y = omega arith
+    go false l m u x y = omega arith
+
+-- a field at or past the top is masked to an address below the new A7
+wraps : (kd q n : ℕ) → q < 2 ^ 32 → n ≤ 92 → 2 ^ addressBits kd ≤ maskAddress kd q + n → maskAddress kd ((q + n) % 2 ^ 32) + 2 ^ 24 ≤ maskAddress kd q + n
+unfolding maskAddress addressBits
+wraps kd q n = go (ltb kd 3)
+  where
+    go : (t : Bool) → q < 2 ^ 32 → n ≤ 92 → 2 ^ pick t 24 32 ≤ pick t (q % 16777216) q + n → pick t ((q + n) % 2 ^ 32 % 16777216) ((q + n) % 2 ^ 32) + 2 ^ 24 ≤ pick t (q % 16777216) q + n
+    go true l m h = omega arith
+    go false l m h = omega arith
 
 -- the place of an address at or above the base
 place-above : (b : Bus) (a : ℕ) → b .base ≤ a → placeOf b a ≡ a - b .base
@@ -309,17 +340,26 @@ newA7 w f = minus32 (a7Of (cpuOf w)) (frameBytes f (f .count))
 abbrev pub bottom : World → Frame → ℕ
 bottom w f = maskAddress (kindOf (cpuOf w)) (newA7 w f)
 
--- the premises: the record is sound, each written field is served and allowed, and the frame does not cross the top of the addresses
+-- what each error frame is: its lowest field is written, and it is at most 92 bytes long
+pub record Shape (f : Frame) : Type 0 where
+  pub some : 0 < f .count
+  pub first : isCounted (fieldAt f 0) ≡ false
+  pub short : frameBytes f (f .count) ≤ 92
+
+-- the premises: the record is sound, each written field is served and allowed, and the store has at most 65,536 bytes. Number 5's other
+-- half, that it ends at 2^32 or below, is not needed.
 pub record Ready (w : World) (f : Frame) : Type 0 where
   pub sound : Sound (cpuOf w)
   pub allowed : Allowed (w .core .bus) (length (w .store)) (kindOf (cpuOf w)) (newA7 w f) f (f .count)
-  pub top : bottom w f + frameBytes f (f .count) ≤ 2 ^ addressBits (kindOf (cpuOf w))
+  pub small : length (w .store) ≤ mostStore
 
 -- the bytes of a store at an address of the bus
 abbrev pub SameByte : World → World → ℕ → Type 0
 SameByte w x a = (p : ℕ) → p + w .core .bus .base ≡ a → getD (x .store) p 0 ≡ getD (w .store) p 0
 
 -- the image of a frame in a world x, from w: A7 lowered by its length, what is written read at its offset, all other bytes as they were
+-- Addresses count on past the top of the kind's: an access is masked at its start alone, so that the last written field may begin
+-- below the top and end past it, its bytes side by side in the store (`only-last`); a counted field may lie past it (`image-gaps`).
 pub record Image (w x : World) (f : Frame) : Type 0 where
   pub a7 : a7Of (cpuOf x) ≡ newA7 w f
   pub kind : kindOf (cpuOf x) ≡ kindOf (cpuOf w)
@@ -348,16 +388,51 @@ kept-fits false v h = omega arith
 clash : true ≡ false → ⊥
 clash e = let z : _≡_ {A = ℕ} 0 1 = cc in omega arith
 
-module _ (w : World) (f : Frame) (h : Ready w f) where
+-- what is served is the same after the frame as before it
+pub stacked-serves : (w : World) (f : Frame) → Ready w f → (t : Raise) (a : ℕ) (g : Bool) → served (stacked t w f) a g ≡ served w a g
+unfolding served
+stacked-serves w f h t a g =
+    let r = stacked-framed t w f (h .sound) (h .allowed) in
+    let y : length (stacked t w f .store) ≡ length (w .store) = ap length (r .store) ∙ laid-length (w .core .bus) (kindOf (cpuOf w)) (newA7 w f) (w .store) f (f .count) in
+    rw y (served-same (stacked t w f .core .bus) (w .core .bus) (length (w .store)) a (widthOf g) (r .bus))
+
+module _ (w : World) (f : Frame) (s : Shape f) (h : Ready w f) where
+  a7-below : newA7 w f < 2 ^ 32
+  a7-below = minus-below (a7Of (cpuOf w)) (frameBytes f (f .count))
+
+  -- the lowest field lies at the new A7, masked
+  first-at : fieldAddress (kindOf (cpuOf w)) (newA7 w f) f 0 ≡ bottom w f
+  unfolding frameBytes
+  first-at = address-offset (kindOf (cpuOf w)) (newA7 w f) f 0 a7-below (omega (arith, mask-below (kindOf (cpuOf w)) (newA7 w f) a7-below)) ∙ omega arith
+
+  -- every written field begins below the top of the addresses: it and the lowest are in one store
+  pub starts-below : (i : ℕ) → i < f .count → isCounted (fieldAt f i) ≡ false → bottom w f + frameBytes f i < 2 ^ addressBits (kindOf (cpuOf w))
+  unfolding fieldAddress
+  starts-below i l c =
+      let b : Bus = w .core .bus in
+      let k : ℕ = kindOf (cpuOf w) in
+      let len : ℕ = length (w .store) in
+      let x : Clear b len (bottom w f) (widthOf (fieldAt f 0 .long)) = served-means b len (bottom w f) (widthOf (fieldAt f 0 .long)) (rw first-at at (h .allowed .serves 0 (s .some) (s .first))) in
+      let y : Clear b len (fieldAddress k (newA7 w f) f i) (widthOf (fieldAt f i .long)) = served-means b len (fieldAddress k (newA7 w f) f i) (widthOf (fieldAt f i .long)) (h .allowed .serves i l c) in
+      no-wrap k (newA7 w f) (frameBytes f i) (b .base) len a7-below (omega (arith, s .short, bytes-below f i (f .count) l)) (h .small) (omega (arith, x .high)) (y .low)
+
   -- where a written field lies: at its offset, in the store
-  at-offset : (i : ℕ) → i < f .count → fieldAddress (kindOf (cpuOf w)) (newA7 w f) f i ≡ bottom w f + frameBytes f i
-  at-offset i l = address-offset (kindOf (cpuOf w)) (newA7 w f) f (f .count) (minus-below (a7Of (cpuOf w)) (frameBytes f (f .count))) (h .top) i l
+  pub at-offset : (i : ℕ) → i < f .count → isCounted (fieldAt f i) ≡ false → fieldAddress (kindOf (cpuOf w)) (newA7 w f) f i ≡ bottom w f + frameBytes f i
+  at-offset i l c = address-offset (kindOf (cpuOf w)) (newA7 w f) f i a7-below (starts-below i l c)
+
+  -- a field below a written one ends below the top, so that only the last written field can reach past it
+  pub only-last : (i j : ℕ) → i < j → j < f .count → isCounted (fieldAt f j) ≡ false → bottom w f + frameBytes f i + widthOf (fieldAt f i .long) < 2 ^ addressBits (kindOf (cpuOf w))
+  only-last i j o l c = omega (arith, bytes-below f i j (omega arith), starts-below j l c)
 
   clear-at : (i : ℕ) → i < f .count → isCounted (fieldAt f i) ≡ false → Clear (w .core .bus) (length (w .store)) (bottom w f + frameBytes f i) (widthOf (fieldAt f i .long))
-  clear-at i l c = served-means (w .core .bus) (length (w .store)) (bottom w f + frameBytes f i) (widthOf (fieldAt f i .long)) (rw (at-offset i l) at (h .allowed .serves i l c))
+  clear-at i l c = served-means (w .core .bus) (length (w .store)) (bottom w f + frameBytes f i) (widthOf (fieldAt f i .long)) (rw (at-offset i l c) at (h .allowed .serves i l c))
+
+  -- in a store that ends at 2^32 or below no written field ends past it, so that on a kind of 32 address bits none reaches past the top
+  pub ends-below : w .core .bus .base + length (w .store) ≤ 2 ^ 32 → (i : ℕ) → i < f .count → isCounted (fieldAt f i) ≡ false → bottom w f + frameBytes f i + widthOf (fieldAt f i .long) ≤ 2 ^ 32
+  ends-below e i l c = omega (arith, clear-at i l c .high)
 
   spot-at : (i : ℕ) → i < f .count → isCounted (fieldAt f i) ≡ false → placeOf (w .core .bus) (fieldAddress (kindOf (cpuOf w)) (newA7 w f) f i) ≡ bottom w f + frameBytes f i - w .core .bus .base
-  spot-at i l c = rw (at-offset i l) (place-above (w .core .bus) (bottom w f + frameBytes f i) (clear-at i l c .low))
+  spot-at i l c = rw (at-offset i l c) (place-above (w .core .bus) (bottom w f + frameBytes f i) (clear-at i l c .low))
 
   -- a byte that no written field holds stays
   byte-kept : (t : Raise) (a : ℕ) → ((i : ℕ) → i < f .count → isCounted (fieldAt f i) ≡ false → Outside (bottom w f + frameBytes f i) (widthOf (fieldAt f i .long)) a) → SameByte w (stacked t w f) a
@@ -379,30 +454,22 @@ module _ (w : World) (f : Frame) (h : Ready w f) where
       let g : Bool = fieldAt f i .long in
       let a : ℕ = bottom w f + frameBytes f i in
       let y : length (stacked t w f .store) ≡ length (w .store) = ap length (r .store) ∙ laid-length b (kindOf (cpuOf w)) (newA7 w f) (w .store) f (f .count) in
-      let s : servedOf (stacked t w f .core .bus) (length (stacked t w f .store)) a (widthOf g) ≡ true = rw y (served-same (stacked t w f .core .bus) b (length (w .store)) a (widthOf g) (r .bus) ∙ (rw (at-offset i l) at (h .allowed .serves i l c))) in
-      let p : placeOf (stacked t w f .core .bus) a ≡ placeOf b (fieldAddress (kindOf (cpuOf w)) (newA7 w f) f i) = rw (at-offset i l) (place-same (stacked t w f .core .bus) b a (r .bus)) in
+      let v : servedOf (stacked t w f .core .bus) (length (stacked t w f .store)) a (widthOf g) ≡ true = rw y (served-same (stacked t w f .core .bus) b (length (w .store)) a (widthOf g) (r .bus) ∙ (rw (at-offset i l c) at (h .allowed .serves i l c))) in
+      let p : placeOf (stacked t w f .core .bus) a ≡ placeOf b (fieldAddress (kindOf (cpuOf w)) (newA7 w f) f i) = rw (at-offset i l c) (place-same (stacked t w f .core .bus) b a (r .bus)) in
       let z = clear-at i l c in
-      rw (s, p, r .store)
+      rw (v, p, r .store)
       (laid-back b (kindOf (cpuOf w)) (newA7 w f) f (f .count) (w .store) i l c (rw (spot-at i l c) (omega (arith, z .low, z .high)))
       (λ j m d. let u = clear-at j (omega arith) d .low in rw (spot-at i l c, spot-at j (omega arith) d) (inl (omega (arith, z .low, bytes-below f j i m)))))
-
-  -- what is served is the same after the frame as before it
-  pub stacked-serves : (t : Raise) (a : ℕ) (g : Bool) → served (stacked t w f) a g ≡ served w a g
-  unfolding served
-  stacked-serves t a g =
-      let r = stacked-framed t w f (h .sound) (h .allowed) in
-      let y : length (stacked t w f .store) ≡ length (w .store) = ap length (r .store) ∙ laid-length (w .core .bus) (kindOf (cpuOf w)) (newA7 w f) (w .store) f (f .count) in
-      rw y (served-same (stacked t w f .core .bus) (w .core .bus) (length (w .store)) a (widthOf g) (r .bus))
 
   -- a served read that shares no byte with the frame gives the same after it as before it
   pub read-apart : (t : Raise) (a : ℕ) (g : Bool) → served w a g ≡ true → Apart (bottom w f) (frameBytes f (f .count)) a (widthOf g) → readValue (stacked t w f) a g ≡ readValue w a g
   unfolding readValue fetched served
-  read-apart t a g s d =
+  read-apart t a g v d =
       let r = stacked-framed t w f (h .sound) (h .allowed) in
       let b : Bus = w .core .bus in
-      let low : b .base ≤ a = served-means b (length (w .store)) a (widthOf g) s .low in
-      let e : servedOf (stacked t w f .core .bus) (length (stacked t w f .store)) a (widthOf g) ≡ true = stacked-serves t a g ∙ s in
-      rw (e, s, r .store, place-same (stacked t w f .core .bus) b a (r .bus))
+      let low : b .base ≤ a = served-means b (length (w .store)) a (widthOf g) v .low in
+      let e : servedOf (stacked t w f .core .bus) (length (stacked t w f .store)) a (widthOf g) ≡ true = stacked-serves w f h t a g ∙ v in
+      rw (e, v, r .store, place-same (stacked t w f .core .bus) b a (r .bus))
       (laid-other b (kindOf (cpuOf w)) (newA7 w f) f (f .count) (w .store) g (placeOf b a)
       (λ i l c. rw (spot-at i l c, place-above b a low) (go i low (clear-at i l c .low) (bytes-below f i (f .count) l) d)))
     where
@@ -422,7 +489,7 @@ module _ (w : World) (f : Frame) (h : Ready w f) where
         size = ap length (r .store) ∙ laid-length (w .core .bus) (kindOf (cpuOf w)) (newA7 w f) (w .store) f (f .count);
         fields = read-field t;
         gaps = λ i l c j m. byte-kept t (bottom w f + frameBytes f i + j) (λ k n d. gap i l c j m k n d (ltb k i) refl (ltb i k) refl);
-        others = λ a o. byte-kept t a (λ k n d. other a k n o);
+        others = λ a o. byte-kept t a (λ k n d. other a k _ n o (omega arith));
       }
     where
       gap : (i : ℕ) → i < f .count → isCounted (fieldAt f i) ≡ true → (j : ℕ) → j < widthOf (fieldAt f i .long) → (k : ℕ) → k < f .count → isCounted (fieldAt f k) ≡ false
@@ -431,14 +498,32 @@ module _ (w : World) (f : Frame) (h : Ready w f) where
       gap i l c j m k n d false x true y = inl (omega (arith, bytes-below f i k (ltb-true i k y)))
       gap i l c j m k n d false x false y = let z : k ≡ i = omega (arith, ltb-false k i x, ltb-false i k y) in absurd (clash (sym c ∙ ap (λ (e : ℕ). isCounted (fieldAt f e)) (sym z) ∙ d))
 
-      other : (a k : ℕ) → k < f .count → Outside (bottom w f) (frameBytes f (f .count)) a → Outside (bottom w f + frameBytes f k) (widthOf (fieldAt f k .long)) a
-      other a k n (inl x) = inl (omega arith)
-      other a k n (inr x) = inr (omega (arith, bytes-below f k (f .count) n))
+      other : (a k m : ℕ) → k < f .count → Outside (bottom w f) m a → frameBytes f (f .count) ≤ m → Outside (bottom w f + frameBytes f k) (widthOf (fieldAt f k .long)) a
+      other a k m n (inl x) u = inl (omega arith)
+      other a k m n (inr x) u = inr (omega (arith, bytes-below f k (f .count) n))
 
 -- a written value of its width is read back whole
 pub field-value : (w x : World) (f : Frame) → Image w x f → (i : ℕ) → i < f .count → isCounted (fieldAt f i) ≡ false → Fits (fieldAt f i .long) (fieldAt f i .value)
     → readValue x (bottom w f + frameBytes f i) (fieldAt f i .long) ≡ fieldAt f i .value
 field-value w x f h i l c v = h .fields i l c ∙ kept-fits (fieldAt f i .long) (fieldAt f i .value) v
+
+-- the bytes of a counted field stay at the address that the kind makes of it too, which lies below the frame if the field is past the top
+pub image-gaps : (w x : World) (f : Frame) → Shape f → Image w x f → (i : ℕ) → i < f .count → isCounted (fieldAt f i) ≡ true → (j : ℕ) → j < widthOf (fieldAt f i .long)
+    → SameByte w x (fieldAddress (kindOf (cpuOf w)) (newA7 w f) f i + j)
+unfolding fieldAddress
+image-gaps w x f s h i l c j m = go (ltb (bottom w f + frameBytes f i) (2 ^ addressBits (kindOf (cpuOf w)))) refl
+  where
+    q : newA7 w f < 2 ^ 32
+    q = minus-below (a7Of (cpuOf w)) (frameBytes f (f .count))
+
+    n : frameBytes f i + widthOf (fieldAt f i .long) ≤ 92
+    n = omega (arith, s .short, bytes-below f i (f .count) l)
+
+    go : (t : Bool) → ltb (bottom w f + frameBytes f i) (2 ^ addressBits (kindOf (cpuOf w))) ≡ t → SameByte w x (maskAddress (kindOf (cpuOf w)) ((newA7 w f + frameBytes f i) % 2 ^ 32) + j)
+    go true e = rw (address-offset (kindOf (cpuOf w)) (newA7 w f) f i q (ltb-true _ _ e)) (h .gaps i l c j m)
+    go false e =
+        h .others (maskAddress (kindOf (cpuOf w)) ((newA7 w f + frameBytes f i) % 2 ^ 32) + j)
+        (inl (omega (arith, n, wraps (kindOf (cpuOf w)) (newA7 w f) (frameBytes f i) q (omega (arith, n)) (ltb-false _ _ e))))
 
 -- after it the record still runs
 pub stacked-runs : (t : Raise) (w : World) (f : Frame) → Ready w f → isFaulted (cpuOf (stacked t w f)) ≡ false
@@ -493,21 +578,32 @@ bytes-even f (suc k) = go (fieldAt f k .long) (bytes-even f k)
     go true e = omega arith
     go false e = omega arith
 
--- the premises by one interval: all bytes of the frame are served, and on the kinds that check alignment the new A7 is even
-pub ready-whole : (w : World) (f : Frame) → Sound (cpuOf w) → bottom w f + frameBytes f (f .count) ≤ 2 ^ addressBits (kindOf (cpuOf w))
-    → servedOf (w .core .bus) (length (w .store)) (bottom w f) (frameBytes f (f .count)) ≡ true → (isPre68020 (kindOf (cpuOf w)) ≡ true → bottom w f % 2 ≡ 0) → Ready w f
-ready-whole w f s u h e =
+-- the premises by one interval: field k is the last that may be written and begins below the top, all bytes up to its end are served,
+-- and on the kinds that check alignment the new A7 is even
+pub ready-whole : (w : World) (f : Frame) (k : ℕ) → ((j : ℕ) → suc k + j < f .count → isCounted (fieldAt f (suc k + j)) ≡ true)
+    → Sound (cpuOf w) → length (w .store) ≤ mostStore → bottom w f + frameBytes f k < 2 ^ addressBits (kindOf (cpuOf w))
+    → servedOf (w .core .bus) (length (w .store)) (bottom w f) (frameBytes f (suc k)) ≡ true → (isPre68020 (kindOf (cpuOf w)) ≡ true → bottom w f % 2 ≡ 0) → Ready w f
+ready-whole w f k g s m u h e =
     record {
       sound = s;
       allowed = record {
-        serves = λ i l c. rw (place i l) (served-part (w .core .bus) (length (w .store)) (bottom w f) (frameBytes f (f .count)) (frameBytes f i) (widthOf (fieldAt f i .long)) h (bytes-below f i (f .count) l));
-        even = λ i l c r. rw (place i l) (go i (isPre68020 (kindOf (cpuOf w))) e);
+        serves = λ i l c. rw (place i (last i l c)) (served-part (w .core .bus) (length (w .store)) (bottom w f) (frameBytes f (suc k)) (frameBytes f i) (widthOf (fieldAt f i .long)) h (bytes-below f i (suc k) (last i l c)));
+        even = λ i l c r. rw (place i (last i l c)) (go i (isPre68020 (kindOf (cpuOf w))) e);
       };
-      top = u;
+      small = m;
     }
   where
-    place : (i : ℕ) → i < f .count → fieldAddress (kindOf (cpuOf w)) (newA7 w f) f i ≡ bottom w f + frameBytes f i
-    place i l = address-offset (kindOf (cpuOf w)) (newA7 w f) f (f .count) (minus-below (a7Of (cpuOf w)) (frameBytes f (f .count))) u i l
+    last : (i : ℕ) → i < f .count → isCounted (fieldAt f i) ≡ false → i < suc k
+    last i l c = past (ltb i (suc k)) refl
+      where
+        past : (t : Bool) → ltb i (suc k) ≡ t → i < suc k
+        past true x = ltb-true i (suc k) x
+        past false x =
+            let z : suc k + (i - suc k) ≡ i = omega (arith, ltb-false i (suc k) x) in
+            absurd (clash (sym (rw z at (g (i - suc k) (rw z l))) ∙ c))
+
+    place : (i : ℕ) → i < suc k → fieldAddress (kindOf (cpuOf w)) (newA7 w f) f i ≡ bottom w f + frameBytes f i
+    place i l = address-offset (kindOf (cpuOf w)) (newA7 w f) f i (minus-below (a7Of (cpuOf w)) (frameBytes f (f .count))) (omega (arith, bytes-upto f i k l))
 
     go : (i : ℕ) (t : Bool) → (t ≡ true → bottom w f % 2 ≡ 0) → pick t (eqb ((bottom w f + frameBytes f i) % 2) 1) false ≡ false
     go i true d = ne-eqb ((bottom w f + frameBytes f i) % 2) 1 (λ x. let y = d refl in omega (arith, bytes-even f i))

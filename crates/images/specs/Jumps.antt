@@ -23,8 +23,9 @@ use Rattle.faults.specs.Frames.{busFrame, addressFrame}
 use Rattle.faults.specs.Steps.{refusesOdd, vectorAddress, beginBus, beginAddress, enterBusError}
 use Rattle.faults.specs.Faults.{Raise, busFault, addressFault, cpuOf, on, readOr, prefetchRead, keptFirst, firstFrom, prefetchFirst, keptSecond, secondFrom, prefetchSecond, checkedRead, guardRead, vectorRead, refill, jumpTo, jumpVector, stacked, entryBus, entryAddress, closed, ended, raiseBus, raiseAddress, trigger}
 use Rattle.images.specs.Pushes.{calm, served-same, place-same, Kept, kept-trans, Left, flush-left}
-use Rattle.images.specs.Images.{frameBytes, Ready, Image, Still, still-trans, read-same, image-still, stacked-image, stacked-runs, stacked-framed, stacked-serves, read-apart, newA7, bottom}
+use Rattle.images.specs.Images.{frameBytes, Shape, Ready, Image, Still, still-trans, read-same, image-still, stacked-image, stacked-runs, stacked-framed, stacked-serves, read-apart, newA7, bottom}
 use Rattle.images.specs.Lengths.{lengthOf, errorLength, busFormat, addressFormat, bus-length, address-length}
+use Rattle.images.specs.Shapes.{bus-shape, address-shape}
 
 -- flow, registers, windows and store are the same
 abbrev pub Idle : World → World → Type 0
@@ -288,13 +289,13 @@ reachable-after t w f v pc h e o s p =
     }
 
 -- where the frame does not lie over the vector, the handler's address is the one that stood there before it
-pub handler-before : (t : Raise) (w : World) (f : Frame) (v : ℕ) → Ready w f → served w (vectorPlace w v) true ≡ true → Apart (bottom w f) (lengthOf f) (vectorPlace w v) 4 → handler (stacked t w f) v ≡ handler w v
-handler-before t w f v h s d =
-    ap (λ (a : ℕ). readValue (stacked t w f) a true) (flow-vector w (stacked t w f) v (stacked-framed t w f (h .sound) (h .allowed) .flow)) ∙ read-apart w f h t (vectorPlace w v) true s d
+pub handler-before : (t : Raise) (w : World) (f : Frame) (v : ℕ) → Shape f → Ready w f → served w (vectorPlace w v) true ≡ true → Apart (bottom w f) (lengthOf f) (vectorPlace w v) 4 → handler (stacked t w f) v ≡ handler w v
+handler-before t w f v k h s d =
+    ap (λ (a : ℕ). readValue (stacked t w f) a true) (flow-vector w (stacked t w f) v (stacked-framed t w f (h .sound) (h .allowed) .flow)) ∙ read-apart w f k h t (vectorPlace w v) true s d
 
 -- an entry whose accesses are all served, frame and jump, leaves the image of its frame
-pub entry-image : (t : Raise) (w : World) (f : Frame) (v : ℕ) → Ready w f → Reachable (stacked t w f) v → Image w (jumpVector t (stacked t w f) v) f
-entry-image t w f v h r = image-still w (stacked t w f) (jumpVector t (stacked t w f) v) f (stacked-image w f h t) (jump-still t (stacked t w f) v r)
+pub entry-image : (t : Raise) (w : World) (f : Frame) (v : ℕ) → Shape f → Ready w f → Reachable (stacked t w f) v → Image w (jumpVector t (stacked t w f) v) f
+entry-image t w f v s h r = image-still w (stacked t w f) (jumpVector t (stacked t w f) v) f (stacked-image w f s h t) (jump-still t (stacked t w f) v r)
 
 module _ (t : Raise) (w : World) (a : ℕ) (write instruction : Bool) where
   -- a bus error entry whose accesses are all served leaves the image of its frame on the supervisor stack
@@ -302,7 +303,7 @@ module _ (t : Raise) (w : World) (a : ℕ) (write instruction : Bool) where
       → Reachable (stacked t (on w (enterBusError (cpuOf w))) (busFrame (cpuOf w) a write instruction z cause)) 2
       → Image (on w (enterBusError (cpuOf w))) (entryBus t w a write instruction z cause) (busFrame (cpuOf w) a write instruction z cause)
   unfolding entryBus
-  bus-image z cause h r = entry-image t (on w (enterBusError (cpuOf w))) (busFrame (cpuOf w) a write instruction z cause) 2 h r
+  bus-image z cause h r = entry-image t (on w (enterBusError (cpuOf w))) (busFrame (cpuOf w) a write instruction z cause) 2 (bus-shape (cpuOf w) a write instruction z cause) h r
 
   -- and lowers the supervisor's A7 by the length of the table, 14 on kind 1
   pub bus-a7 : (z cause : ℕ) → kindOf (cpuOf w) < 12 → Ready (on w (enterBusError (cpuOf w))) (busFrame (cpuOf w) a write instruction z cause)
@@ -316,7 +317,7 @@ module _ (t : Raise) (w : World) (a : ℕ) (write instruction : Bool) where
       → Reachable (stacked t (on w (enterSupervisor (cpuOf w))) (addressFrame (cpuOf w) a write instruction)) 3
       → Image (on w (enterSupervisor (cpuOf w))) (entryAddress t w a write instruction) (addressFrame (cpuOf w) a write instruction)
   unfolding entryAddress
-  address-image h r = entry-image t (on w (enterSupervisor (cpuOf w))) (addressFrame (cpuOf w) a write instruction) 3 h r
+  address-image h r = entry-image t (on w (enterSupervisor (cpuOf w))) (addressFrame (cpuOf w) a write instruction) 3 (address-shape (cpuOf w) a write instruction) h r
 
   -- and lowers the supervisor's A7 by the length of the table, 14 on kind 1
   pub address-a7 : kindOf (cpuOf w) < 12 → Ready (on w (enterSupervisor (cpuOf w))) (addressFrame (cpuOf w) a write instruction)
