@@ -14,11 +14,11 @@ ghost use Rattle.memory.specs.World.{world};
 ghost use Rattle.types.specs.Causes.{causeOf};
 ghost use Rattle.calls.specs.Calls.{bit, refusedBy, valueOf, countOf};
 ghost use Rattle.boundary.specs.Calls.{outcome, flag, decodeAccess, decodeStack, decodeError, decodeException, decodeWrapper, decodeInterrupt, rawOf, rawCall};
-ghost use Rattle.cpu.specs.Status.{statusOf, setSrNointNosp, putBackSr, setCcr};
-ghost use Rattle.cpu.specs.Banks.{spIndex, backupSp, restoreSp, setSFlag, setSmFlag, setSmFlagNosp};
+ghost use Rattle.status.specs.Status.{statusOf, setSrNointNosp, putBackSr, setCcr};
+ghost use Rattle.status.specs.Banks.{spIndex, backupSp, restoreSp, setSFlag, setSmFlag, setSmFlagNosp};
 ghost use Rattle.cpu.specs.Clocks.{internalCycles, prefetchEnabled};
 ghost use Rattle.cpu.specs.Fields.{addressOf};
-ghost use Rattle.cpu.specs.Trace.{traceT0SrWrite, traceT068040Sync};
+ghost use Rattle.requests.specs.Trace.{traceT0SrWrite, traceT068040Sync};
 ghost use Rattle.cpu.specs.Fresh.{freshCpu};
 
 #[repr(C)]
@@ -302,70 +302,70 @@ pub extern "C" fn m68k_call(m: Core, store: &mut [u8], log: &mut [u32], call: Ra
 pub extern "C" fn m68k_get_sr(c: Cpu) -> u32
     ensures { λ r. ⌜ r ≡ statusOf c ⌝ }
 {
-    cpu::status::get_sr(c) as u32
+    status::get_sr(c) as u32
 }
 
 #[no_mangle]
 pub extern "C" fn m68k_set_sr_noint_nosp(c: Cpu, sr: u16) -> Cpu
     ensures { λ r. ⌜ r ≡ setSrNointNosp c sr ⌝ }
 {
-    cpu::status::set_sr_noint_nosp(c, sr)
+    status::set_sr_noint_nosp(c, sr)
 }
 
 #[no_mangle]
 pub extern "C" fn m68k_put_back_sr(c: Cpu, sr: u16) -> Cpu
     ensures { λ r. ⌜ r ≡ putBackSr c sr ⌝ }
 {
-    cpu::status::put_back_sr(c, sr)
+    status::put_back_sr(c, sr)
 }
 
 #[no_mangle]
 pub extern "C" fn m68k_set_ccr_internal(c: Cpu, ccr: u8) -> Cpu
     ensures { λ r. ⌜ r ≡ setCcr c ccr ⌝ }
 {
-    cpu::status::set_ccr_internal(c, ccr)
+    status::set_ccr_internal(c, ccr)
 }
 
 #[no_mangle]
 pub extern "C" fn m68k_sp_index(c: Cpu) -> usize
     ensures { λ r. ⌜ r ≡ spIndex c ⌝ }
 {
-    cpu::banks::sp_index(c)
+    status::banks::sp_index(c)
 }
 
 #[no_mangle]
 pub extern "C" fn m68k_backup_sp(c: Cpu) -> Cpu
     ensures { λ r. ⌜ r ≡ backupSp c ⌝ }
 {
-    cpu::banks::backup_sp(c)
+    status::banks::backup_sp(c)
 }
 
 #[no_mangle]
 pub extern "C" fn m68k_restore_sp(c: Cpu) -> Cpu
     ensures { λ r. ⌜ r ≡ restoreSp c ⌝ }
 {
-    cpu::banks::restore_sp(c)
+    status::banks::restore_sp(c)
 }
 
 #[no_mangle]
 pub extern "C" fn m68k_set_s_flag(c: Cpu, v: u32) -> Cpu
     ensures { λ r. ⌜ r ≡ setSFlag c v ⌝ }
 {
-    cpu::banks::set_s_flag(c, v)
+    status::banks::set_s_flag(c, v)
 }
 
 #[no_mangle]
 pub extern "C" fn m68k_set_sm_flag(c: Cpu, v: u32) -> Cpu
     ensures { λ r. ⌜ r ≡ setSmFlag c v ⌝ }
 {
-    cpu::banks::set_sm_flag(c, v)
+    status::banks::set_sm_flag(c, v)
 }
 
 #[no_mangle]
 pub extern "C" fn m68k_set_sm_flag_nosp(c: Cpu, v: u32) -> Cpu
     ensures { λ r. ⌜ r ≡ setSmFlagNosp c v ⌝ }
 {
-    cpu::banks::set_sm_flag_nosp(c, v)
+    status::banks::set_sm_flag_nosp(c, v)
 }
 
 #[no_mangle]
@@ -393,14 +393,14 @@ pub extern "C" fn m68k_address(c: Cpu, a: u32) -> u32
 pub extern "C" fn m68k_trace_t0_sr_write(c: Cpu) -> Cpu
     ensures { λ r. ⌜ r ≡ traceT0SrWrite c ⌝ }
 {
-    cpu::trace::trace_t0_sr_write(c)
+    requests::trace::trace_t0_sr_write(c)
 }
 
 #[no_mangle]
 pub extern "C" fn m68k_trace_t0_68040_sync(c: Cpu) -> Cpu
     ensures { λ r. ⌜ r ≡ traceT068040Sync c ⌝ }
 {
-    cpu::trace::trace_t0_68040_sync(c)
+    requests::trace::trace_t0_68040_sync(c)
 }
 
 #[no_mangle]

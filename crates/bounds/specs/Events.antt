@@ -8,14 +8,14 @@ use lib.Dec.{eqb}
 use lib.ListN.{length, drop}
 use Rattle.types.specs.Kinds.{pick, either, isPre68020, isPrefetchKind, is040, is060}
 use Rattle.cpu.specs.Fields.{kindOf, addressOf, isFaulted, inException, causeNumberOf, halted}
-use Rattle.cpu.specs.Banks.{enterSupervisor}
+use Rattle.status.specs.Banks.{enterSupervisor}
 use Rattle.cpu.specs.Clocks.{prefetchEnabled}
 use Rattle.memory.specs.LogLaws.{replay, spell}
 use Rattle.memory.specs.World.{World}
-use Rattle.faults.specs.declared.frames.Field.{Field}
-use Rattle.faults.specs.declared.frames.Frame.{Frame}
-use Rattle.faults.specs.Frames.{fieldAt, busFrame, addressFrame}
-use Rattle.faults.specs.Steps.{beginBus, beginAddress, enterBusError, isCounted}
+use Rattle.frames.specs.declared.Field.{Field}
+use Rattle.frames.specs.declared.Frame.{Frame}
+use Rattle.frames.specs.Frames.{fieldAt, busFrame, addressFrame}
+use Rattle.steps.specs.Steps.{beginBus, beginAddress, enterBusError, isCounted}
 use Rattle.faults.specs.Faults.{Request, busFault, addressFault, Raise, cpuOf, on, guardRead, guardWrite, pushed, pushShort, jumpVector, prefetchFirst, prefetchSecond, entryAddress, entryBus, closed, ended, raiseBus, raiseAddress, trigger, raised, entered}
 use Rattle.bounds.specs.Skeleton.{Steps, Raises, refills, more, afterField, afterFields, pick-one, pick-when, both-steps, guardRead-good, guardWrite-good, pushed-good, pushShort-good, jump-good, prefetchFirst-good, prefetchSecond-good, frame-good}
 use Rattle.bounds.specs.ErrorFrames.{busWrites, addressWrites, address-plain, bus-plain, address-writes, bus-writes}

@@ -7,14 +7,14 @@ use lib.Seq.{set-set, set-getD}
 use Rattle.types.specs.Kinds.{either}
 use Rattle.cpu.specs.declared.Cpu.{Cpu}
 use Rattle.cpu.specs.Fields.{a7Of, setA7, isFaulted, inException, causeNumberOf, setPc, halted, setException, setWdata, startVector, lowerA7, clearFcOverride}
-use Rattle.cpu.specs.Status.{keepResume, clearTrace}
-use Rattle.cpu.specs.Banks.{enterSupervisor, setSFlag, restoreSp, putS, backupSp}
+use Rattle.status.specs.Status.{keepResume, clearTrace}
+use Rattle.status.specs.Banks.{enterSupervisor, setSFlag, restoreSp, putS, backupSp}
 use Rattle.cpu.specs.Clocks.{setClocks, clearPrefetch, firstWord, secondWord}
 use Rattle.memory.specs.World.{World, reply, widthOf, putCpu, withCpu, noted, stored, flush, release, rawWrite, rawRead}
-use Rattle.faults.specs.declared.frames.Field.{Field}
-use Rattle.faults.specs.declared.frames.Frame.{Frame}
-use Rattle.faults.specs.Frames.{fieldAt, busFrame, addressFrame}
-use Rattle.faults.specs.Steps.{beginBus, beginAddress, enterBusError, isCounted, isRaw}
+use Rattle.frames.specs.declared.Field.{Field}
+use Rattle.frames.specs.declared.Frame.{Frame}
+use Rattle.frames.specs.Frames.{fieldAt, busFrame, addressFrame}
+use Rattle.steps.specs.Steps.{beginBus, beginAddress, enterBusError, isCounted, isRaw}
 use Rattle.faults.specs.Faults.{Request, busFault, addressFault, Raise, cpuOf, on, guardRead, guardWrite, stackField, pushed, pushFields, stacked, jumpVector, prefetchFirst, prefetchSecond, entryAddress, entryBus, closed, ended, raiseBus, raiseAddress, trigger}
 use Rattle.bounds.specs.Skeleton.{Steps, Raises, pick-one, pick-when, flush-ways, write-ways, read-ways, clocks-ways, pushFields-good, jump-good, prefetchFirst-good, prefetchSecond-good, frame-good}
 

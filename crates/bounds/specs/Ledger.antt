@@ -7,13 +7,13 @@ use native.Mathlib.Omega.{arith}
 use lib.ListN.{length, drop}
 use Rattle.types.specs.Kinds.{pick}
 use Rattle.cpu.specs.Fields.{isFaulted, setA7, setPc, halted, setException, setWdata, startVector, lowerA7, restoreRegisters, clearCause, clearFcOverride}
-use Rattle.cpu.specs.Status.{keepResume, clearTrace, restoreSr, setSrNointNosp}
-use Rattle.cpu.specs.Banks.{enterSupervisor, setSFlag, restoreSp, putS, backupSp}
+use Rattle.status.specs.Status.{keepResume, clearTrace, restoreSr, setSrNointNosp}
+use Rattle.status.specs.Banks.{enterSupervisor, setSFlag, restoreSp, putS, backupSp}
 use Rattle.cpu.specs.Clocks.{hasClocks, clocksOf, prefetchEnabled, setClocks, internalCycles, clearPrefetch, firstWord, secondWord}
 use Rattle.memory.specs.Log.{noteLog, counted}
 use Rattle.memory.specs.LogLaws.{Event, replay, spell, replay-spell, Spells}
 use Rattle.memory.specs.World.{World, putCpu, withCpu, noted, stored, flush, release, rawWrite, rawRead}
-use Rattle.faults.specs.Steps.{beginBus, beginAddress, enterBusError}
+use Rattle.steps.specs.Steps.{beginBus, beginAddress, enterBusError}
 use Rattle.faults.specs.Faults.{cpuOf, on, closed, ended}
 use Rattle.bounds.specs.Skeleton.{Steps, more, flush-ways, write-ways, read-ways, clocks-ways}
 

@@ -8,14 +8,14 @@ use lib.Dec.{eqb, ltb}
 use Rattle.types.specs.Kinds.{pick, isPre68020, isPrefetchKind, maskAddress}
 use Rattle.cpu.specs.declared.Cpu.{Cpu}
 use Rattle.cpu.specs.Fields.{kindOf, vbrOf, addressOf, checksAlignment, isFaulted, inException, causeNumberOf, setA7, setPc, halted, setException, setWdata, startVector, lowerA7, restoreRegisters, clearCause, clearFcOverride}
-use Rattle.cpu.specs.Status.{keepResume, clearTrace, restoreSr, setSrNointNosp}
-use Rattle.cpu.specs.Banks.{enterSupervisor, setSFlag, restoreSp, putS, backupSp}
+use Rattle.status.specs.Status.{keepResume, clearTrace, restoreSr, setSrNointNosp}
+use Rattle.status.specs.Banks.{enterSupervisor, setSFlag, restoreSp, putS, backupSp}
 use Rattle.cpu.specs.Clocks.{prefetchEnabled, setClocks, clearPrefetch, firstWord, secondWord}
 use Rattle.memory.specs.World.{World, putCpu, withCpu, noted, stored, flush, release, rawWrite, rawRead}
-use Rattle.faults.specs.declared.frames.Field.{Field}
-use Rattle.faults.specs.declared.frames.Frame.{Frame}
-use Rattle.faults.specs.Frames.{busFrame, addressFrame}
-use Rattle.faults.specs.Steps.{refusesOdd, vectorAddress, beginBus, beginAddress, enterBusError}
+use Rattle.frames.specs.declared.Field.{Field}
+use Rattle.frames.specs.declared.Frame.{Frame}
+use Rattle.frames.specs.Frames.{busFrame, addressFrame}
+use Rattle.steps.specs.Steps.{refusesOdd, vectorAddress, beginBus, beginAddress, enterBusError}
 use Rattle.faults.specs.Faults.{Request, busFault, addressFault, Raise, cpuOf, on, guardRead, guardWrite, pushed, pushFields, pushShort, stacked, jumpVector, prefetchFirst, prefetchSecond, entryAddress, entryBus, closed, ended, raiseBus, raiseAddress, trigger, entered}
 use Rattle.bounds.specs.Skeleton.{Good, Steps, Raises, pick-if, pick-one, flush-ways, write-ways, read-ways, clocks-ways, guardRead-good, guardWrite-good, pushed-good, pushFields-good, stacked-good, pushShort-good, jump-good, prefetchFirst-good, prefetchSecond-good, frame-good}
 use Rattle.bounds.specs.ErrorFrames.{address-plain, bus-plain}

@@ -6,7 +6,7 @@ use mathlib.Core.Bool.{Bool, true, false}
 use Rattle.types.specs.Kinds.{isPrefetchKind}
 use Rattle.cpu.specs.Fields.{kindOf, addressOf, isFaulted, inException, causeNumberOf}
 use Rattle.memory.specs.World.{World}
-use Rattle.faults.specs.Steps.{refusesOdd, vectorAddress, beginBus, beginAddress}
+use Rattle.steps.specs.Steps.{refusesOdd, vectorAddress, beginBus, beginAddress}
 use Rattle.faults.specs.Faults.{Request, busFault, addressFault, Raise, cpuOf, on, readOr, prefetchRead, firstFrom, prefetchFirst, secondFrom, prefetchSecond, jumpVector, entryAddress, entryBus, closed, ended, raiseBus, raiseAddress, trigger}
 use Rattle.bounds.specs.Skeleton.{Raises, pick-one, jump-good}
 use Rattle.bounds.specs.Levels.{Domain, Safe, Kept, Either, Set, inside, domain, refused, vector-safe, raises-of, steps, halted-kept, bus-kept, address-kept, entryAddress-good, entryBus-good, level-bus}

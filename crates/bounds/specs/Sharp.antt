@@ -7,16 +7,16 @@ use lib.IntN.{pos}
 use lib.ListN.{set, replicate}
 use Rattle.types.specs.Kinds.{is040, is060, isPre68020, isPrefetchKind, maskAddress, hasT0, hasM, maskStatus}
 use Rattle.cpu.specs.Fields.{kindOf, pcOf, vbrOf, a7Of, addressOf, isFaulted, inException, checksAlignment, causeNumberOf, setA7, setPc, halted, setException, restoreRegisters, setWdata, clearCause, clearFcOverride, startVector, minus32, lowerA7, oddPc}
-use Rattle.cpu.specs.Status.{decompose, mUnderS, setSrNointNosp, restoreSr, clearTrace, keepResume}
-use Rattle.cpu.specs.Banks.{spIndex, backupSp, restoreSp, putS, setSFlag, enterSupervisor}
+use Rattle.status.specs.Status.{decompose, mUnderS, setSrNointNosp, restoreSr, clearTrace, keepResume}
+use Rattle.status.specs.Banks.{spIndex, backupSp, restoreSp, putS, setSFlag, enterSupervisor}
 use Rattle.cpu.specs.Clocks.{hasClocks, clocksOf, oneFetched, prefetchEnabled, setClocks, internalCycles, clearPrefetch, firstWord, secondWord}
 use Rattle.cpu.specs.Fresh.{freshRegs, freshFlow, freshFlags, freshQueue, freshFault, freshResume}
 use Rattle.memory.specs.Bytes.{putWord, putLong, getWord, getLong}
 use Rattle.memory.specs.Log.{noteLog, counted}
 use Rattle.memory.specs.Served.{meets, clearOf, windowsInUse, inStore, servedOf, placeOf}
 use Rattle.memory.specs.World.{World, world, putCpu, withCpu, stored, noted, served, written, fetched, rawWrite, tryWrite, readValue, rawRead, tryRead, flush, release}
-use Rattle.faults.specs.Frames.{long, fieldAt, frame68000, frame8, frame2, frame0, frame4, frame7, frame11, addressFrame, busFrame}
-use Rattle.faults.specs.Steps.{refusesOdd, vectorAddress, beginBus, beginAddress, enterBusError, isCounted, isRaw}
+use Rattle.frames.specs.Frames.{long, fieldAt, frame68000, frame8, frame2, frame0, frame4, frame7, frame11, addressFrame, busFrame}
+use Rattle.steps.specs.Steps.{refusesOdd, vectorAddress, beginBus, beginAddress, enterBusError, isCounted, isRaw}
 use Rattle.faults.specs.Faults.{busFault, addressFault, raised, readOr, prefetchRead, keptFirst, firstFrom, prefetchFirst, keptSecond, secondFrom, prefetchSecond, checkedRead, guardRead, wrote, checkedWrite, guardWrite, stackField, pushed, pushFields, shortWrites, pushShort, vectorRead, refill, jumpTo, jumpVector, stacked, entryAddress, entryBus, raiseBus, raiseAddress, trigger}
 use Rattle.cpu.specs.declared.Cpu.{Cpu}
 use Rattle.bounds.specs.Events.{Call, reads, writes, pushes, pushesShort, first, second, jumps, busEntry, addressEntry, raises, run, most}

@@ -7,10 +7,10 @@ use Rattle.types.specs.Kinds.{pick, either}
 use Rattle.cpu.specs.Fields.{pcOf, a7Of, addressOf, isFaulted, setPc, setWdata, startVector, lowerA7, oddPc}
 use Rattle.cpu.specs.Clocks.{hasClocks, clocksOf, setClocks, prefetchEnabled, oneFetched, internalCycles, clearPrefetch, firstWord, secondWord}
 use Rattle.memory.specs.World.{World, Attempt, reply, widthOf, noted, stored, withCpu, served, readValue, flush, release, rawWrite, rawRead, tryWrite, tryRead}
-use Rattle.faults.specs.declared.frames.Field.{Field}
-use Rattle.faults.specs.declared.frames.Frame.{Frame}
-use Rattle.faults.specs.Frames.{fieldAt}
-use Rattle.faults.specs.Steps.{refusesOdd, vectorAddress, isCounted, isRaw}
+use Rattle.frames.specs.declared.Field.{Field}
+use Rattle.frames.specs.declared.Frame.{Frame}
+use Rattle.frames.specs.Frames.{fieldAt}
+use Rattle.steps.specs.Steps.{refusesOdd, vectorAddress, isCounted, isRaw}
 use Rattle.faults.specs.Faults.{busFault, addressFault, Raise, cpuOf, on, readOr, prefetchRead, keptFirst, firstFrom, prefetchFirst, keptSecond, secondFrom, prefetchSecond, checkedRead, guardRead, wrote, checkedWrite, guardWrite, stackField, pushed, pushFields, stacked, shortWrites, pushShort, vectorRead, refill, jumpTo, jumpVector}
 
 -- the two runs come to one world, and it has P at the cost n

@@ -7,7 +7,7 @@ use lib.Dec.{eqb}
 use lib.ListN.{length}
 use mathlib.Core.List.{List}
 use Rattle.cpu.specs.declared.Cpu.{Cpu}
-use Rattle.cpu.specs.declared.trace.Traced.{Traced}
+use Rattle.requests.specs.declared.trace.Traced.{Traced}
 use Rattle.memory.specs.declared.Core.{Core}
 use Rattle.memory.specs.declared.Reply.{Reply}
 use Rattle.memory.specs.World.{World, Attempt, world, reply, tried, putCpu}

@@ -6,13 +6,13 @@ use lib.Dec.{eqb}
 use lib.ListN.{length}
 use Rattle.types.specs.Kinds.{pick}
 use Rattle.types.specs.Causes.{causeNumber}
-use Rattle.cpu.specs.declared.trace.Traced.{Traced}
-use Rattle.cpu.specs.Trace.{checkTrace}
-use Rattle.cpu.specs.Interrupts.{setIrq, checkInterrupts}
+use Rattle.requests.specs.declared.trace.Traced.{Traced}
+use Rattle.requests.specs.Trace.{checkTrace}
+use Rattle.requests.specs.Interrupts.{setIrq, checkInterrupts}
 use Rattle.memory.specs.declared.Core.{Core}
 use Rattle.memory.specs.declared.Bus.{Bus}
 use Rattle.memory.specs.World.{World, Attempt, world}
-use Rattle.faults.specs.Frames.{word, long}
+use Rattle.frames.specs.Frames.{word, long}
 use Rattle.faults.specs.Faults.{cpuOf, on, raised, busFault, addressFault, guardRead, guardWrite, pushed, prefetchFirst, prefetchSecond, entryBus, entryAddress}
 use Rattle.exceptions.specs.Exceptions.{Entry, takeException, takeGroup2, trap, exceptionTrace, takeRewound, takeFpUnimp060, takeFpDisabled060}
 use Rattle.interrupts.specs.Interrupts.{checkAndService}

@@ -1,11 +1,11 @@
 // The public calls: one enum of calls and one function that refuses a call by number, with nothing touched, or performs it. It
 // uses `refusals`, `interrupts`, `exceptions`, `faults` and everything below; `boundary` hands it to C, and programs use it.
 use cpu::Cpu;
-use cpu::trace::Traced;
 use exceptions::Entered;
 use interrupts::Serviced;
 use memory::Core;
 use memory::Reply;
+use requests::trace::Traced;
 use types::FaultCause;
 
 pub mod matters; // what each call is given
@@ -212,9 +212,9 @@ fn run(m: Core, store: &mut [u8], log: &mut [u32], call: Call) -> Performed
             i,
             z,
         )),
-        Call::CheckTrace => traced(m, cpu::trace::check_trace(m.cpu)),
-        Call::SetIrq(n) => noted(m, cpu::interrupts::set_irq(m.cpu, n)),
-        Call::CheckInterrupts => flagged(m, cpu::interrupts::check_interrupts(m.cpu)),
+        Call::CheckTrace => traced(m, requests::trace::check_trace(m.cpu)),
+        Call::SetIrq(n) => noted(m, requests::interrupts::set_irq(m.cpu, n)),
+        Call::CheckInterrupts => flagged(m, requests::interrupts::check_interrupts(m.cpu)),
         Call::CheckAndServiceInterrupts => serviced(interrupts::check_and_service_interrupts(
             m,
             store,

@@ -13,11 +13,11 @@ use Rattle.types.specs.Causes.{causeNumber}
 use Rattle.types.specs.Kinds.{pick, both, isPre68020, isPrefetchKind, is040, is060}
 use Rattle.types.specs.Tables.{exceptionCycles}
 use Rattle.cpu.specs.Fields.{kindOf, inException}
-use Rattle.cpu.specs.Trace.{checkTrace}
-use Rattle.cpu.specs.Interrupts.{setIrq, takesInterrupt}
+use Rattle.requests.specs.Trace.{checkTrace}
+use Rattle.requests.specs.Interrupts.{setIrq, takesInterrupt}
 use Rattle.memory.specs.LogLaws.{Event, spell}
 use Rattle.memory.specs.World.{World}
-use Rattle.faults.specs.Frames.{word, long}
+use Rattle.frames.specs.Frames.{word, long}
 use Rattle.faults.specs.Faults.{cpuOf}
 use Rattle.exceptions.specs.Exceptions.{takeException, trap, takeRewound, takeGroup2, exceptionTrace, takeFpUnimp060, takeFpDisabled060}
 use Rattle.interrupts.specs.Interrupts.{checkAndService}

@@ -9,11 +9,11 @@ use Rattle.types.specs.Kinds.{pick, either, isPre68020, isPrefetchKind, is040, 
 use Rattle.types.specs.Tables.{exceptionCycles}
 use Rattle.cpu.specs.declared.Cpu.{Cpu}
 use Rattle.cpu.specs.Fields.{kindOf, vbrOf, pcOf, ppcOf, inException, halted, setException, rewindPc, noteFpiar, leaveStop}
-use Rattle.cpu.specs.Status.{statusOf}
+use Rattle.status.specs.Status.{statusOf}
 use Rattle.cpu.specs.Clocks.{setClocks, internalCycles}
 use Rattle.memory.specs.World.{World, putCpu}
-use Rattle.faults.specs.Frames.{fieldAt}
-use Rattle.faults.specs.Steps.{isCounted}
+use Rattle.frames.specs.Frames.{fieldAt}
+use Rattle.steps.specs.Steps.{isCounted}
 use Rattle.faults.specs.Faults.{cpuOf, on, raised, jumpVector, stacked}
 use Rattle.exceptions.specs.Frames.{formatWord, offsetWord, shortFrame, longFrame, disabledFrame}
 use Rattle.exceptions.specs.Exceptions.{entry, is68000, stackedAddress, supervised, stackShort, beginEntry, finished, taken, takeException, stackGroup2, takeGroup2, trap, beginTrace, exceptionTrace, takeRewound, stackUnimp, takeFpUnimp060, stackDisabled, takeFpDisabled060}

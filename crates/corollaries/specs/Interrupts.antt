@@ -10,11 +10,11 @@ use lib.Dec.{eqb}
 use Rattle.types.specs.Kinds.{pick, either, isPre68020, isPrefetchKind, isEc020Plus, is040, is060}
 use Rattle.cpu.specs.declared.Cpu.{Cpu}
 use Rattle.cpu.specs.Fields.{kindOf, vbrOf, pcOf, a7Of, isFaulted, inException, lowerA7, clearStopped}
-use Rattle.cpu.specs.Status.{statusOf, setIntMask, clearM, clearTrace, mIsSet}
-use Rattle.cpu.specs.Banks.{enterSupervisor, setSFlag, restoreSp, putS, backupSp, setSmFlag, setSmFlagNosp}
+use Rattle.status.specs.Status.{statusOf, setIntMask, clearM, clearTrace, mIsSet}
+use Rattle.status.specs.Banks.{enterSupervisor, setSFlag, restoreSp, putS, backupSp, setSmFlag, setSmFlagNosp}
 use Rattle.cpu.specs.Clocks.{hasClocks, setClocks, internalCycles}
-use Rattle.cpu.specs.Interrupts.{pendingLevel, maskLevel, takesInterrupt, clearLevel, chargeInterrupt, charged}
-use Rattle.cpu.specs.Laws.{seven-taken, taken-above, taken-exceeds, exceeding-taken}
+use Rattle.requests.specs.Interrupts.{pendingLevel, maskLevel, takesInterrupt, clearLevel, chargeInterrupt, charged}
+use Rattle.requests.specs.Laws.{seven-taken, taken-above, taken-exceeds, exceeding-taken}
 use Rattle.memory.specs.World.{World, Attempt, tried, putCpu, noted, flush, responseOf, acknowledged}
 use Rattle.faults.specs.Faults.{cpuOf, on, raised, guardWrite, jumpVector}
 use Rattle.exceptions.specs.Frames.{formatWord, offsetWord}

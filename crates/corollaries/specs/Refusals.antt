@@ -12,7 +12,7 @@ use lib.Signed.{_<ℤ_}
 use lib.ListN.{length, getD, List·getD-eq-default}
 use Rattle.types.specs.Kinds.{either, both, isPre68020}
 use Rattle.cpu.specs.Fields.{kindOf, vbrOf, checksAlignment, hasFcOverride, fcOverrideOf}
-use Rattle.cpu.specs.Interrupts.{hasRoom, hasCycles}
+use Rattle.requests.specs.Interrupts.{hasRoom, hasCycles}
 use Rattle.memory.specs.declared.Bus.{Bus}
 use Rattle.memory.specs.World.{World}
 use Rattle.faults.specs.Faults.{cpuOf}

@@ -7,19 +7,19 @@ use lib.ListN.{set, replicate}
 use Rattle.types.specs.declared.FaultCause.the-variants.{Absent}
 use Rattle.cpu.specs.declared.Cpu.{Cpu}
 use Rattle.types.specs.Kinds.{is040, is060, isPre68020, isEc020Plus, isPrefetchKind, maskAddress, hasT0, hasM, maskStatus}
-use Rattle.cpu.specs.Banks.{spIndex, backupSp, restoreSp, putS, setSmFlagNosp, setSFlag, setSmFlag, enterSupervisor}
+use Rattle.status.specs.Banks.{spIndex, backupSp, restoreSp, putS, setSmFlagNosp, setSFlag, setSmFlag, enterSupervisor}
 use Rattle.cpu.specs.Clocks.{hasClocks, clocksOf, oneFetched, prefetchEnabled, setClocks, internalCycles, clearPrefetch, firstWord, secondWord}
 use Rattle.cpu.specs.Fields.{kindOf, pcOf, vbrOf, a7Of, addressOf, isFaulted, inException, checksAlignment, causeNumberOf, hasFcOverride, fcOverrideOf, setA7, setPc, noteFpiar, halted, setException, clearStopped, restoreRegisters, setWdata, clearCause, clearFcOverride, startVector, minus32, lowerA7, oddPc}
 use Rattle.cpu.specs.Fresh.{freshFault, freshResume}
-use Rattle.cpu.specs.Interrupts.{clearLevel, pendingLevel, maskLevel, takesInterrupt, hasCycles, charged, chargeInterrupt}
-use Rattle.cpu.specs.Status.{decompose, mUnderS, setSrNointNosp, restoreSr, clearTrace, setIntMask, mIsSet, keepResume}
+use Rattle.requests.specs.Interrupts.{clearLevel, pendingLevel, maskLevel, takesInterrupt, hasCycles, charged, chargeInterrupt}
+use Rattle.status.specs.Status.{decompose, mUnderS, setSrNointNosp, restoreSr, clearTrace, setIntMask, mIsSet, keepResume}
 use Rattle.memory.specs.Bytes.{putWord, putLong, getWord, getLong}
 use Rattle.memory.specs.Log.{noteLog, counted}
 use Rattle.memory.specs.Served.{meets, clearOf, windowsInUse, inStore, servedOf, placeOf}
 use Rattle.memory.specs.World.{World, world, putCpu, withCpu, stored, noted, served, written, fetched, rawWrite, tryWrite, readValue, rawRead, tryRead, flush, release, responseOf, acknowledged}
 use Rattle.faults.specs.Faults.{readOr, prefetchRead, keptFirst, firstFrom, prefetchFirst, keptSecond, secondFrom, prefetchSecond, checkedRead, guardRead, wrote, checkedWrite, guardWrite, stackField, pushed, pushFields, vectorRead, refill, jumpTo, jumpVector, stacked, entryAddress, entryBus, raiseBus, raiseAddress, trigger}
-use Rattle.faults.specs.Frames.{fieldAt, frame68000, frame8, frame2, frame0, frame4, frame7, frame11, addressFrame, busFrame}
-use Rattle.faults.specs.Steps.{refusesOdd, vectorAddress, beginBus, beginAddress, enterBusError, isCounted, isRaw}
+use Rattle.frames.specs.Frames.{fieldAt, frame68000, frame8, frame2, frame0, frame4, frame7, frame11, addressFrame, busFrame}
+use Rattle.steps.specs.Steps.{refusesOdd, vectorAddress, beginBus, beginAddress, enterBusError, isCounted, isRaw}
 use Rattle.exceptions.specs.Exceptions.{is68000, stackShort, beginEntry, finished, taken, takeException, stackGroup2, takeGroup2, stackUnimp, takeFpUnimp060, stackDisabled, takeFpDisabled060}
 use Rattle.exceptions.specs.Frames.{shortFrame, longFrame, disabledFrame}
 use Rattle.interrupts.specs.Interrupts.{iackVector, vectorFrom, acknowledgeLevel, enterLevel, restOther, frameOther, firstFrame, throwaway, secondFrame, closed, ended, dispatched, serviceInterrupt, serviced, checkAndService}

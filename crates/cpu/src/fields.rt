@@ -2,10 +2,8 @@
 use crate::Cpu;
 use crate::OptionalCode;
 use crate::OptionalVector;
-use crate::Resume;
 ghost use mathlib.Core.Path.{_≡_};
 ghost use Rattle.cpu.specs.Fields.{kindOf, pcOf, ppcOf, vbrOf, irOf, a7Of, addressOf, isFaulted, inException, checksAlignment, wdataOf, causeNumberOf, hasFcOverride, fcOverrideOf, setA7, setPc, rewindPc, noteFpiar, halted, setException, clearStopped, leaveStop, restoreRegisters, setWdata, clearCause, clearFcOverride, startVector, lowerA7, minus32, oddPc};
-ghost use Rattle.cpu.specs.Status.{keepResume};
 
 // the kind of processor
 pub fn kind(c: Cpu) -> u8
@@ -291,25 +289,4 @@ pub fn odd_pc(c: Cpu) -> bool
     ensures { λ r. ⌜ r ≡ oddPc c ⌝ }
 {
     pc(c) % 2 == 1
-}
-
-// The registers, PC and the status are kept for the end of the faulted instruction, and the record is faulted.
-pub fn keep_resume(c: Cpu) -> Cpu
-    ensures { λ r. ⌜ r ≡ keepResume c ⌝ }
-{
-    let sr = crate::status::get_sr(c);
-    let regs = c.regs;
-    let registers = regs.dar;
-    let resume = Resume {
-        some: true,
-        pc: c.flow.pc,
-        sr,
-        dar: registers,
-    };
-    let mut flow = c.flow;
-    flow.run_mode = 1;
-    let mut d = c;
-    d.flow = flow;
-    d.fault_resume = resume;
-    d
 }

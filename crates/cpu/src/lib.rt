@@ -1,16 +1,13 @@
 // The record of the processor: the fields of `CpuCore` that the taken functions read or write, by their Rust names, in six
 // groups, and the one-step functions on it. Everything is by value: a function takes the record and hands it back. It uses
-// `types`; `memory` and everything above use it, and name no field themselves.
+// `types`; `status` and `requests` add the steps on the status and on what asks for an exception, and nobody above those three
+// stores to a field.
 //
 // An option of the Rust is a struct with a flag and a value; where the flag is false the value means nothing. A fault cause is
 // a number here, 0 for none, so that the record crosses the C boundary. Masks follow from the kind and are no fields.
-pub mod banks; // the stack pointers of user, interrupt and master state
 pub mod clocks; // clocks that wait to be reported, and the prefetch queue
 pub mod fields; // registers, flow and faults, one field at a time
 pub mod fresh; // a record as `new()` and `set_cpu_type` leave it
-pub mod interrupts; // levels: set, and taken or not
-pub mod status; // the status register, composed and taken apart
-pub mod trace; // whether an instruction asks for a trace exception
 
 #[repr(C)]
 pub struct OptionalVector {

@@ -7,16 +7,16 @@ use mathlib.Core.List.{List}
 use lib.ListN.{length, getD, set}
 use lib.Dec.{eqb, ltb, leb}
 use native.Mathlib.Numerals.{sub-one}
-use Rattle.cpu.specs.Banks.{enterSupervisor}
+use Rattle.status.specs.Banks.{enterSupervisor}
 use Rattle.cpu.specs.Clocks.{internalCycles}
 use Rattle.cpu.specs.Fields.{halted, inException, kindOf, leaveStop, noteFpiar, pcOf, ppcOf, rewindPc, setException}
-use Rattle.cpu.specs.Status.{statusOf}
+use Rattle.status.specs.Status.{statusOf}
 use Rattle.cpu.specs.declared.Cpu.{Cpu}
 use Rattle.exceptions.specs.Exceptions.{beginEntry, beginTrace, entry, exceptionTrace, finished, is68000, stackDisabled, stackGroup2, stackShort, stackUnimp, stackedAddress, stacksNext, takeException, takeFpDisabled060, takeFpUnimp060, takeGroup2, takeRewound, taken, trap}
 use Rattle.exceptions.specs.Frames.{disabledFrame, formatWord, longFrame, offsetWord, shortFrame}
 use Rattle.exceptions.specs.declared.Entered.{Entered}
 use Rattle.faults.specs.Faults.{jumpVector, pushShort, raised, stacked}
-use Rattle.faults.specs.declared.frames.Frame.{Frame}
+use Rattle.frames.specs.declared.Frame.{Frame}
 use Rattle.memory.specs.World.{putCpu, world}
 use Rattle.memory.specs.declared.Core.{Core}
 use Rattle.types.specs.Kinds.{isPre68020}

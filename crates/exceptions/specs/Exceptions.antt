@@ -6,8 +6,8 @@ use Rattle.types.specs.Kinds.{pick, either, both, isPre68020}
 use Rattle.types.specs.Tables.{exceptionCycles}
 use Rattle.cpu.specs.declared.Cpu.{Cpu}
 use Rattle.cpu.specs.Fields.{kindOf, pcOf, ppcOf, inException, halted, setException, rewindPc, noteFpiar, leaveStop}
-use Rattle.cpu.specs.Status.{statusOf}
-use Rattle.cpu.specs.Banks.{enterSupervisor}
+use Rattle.status.specs.Status.{statusOf}
+use Rattle.status.specs.Banks.{enterSupervisor}
 use Rattle.cpu.specs.Clocks.{internalCycles}
 use Rattle.memory.specs.World.{World}
 use Rattle.faults.specs.Faults.{cpuOf, on, raised, stacked, pushShort, jumpVector}

@@ -1,8 +1,8 @@
 -- The frames of exceptions that are no errors, upward from the new A7. All their pushes are guarded.
 use Prim.Native.Nat.{ℕ, _+_, _*_, _%_}
 use mathlib.Core.List.{List, [], _∷_}
-use Rattle.faults.specs.declared.frames.Frame.{Frame}
-use Rattle.faults.specs.Frames.{word, long, framed}
+use Rattle.frames.specs.declared.Frame.{Frame}
+use Rattle.frames.specs.Frames.{word, long, framed}
 
 -- the word of a format and a vector: format × 4096 + vector × 4, the vector's offset in 12 bits
 unfoldable pub formatWord : ℕ → ℕ → ℕ

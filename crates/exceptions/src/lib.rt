@@ -1,9 +1,8 @@
 // The exceptions that are no errors: `take_exception` and the wrappers around it, the group 2 exceptions, trace, and the two
 // floating-point entries of the 68060. It uses `faults` and everything below; `calls` uses it.
-use faults::steps;
 use memory::Core;
 
-pub mod frames; // their frames
+pub mod formats; // their frames
 pub mod state; // what an entry tests and changes on the record
 
 ghost use mathlib.Core.Path.{_≡_};
@@ -27,7 +26,7 @@ pub fn stack_short(m: Core, store: &mut [u8], log: &mut [u32], pc: u32, format: 
         return faults::push_exception_frame_68000(a, store, log, pc, word);
     }
     let sr = state::status(m);
-    let f = frames::short_frame(sr, pc, format);
+    let f = formats::short_frame(sr, pc, format);
     faults::push_frame(a, store, log, f)
 }
 
@@ -36,7 +35,7 @@ fn stack_and_jump(m: Core, store: &mut [u8], log: &mut [u32], vector: u32) -> Co
     ensures { λ r. ⌜ world r (now (store .exit)) (now (log .exit)) ≡ taken (world m (now (store .entry)) (now (log .entry))) vector ⌝ }
 {
     let pc = state::stacked_address(m, vector);
-    let format = frames::offset_word(vector);
+    let format = formats::offset_word(vector);
     let a = stack_short(m, store, log, pc, format);
     let b = faults::jump_vector(a, store, log, vector);
     state::finish(b)
@@ -62,17 +61,17 @@ fn stack_group2(m: Core, store: &mut [u8], log: &mut [u32], vector: u32) -> Core
 {
     let pc = steps::pc(m);
     if state::is_68000(m) {
-        let format = frames::offset_word(vector);
+        let format = formats::offset_word(vector);
         return stack_short(m, store, log, pc, format);
     }
     if state::is_pre_68020(m) {
-        let format = frames::offset_word(vector);
+        let format = formats::offset_word(vector);
         return stack_short(m, store, log, pc, format);
     }
     let a = steps::supervisor(m);
     let sr = state::status(m);
-    let format = frames::format_word(2, vector);
-    let f = frames::long_frame(sr, pc, format, state::ppc(m));
+    let format = formats::format_word(2, vector);
+    let f = formats::long_frame(sr, pc, format, state::ppc(m));
     faults::push_frame(a, store, log, f)
 }
 
@@ -173,8 +172,8 @@ fn stack_unimp(m: Core, store: &mut [u8], log: &mut [u32], ea: u32) -> Core
     let a = steps::supervisor(m);
     let sr = state::status(m);
     let pc = steps::pc(m);
-    let format = frames::format_word(2, 11);
-    let f = frames::long_frame(sr, pc, format, ea);
+    let format = formats::format_word(2, 11);
+    let f = formats::long_frame(sr, pc, format, ea);
     faults::push_frame(a, store, log, f)
 }
 
@@ -196,8 +195,8 @@ fn stack_disabled(m: Core, store: &mut [u8], log: &mut [u32]) -> Core
     let a = steps::supervisor(m);
     let sr = state::status(m);
     let ppc = state::ppc(m);
-    let format = frames::format_word(4, 11);
-    let f = frames::disabled_frame(sr, ppc, format, 0, ppc);
+    let format = formats::format_word(4, 11);
+    let f = formats::disabled_frame(sr, ppc, format, 0, ppc);
     faults::push_frame(a, store, log, f)
 }
 

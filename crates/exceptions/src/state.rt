@@ -6,7 +6,7 @@ ghost use mathlib.Core.Bool.{true, false};
 ghost use Rattle.types.specs.Kinds.{isPre68020};
 ghost use Rattle.memory.specs.World.{putCpu};
 ghost use Rattle.cpu.specs.Fields.{kindOf, pcOf, ppcOf, setException, rewindPc, noteFpiar};
-ghost use Rattle.cpu.specs.Status.{statusOf};
+ghost use Rattle.status.specs.Status.{statusOf};
 ghost use Rattle.exceptions.specs.Exceptions.{is68000, stacksNext, stackedAddress, beginEntry, beginTrace};
 
 // kind 1
@@ -31,7 +31,7 @@ pub fn status_word(m: Core) -> u16
     ensures { λ r. ⌜ r ≡ statusOf (m .cpu) ⌝ }
 {
     let c = m.cpu;
-    cpu::status::get_sr(c)
+    status::get_sr(c)
 }
 
 // the status, as a number to push
@@ -39,7 +39,7 @@ pub fn status(m: Core) -> u32
     ensures { λ r. ⌜ r ≡ statusOf (m .cpu) ⌝ }
 {
     let c = m.cpu;
-    cpu::status::get_sr(c) as u32
+    status::get_sr(c) as u32
 }
 
 // the address of the instruction

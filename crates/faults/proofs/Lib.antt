@@ -1,4 +1,2 @@
-pub mod FrameWays
 pub mod Ways
-pub mod StepWays
 pub mod Named

@@ -9,9 +9,9 @@ use lib.Dec.{eqb, ltb, leb}
 use native.Mathlib.Numerals.{sub-one}
 use Rattle.cpu.specs.Fields.{a7Of, lowerA7}
 use Rattle.faults.specs.Faults.{addressFault, busFault, entryAddress, entryBus, firstFrom, guardRead, guardWrite, jumpTo, jumpVector, keptFirst, keptSecond, prefetchFirst, prefetchSecond, pushFields, pushShort, pushed, raised, refill, secondFrom, shortWrites, stackField, stacked, trigger, vectorRead}
-use Rattle.faults.specs.Frames.{long, word}
-use Rattle.faults.specs.declared.frames.Field.{Field}
-use Rattle.faults.specs.declared.frames.Frame.{Frame}
+use Rattle.frames.specs.Frames.{long, word}
+use Rattle.frames.specs.declared.Field.{Field}
+use Rattle.frames.specs.declared.Frame.{Frame}
 use Rattle.memory.specs.World.{putCpu, reply, world}
 use Rattle.memory.specs.declared.Core.{Core}
 use Rattle.memory.specs.declared.Reply.{Reply}

@@ -7,15 +7,15 @@ use mathlib.Core.List.{List}
 use lib.ListN.{length, getD, set}
 use lib.Dec.{eqb, ltb, leb}
 use native.Mathlib.Numerals.{sub-one}
-use Rattle.cpu.specs.Banks.{enterSupervisor}
+use Rattle.status.specs.Banks.{enterSupervisor}
 use Rattle.cpu.specs.Clocks.{clearPrefetch, firstWord, internalCycles, oneFetched, prefetchEnabled, secondWord}
 use Rattle.cpu.specs.Fields.{a7Of, addressOf, causeNumberOf, halted, inException, isFaulted, lowerA7, oddPc, pcOf, setException, setPc, setWdata, startVector}
-use Rattle.cpu.specs.Status.{keepResume}
+use Rattle.status.specs.Status.{keepResume}
 use Rattle.faults.specs.Faults.{addressFault, busFault, checkedRead, checkedWrite, entryAddress, entryBus, firstFrom, guardRead, guardWrite, jumpTo, jumpVector, keptFirst, keptSecond, prefetchFirst, prefetchRead, prefetchSecond, pushFields, pushed, raiseAddress, raiseBus, readOr, refill, secondFrom, stackField, stacked, trigger, vectorRead, wrote}
-use Rattle.faults.specs.Frames.{addressFrame, busFrame, fieldAt, long}
-use Rattle.faults.specs.Steps.{beginAddress, beginBus, enterBusError, isCounted, isRaw, refusesOdd, vectorAddress}
-use Rattle.faults.specs.declared.frames.Field.{Field}
-use Rattle.faults.specs.declared.frames.Frame.{Frame}
+use Rattle.frames.specs.Frames.{addressFrame, busFrame, fieldAt, long}
+use Rattle.steps.specs.Steps.{beginAddress, beginBus, enterBusError, isCounted, isRaw, refusesOdd, vectorAddress}
+use Rattle.frames.specs.declared.Field.{Field}
+use Rattle.frames.specs.declared.Frame.{Frame}
 use Rattle.memory.specs.World.{flush, putCpu, rawWrite, release, reply, tried, tryRead, tryWrite, widthOf, world}
 use Rattle.memory.specs.declared.Core.{Core}
 use Rattle.memory.specs.declared.Reply.{Reply}

@@ -5,14 +5,14 @@ use mathlib.Core.Bool.{Bool, true, false}
 use Rattle.types.specs.Kinds.{pick}
 use Rattle.cpu.specs.declared.Cpu.{Cpu}
 use Rattle.cpu.specs.Fields.{pcOf, a7Of, addressOf, isFaulted, inException, causeNumberOf, setPc, halted, setException, setWdata, startVector, lowerA7, oddPc}
-use Rattle.cpu.specs.Status.{keepResume}
-use Rattle.cpu.specs.Banks.{enterSupervisor}
+use Rattle.status.specs.Status.{keepResume}
+use Rattle.status.specs.Banks.{enterSupervisor}
 use Rattle.cpu.specs.Clocks.{prefetchEnabled, oneFetched, internalCycles, clearPrefetch, firstWord, secondWord}
 use Rattle.memory.specs.World.{World, world, Attempt, reply, putCpu, widthOf, flush, release, rawWrite, tryWrite, tryRead}
-use Rattle.faults.specs.declared.frames.Field.{Field}
-use Rattle.faults.specs.declared.frames.Frame.{Frame}
-use Rattle.faults.specs.Frames.{fieldAt, busFrame, addressFrame}
-use Rattle.faults.specs.Steps.{refusesOdd, vectorAddress, beginBus, beginAddress, enterBusError, isCounted, isRaw}
+use Rattle.frames.specs.declared.Field.{Field}
+use Rattle.frames.specs.declared.Frame.{Frame}
+use Rattle.frames.specs.Frames.{fieldAt, busFrame, addressFrame}
+use Rattle.steps.specs.Steps.{refusesOdd, vectorAddress, beginBus, beginAddress, enterBusError, isCounted, isRaw}
 
 -- what is raised: a bus error (address, write, instruction, size) or an address error (address, write, instruction)
 pub data Request : Type 0 where

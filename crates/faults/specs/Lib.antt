@@ -1,4 +1,1 @@
-pub mod Codes
-pub mod Frames
-pub mod Steps
 pub mod Faults

@@ -1,9 +1,7 @@
 // The functions that call each other. Only the two triggers lower `levels`. Their names are short since the proof of all of them
 // is one module named after them; the Rust's names stand on the functions of the crate's root.
-use crate::frames;
-use crate::frames::Field;
-use crate::frames::Frame;
-use crate::steps;
+use frames::Field;
+use frames::Frame;
 use memory::Core;
 use memory::Reply;
 ghost use mathlib.Core.Path.{_≡_};

@@ -1,20 +1,17 @@
 // Guarded accesses and what they raise: triggers, error entries, pushes, the vector jump and the prefetch call each other, and
-// the fault levels that remain fall. It uses `memory`, `cpu` and `types`; `exceptions` and `interrupts` push their frames and
+// the fault levels that remain fall. It uses `steps` and everything below; `exceptions` and `interrupts` push their frames and
 // jump through it. Here are the Rust's names over the functions that call each other, with two levels: inside the domain more
 // change nothing.
-use crate::frames::Frame;
+use frames::Frame;
 use memory::Core;
 use memory::Reply;
 
-mod codes; // status words of error frames
 mod cycle; // the functions that call each other
-pub mod frames; // frames as data
-pub mod steps; // one step each on the record of a core
 
 ghost use mathlib.Core.Path.{_≡_};
 ghost use mathlib.Core.Bool.{true, false};
 ghost use Rattle.memory.specs.World.{world, reply};
-ghost use Rattle.faults.specs.Frames.{word, long};
+ghost use Rattle.frames.specs.Frames.{word, long};
 ghost use Rattle.faults.specs.Faults.{raised, trigger, busFault, addressFault, guardRead, guardWrite, pushed, stacked, pushShort, jumpVector, prefetchFirst, prefetchSecond, entryBus, entryAddress};
 
 // A guarded read of a word.

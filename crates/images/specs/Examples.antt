@@ -14,10 +14,10 @@ use Rattle.cpu.specs.Fields.{kindOf, a7Of, addressOf, isFaulted, checksAlignmen
 use Rattle.cpu.specs.Fresh.{freshCpu, freshFlow, freshRegs}
 use Rattle.memory.specs.Served.{meets, clearOf, windowsInUse, inStore, servedOf, placeOf}
 use Rattle.memory.specs.World.{World, world, served}
-use Rattle.faults.specs.declared.frames.Frame.{Frame}
-use Rattle.faults.specs.declared.frames.Field.{Field}
-use Rattle.faults.specs.Frames.{word, fieldAt, frame0, frame8, frame11}
-use Rattle.faults.specs.Steps.{isCounted}
+use Rattle.frames.specs.declared.Frame.{Frame}
+use Rattle.frames.specs.declared.Field.{Field}
+use Rattle.frames.specs.Frames.{word, fieldAt, frame0, frame8, frame11}
+use Rattle.steps.specs.Steps.{isCounted}
 use Rattle.images.specs.Images.{frameBytes, Ready, Sound, bottom, ready-whole}
 
 -- a fresh record of kind k with A7 as said, no window, and n bytes from base on

@@ -22,10 +22,10 @@ use Rattle.memory.specs.Runs.{Outside, Apart}
 use Rattle.memory.specs.ByteLaws.{put, get, Fits, put-length, put-keeps, read-back, read-other}
 use Rattle.memory.specs.AccessLaws.{kept}
 use Rattle.memory.specs.ServedLaws.{Clear, start, size, served-means, served-if}
-use Rattle.faults.specs.declared.frames.Field.{Field}
-use Rattle.faults.specs.declared.frames.Frame.{Frame}
-use Rattle.faults.specs.Frames.{fieldAt}
-use Rattle.faults.specs.Steps.{refusesOdd, isCounted, isRaw}
+use Rattle.frames.specs.declared.Field.{Field}
+use Rattle.frames.specs.declared.Frame.{Frame}
+use Rattle.frames.specs.Frames.{fieldAt}
+use Rattle.steps.specs.Steps.{refusesOdd, isCounted, isRaw}
 use Rattle.faults.specs.Faults.{Raise, cpuOf, on, stackField, pushed, pushFields, stacked}
 use Rattle.images.specs.Pushes.{calm, served-same, place-same, Kept, Left, laidField, field-left}
 

@@ -9,8 +9,8 @@ use Rattle.types.specs.Kinds.{pick, isPre68020, isPrefetchKind, maskAddress}
 use Rattle.cpu.specs.declared.Cpu.{Cpu}
 use Rattle.cpu.specs.declared.Flow.{Flow}
 use Rattle.cpu.specs.Fields.{kindOf, pcOf, vbrOf, a7Of, addressOf, isFaulted, inException, causeNumberOf, checksAlignment, setPc, setException, startVector, oddPc, minus32}
-use Rattle.cpu.specs.Status.{keepResume}
-use Rattle.cpu.specs.Banks.{enterSupervisor}
+use Rattle.status.specs.Status.{keepResume}
+use Rattle.status.specs.Banks.{enterSupervisor}
 use Rattle.cpu.specs.Laws.{clocks-kept}
 use Rattle.cpu.specs.Clocks.{prefetchEnabled, oneFetched, internalCycles, setClocks, clocksOf, clearPrefetch, firstWord, secondWord}
 use Rattle.memory.specs.declared.Core.{Core}
@@ -18,9 +18,9 @@ use Rattle.memory.specs.declared.Bus.{Bus}
 use Rattle.memory.specs.Log.{counted}
 use Rattle.memory.specs.Runs.{Apart}
 use Rattle.memory.specs.World.{World, world, Attempt, reply, noted, putCpu, widthOf, served, readValue, flush, release, rawRead, tryRead}
-use Rattle.faults.specs.declared.frames.Frame.{Frame}
-use Rattle.faults.specs.Frames.{busFrame, addressFrame}
-use Rattle.faults.specs.Steps.{refusesOdd, vectorAddress, beginBus, beginAddress, enterBusError}
+use Rattle.frames.specs.declared.Frame.{Frame}
+use Rattle.frames.specs.Frames.{busFrame, addressFrame}
+use Rattle.steps.specs.Steps.{refusesOdd, vectorAddress, beginBus, beginAddress, enterBusError}
 use Rattle.faults.specs.Faults.{Raise, busFault, addressFault, cpuOf, on, readOr, prefetchRead, keptFirst, firstFrom, prefetchFirst, keptSecond, secondFrom, prefetchSecond, checkedRead, guardRead, vectorRead, refill, jumpTo, jumpVector, stacked, entryBus, entryAddress, closed, ended, raiseBus, raiseAddress, trigger}
 use Rattle.images.specs.Pushes.{calm, served-same, place-same, Kept, kept-trans, Left, flush-left}
 use Rattle.images.specs.Images.{frameBytes, Shape, Ready, Image, Still, still-trans, read-same, image-still, stacked-image, stacked-runs, stacked-framed, stacked-serves, read-apart, newA7, bottom}

@@ -10,8 +10,8 @@ use Rattle.types.specs.Kinds.{pick, isPre68020, is040, is060}
 use Rattle.types.specs.Tables.{formatLength, takesFormat, frameLength}
 use Rattle.cpu.specs.declared.Cpu.{Cpu}
 use Rattle.cpu.specs.Fields.{kindOf}
-use Rattle.faults.specs.declared.frames.Frame.{Frame}
-use Rattle.faults.specs.Frames.{fieldAt, frame68000, frame8, frame2, frame0, frame4, frame7, frame11, addressFrame, busFrame}
+use Rattle.frames.specs.declared.Frame.{Frame}
+use Rattle.frames.specs.Frames.{fieldAt, frame68000, frame8, frame2, frame0, frame4, frame7, frame11, addressFrame, busFrame}
 use Rattle.images.specs.Images.{frameBytes}
 
 -- the length of a frame in bytes

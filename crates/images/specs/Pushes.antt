@@ -19,8 +19,8 @@ use Rattle.memory.specs.Served.{meets, clearOf, windowsInUse, inStore, servedOf
 use Rattle.memory.specs.World.{World, world, noted, stored, withCpu, putCpu, widthOf, served, written, flush, rawWrite, tryWrite}
 use Rattle.memory.specs.ByteLaws.{put}
 use Rattle.memory.specs.AccessLaws.{kept, write-store}
-use Rattle.faults.specs.declared.frames.Field.{Field}
-use Rattle.faults.specs.Steps.{refusesOdd, isCounted, isRaw}
+use Rattle.frames.specs.declared.Field.{Field}
+use Rattle.steps.specs.Steps.{refusesOdd, isCounted, isRaw}
 use Rattle.faults.specs.Faults.{Raise, cpuOf, on, wrote, checkedWrite, guardWrite, stackField}
 
 -- a bus with its events not counted: base, windows and responses

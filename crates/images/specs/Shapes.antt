@@ -11,14 +11,14 @@ use Rattle.types.specs.Kinds.{pick, either, isPre68020, is040, is060}
 use Rattle.types.specs.Every.{every, at}
 use Rattle.cpu.specs.declared.Cpu.{Cpu}
 use Rattle.cpu.specs.Fields.{kindOf, clearFcOverride}
-use Rattle.cpu.specs.Status.{clearTrace}
-use Rattle.cpu.specs.Banks.{enterSupervisor, setSFlag, restoreSp, putS, backupSp}
+use Rattle.status.specs.Status.{clearTrace}
+use Rattle.status.specs.Banks.{enterSupervisor, setSFlag, restoreSp, putS, backupSp}
 use Rattle.memory.specs.Served.{servedOf}
 use Rattle.memory.specs.World.{World, putCpu, widthOf}
-use Rattle.faults.specs.declared.frames.Field.{Field}
-use Rattle.faults.specs.declared.frames.Frame.{Frame}
-use Rattle.faults.specs.Frames.{word, fieldAt, frame68000, frame8, frame2, frame0, frame4, frame7, frame11, addressFrame, busFrame}
-use Rattle.faults.specs.Steps.{isCounted, isRaw, enterBusError}
+use Rattle.frames.specs.declared.Field.{Field}
+use Rattle.frames.specs.declared.Frame.{Frame}
+use Rattle.frames.specs.Frames.{word, fieldAt, frame68000, frame8, frame2, frame0, frame4, frame7, frame11, addressFrame, busFrame}
+use Rattle.steps.specs.Steps.{isCounted, isRaw, enterBusError}
 use Rattle.faults.specs.Faults.{cpuOf, on}
 use Rattle.images.specs.Images.{fieldAddress, newA7, mostStore, Sound, Shape, Ready}
 use Rattle.images.specs.Lengths.{lengthOf, length-68000, length-8, length-2, length-0, length-4, length-7, length-11}

@@ -10,18 +10,18 @@ use lib.ListN.{length, getD, replicate}
 use Rattle.types.specs.Kinds.{pick, both, isPre68020, is040, is060}
 use Rattle.cpu.specs.declared.Cpu.{Cpu}
 use Rattle.cpu.specs.Fields.{kindOf, ppcOf, irOf, wdataOf, hasFcOverride, fcOverrideOf}
-use Rattle.cpu.specs.Status.{statusOf, compose}
-use Rattle.cpu.specs.Banks.{enterSupervisor}
+use Rattle.status.specs.Status.{statusOf, compose}
+use Rattle.status.specs.Banks.{enterSupervisor}
 use Rattle.memory.specs.ByteLaws.{Fits}
 use Rattle.memory.specs.World.{World, readValue}
-use Rattle.faults.specs.declared.frames.Field.{Field}
-use Rattle.faults.specs.declared.frames.Frame.{Frame}
-use Rattle.faults.specs.Frames.{word, long, framed, gapWord, fieldAt, frame68000, frame8, frame2, frame0, frame4, frame7, frame11, writeData, addressFrame, busFrame}
-use Rattle.faults.specs.Steps.{isCounted, enterBusError}
+use Rattle.frames.specs.declared.Field.{Field}
+use Rattle.frames.specs.declared.Frame.{Frame}
+use Rattle.frames.specs.Frames.{word, long, framed, gapWord, fieldAt, frame68000, frame8, frame2, frame0, frame4, frame7, frame11, writeData, addressFrame, busFrame}
+use Rattle.steps.specs.Steps.{isCounted, enterBusError}
 use Rattle.faults.specs.Faults.{Raise, cpuOf, on, stacked, entryBus, entryAddress}
 use Rattle.images.specs.Images.{frameBytes, bottom, Ready, Image, field-value}
 use Rattle.images.specs.Jumps.{Reachable, bus-image, address-image}
-use Rattle.faults.specs.Codes.{functionCode, isSupervisor, stateCode, faultCode, statusWord, size020, ssw020, isCause, size040, ssw040, wb3s, causeBit, size060, fslw060}
+use Rattle.frames.specs.Codes.{functionCode, isSupervisor, stateCode, faultCode, statusWord, size020, ssw020, isCause, size040, ssw040, wb3s, causeBit, size060, fslw060}
 
 -- each value of a frame fits its field
 abbrev pub AllFit : Frame → Type 0

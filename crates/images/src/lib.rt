@@ -1,4 +1,4 @@
-// What an error entry leaves in the store: mathematics only, in `specs`. It uses `faults`, `memory`, `cpu` and `types`.
+// What an error entry leaves in the store: mathematics only, in `specs`. It uses `faults` and everything below.
 // One function says the most fields that a frame has.
 ghost use mathlib.Core.Path.{_≡_};
 

@@ -7,15 +7,15 @@ use mathlib.Core.List.{List}
 use lib.ListN.{length, getD, set}
 use lib.Dec.{eqb, ltb, leb}
 use native.Mathlib.Numerals.{sub-one}
-use Rattle.cpu.specs.Banks.{enterSupervisor, setSmFlag}
+use Rattle.status.specs.Banks.{enterSupervisor, setSmFlag}
 use Rattle.cpu.specs.Clocks.{internalCycles}
 use Rattle.cpu.specs.Fields.{a7Of, clearStopped, kindOf, lowerA7, pcOf}
-use Rattle.cpu.specs.Interrupts.{chargeInterrupt, clearLevel, pendingLevel, takesInterrupt}
-use Rattle.cpu.specs.Status.{clearM, mIsSet, setIntMask, statusOf}
+use Rattle.requests.specs.Interrupts.{chargeInterrupt, clearLevel, pendingLevel, takesInterrupt}
+use Rattle.status.specs.Status.{clearM, mIsSet, setIntMask, statusOf}
 use Rattle.cpu.specs.declared.Cpu.{Cpu}
 use Rattle.exceptions.specs.Frames.{formatWord, offsetWord, shortFrame}
 use Rattle.faults.specs.Faults.{guardWrite, jumpVector, raised, stacked}
-use Rattle.faults.specs.declared.frames.Frame.{Frame}
+use Rattle.frames.specs.declared.Frame.{Frame}
 use Rattle.interrupts.specs.Interrupts.{acknowledgeLevel, checkAndService, closed, dispatched, ended, enterLevel, firstFrame, frame68000Interrupt, frame68010Interrupt, frameOther, from68000, iackVector, rest68000, rest68010, restOther, secondFrame, serviceInterrupt, serviced, syncedAcknowledge, throwaway, vectorFrom, withS, writes68010}
 use Rattle.interrupts.specs.declared.Stacked.{Stacked}
 use Rattle.memory.specs.World.{acknowledged, flush, putCpu, reply, tried, world}

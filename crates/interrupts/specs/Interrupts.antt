@@ -5,10 +5,10 @@ use lib.Dec.{eqb}
 use Rattle.types.specs.Kinds.{pick, isEc020Plus, is060}
 use Rattle.cpu.specs.declared.Cpu.{Cpu}
 use Rattle.cpu.specs.Fields.{kindOf, pcOf, a7Of, lowerA7, clearStopped}
-use Rattle.cpu.specs.Status.{statusOf, setIntMask, clearM, mIsSet}
-use Rattle.cpu.specs.Banks.{enterSupervisor, setSmFlag}
+use Rattle.status.specs.Status.{statusOf, setIntMask, clearM, mIsSet}
+use Rattle.status.specs.Banks.{enterSupervisor, setSmFlag}
 use Rattle.cpu.specs.Clocks.{internalCycles}
-use Rattle.cpu.specs.Interrupts.{pendingLevel, takesInterrupt, clearLevel, chargeInterrupt}
+use Rattle.requests.specs.Interrupts.{pendingLevel, takesInterrupt, clearLevel, chargeInterrupt}
 use Rattle.memory.specs.World.{World, Attempt, reply, tried, flush, acknowledged}
 use Rattle.faults.specs.Faults.{cpuOf, on, raised, guardWrite, stacked, jumpVector}
 use Rattle.exceptions.specs.Frames.{formatWord, offsetWord, shortFrame}

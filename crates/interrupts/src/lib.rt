@@ -1,7 +1,6 @@
 // The interrupt call: `check_and_service_interrupts` with `service_interrupt`, kind by kind. It uses `exceptions` for the frames,
 // `faults` and everything below; `calls` uses it.
-use exceptions::frames;
-use faults::steps;
+use exceptions::formats;
 use memory::Core;
 
 pub mod state; // what an interrupt tests and changes on the record
@@ -124,9 +123,9 @@ fn frame_other(m: Core, store: &mut [u8], log: &mut [u32], pc: u32, sr: u16, lev
 {
     let x = acknowledge_level(m, store, log, level);
     let a = x.core;
-    let format = frames::offset_word(x.vector);
+    let format = formats::offset_word(x.vector);
     let n = state::wide(sr);
-    let f = frames::short_frame(n, pc, format);
+    let f = formats::short_frame(n, pc, format);
     let b = faults::push_frame(a, store, log, f);
     Stacked {
         core: b,
@@ -160,8 +159,8 @@ fn throwaway_frame(
 {
     let a = state::interrupt_stack(m);
     let n = state::with_s(sr);
-    let format = frames::format_word(1, vector);
-    let f = frames::short_frame(n, pc, format);
+    let format = formats::format_word(1, vector);
+    let f = formats::short_frame(n, pc, format);
     faults::push_frame(a, store, log, f)
 }
 

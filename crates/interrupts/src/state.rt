@@ -6,10 +6,10 @@ ghost use Prim.Native.Nat.{_/_, _%_};
 ghost use Rattle.types.specs.Kinds.{isEc020Plus, is060};
 ghost use Rattle.memory.specs.World.{putCpu};
 ghost use Rattle.cpu.specs.Fields.{kindOf, a7Of, lowerA7};
-ghost use Rattle.cpu.specs.Status.{statusOf, mIsSet, clearM};
-ghost use Rattle.cpu.specs.Banks.{setSmFlag};
+ghost use Rattle.status.specs.Status.{statusOf, mIsSet, clearM};
+ghost use Rattle.status.specs.Banks.{setSmFlag};
 ghost use Rattle.cpu.specs.Clocks.{internalCycles};
-ghost use Rattle.cpu.specs.Interrupts.{pendingLevel, takesInterrupt, clearLevel};
+ghost use Rattle.requests.specs.Interrupts.{pendingLevel, takesInterrupt, clearLevel};
 ghost use Rattle.exceptions.specs.Frames.{offsetWord};
 ghost use Rattle.interrupts.specs.Interrupts.{iackVector, enterLevel, withS, closed};
 
@@ -64,7 +64,7 @@ pub fn status(m: Core) -> u16
     ensures { λ r. ⌜ r ≡ statusOf (m .cpu) ⌝ }
 {
     let c = m.cpu;
-    cpu::status::get_sr(c)
+    status::get_sr(c)
 }
 
 // kind 1
@@ -106,7 +106,7 @@ pub fn m_is_set(m: Core) -> bool
     ensures { λ r. ⌜ r ≡ mIsSet (m .cpu) ⌝ }
 {
     let c = m.cpu;
-    cpu::status::m_is_set(c)
+    status::m_is_set(c)
 }
 
 // whether an interrupt is taken
@@ -114,14 +114,14 @@ pub fn takes(m: Core) -> bool
     ensures { λ r. ⌜ r ≡ takesInterrupt (m .cpu) ⌝ }
 {
     let c = m.cpu;
-    cpu::interrupts::takes_interrupt(c)
+    requests::interrupts::takes_interrupt(c)
 }
 
 // The level of the interrupt call.
 pub fn level(m: Core) -> u8
     ensures { λ r. ⌜ r ≡ pendingLevel (m .cpu) ⌝ }
 {
-    cpu::interrupts::pending_level(m.cpu)
+    requests::interrupts::pending_level(m.cpu)
 }
 
 // 68000: A7 after 6 clocks and 6 bytes.
@@ -163,7 +163,7 @@ pub fn interrupt_stack(m: Core) -> Core
     ensures { λ r. ⌜ r ≡ putCpu m (setSmFlag (m .cpu) 4) ⌝ }
 {
     let c = m.cpu;
-    memory::with_cpu(m, cpu::banks::set_sm_flag(c, 4))
+    memory::with_cpu(m, status::banks::set_sm_flag(c, 4))
 }
 
 // M is cleared and the stack stays
@@ -171,7 +171,7 @@ pub fn clear_m(m: Core) -> Core
     ensures { λ r. ⌜ r ≡ putCpu m (clearM (m .cpu)) ⌝ }
 {
     let c = m.cpu;
-    memory::with_cpu(m, cpu::status::clear_m(c))
+    memory::with_cpu(m, status::clear_m(c))
 }
 
 // supervisor state, trace off, the mask at the level
@@ -179,8 +179,8 @@ pub fn enter_level(m: Core, level: u8) -> Core
     ensures { λ r. ⌜ r ≡ putCpu m (enterLevel (m .cpu) level) ⌝ }
 {
     let c = m.cpu;
-    let a = cpu::banks::enter_supervisor(c);
-    memory::with_cpu(m, cpu::status::set_int_mask(a, level))
+    let a = status::banks::enter_supervisor(c);
+    memory::with_cpu(m, status::set_int_mask(a, level))
 }
 
 // `stopped` is 0 and the cycles are charged
@@ -189,7 +189,7 @@ pub fn close(m: Core) -> Core
 {
     let c = m.cpu;
     let a = cpu::fields::clear_stopped(c);
-    memory::with_cpu(m, cpu::interrupts::charge_interrupt(a))
+    memory::with_cpu(m, requests::interrupts::charge_interrupt(a))
 }
 
 // no level is pending
@@ -197,5 +197,5 @@ pub fn clear_level(m: Core) -> Core
     ensures { λ r. ⌜ r ≡ putCpu m (clearLevel (m .cpu)) ⌝ }
 {
     let c = m.cpu;
-    memory::with_cpu(m, cpu::interrupts::clear_level(c))
+    memory::with_cpu(m, requests::interrupts::clear_level(c))
 }

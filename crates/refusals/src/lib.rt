@@ -61,7 +61,7 @@ pub fn bad_cycles(interrupt: bool, c: Cpu) -> bool
     ensures { λ r. ⌜ r ≡ badCycles interrupt c ⌝ }
 {
     if interrupt {
-        return !cpu::interrupts::has_cycles(c);
+        return !requests::interrupts::has_cycles(c);
     }
     false
 }

@@ -14,9 +14,9 @@ use Rattle.calls.proofs.noted.Reads as noted-reads
 use Rattle.calls.proofs.read.Reads as read-reads
 use Rattle.calls.proofs.serviced.Reads as serviced-reads
 use Rattle.calls.proofs.traced.Reads as traced-reads
-use Rattle.cpu.proofs.interrupts.check_interrupts.Reads as check-interrupts-reads
-use Rattle.cpu.proofs.interrupts.set_irq.Reads as set-irq-reads
-use Rattle.cpu.proofs.trace.check_trace.Reads as check-trace-reads
+use Rattle.requests.proofs.interrupts.check_interrupts.Reads as check-interrupts-reads
+use Rattle.requests.proofs.interrupts.set_irq.Reads as set-irq-reads
+use Rattle.requests.proofs.trace.check_trace.Reads as check-trace-reads
 use Rattle.exceptions.proofs.exception_chk.Reads as exception-chk-reads
 use Rattle.exceptions.proofs.exception_privilege.Reads as exception-privilege-reads
 use Rattle.exceptions.proofs.exception_trace.Reads as exception-trace-reads

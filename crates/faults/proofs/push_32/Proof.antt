@@ -6,25 +6,25 @@ use Rattle.faults.proofs.push_32.Tie as tie
 use Rattle.faults.proofs.push_32.Reads as reads
 use Rattle.faults.proofs.push_32.Lts as lts
 use Rattle.faults.proofs.cycle.push.Reads as push-reads
-use Rattle.faults.proofs.frames.long.Reads as long-reads
+use Rattle.frames.proofs.long.Reads as long-reads
 
--- src/lib.rt:60:9
+-- src/lib.rt:57:9
 long-requires : tie.Need-long-requires
 long-requires c κs = search needs
 
--- src/lib.rt:61:5
+-- src/lib.rt:58:5
 push-requires : tie.Need-push-requires
 push-requires c κs = search needs
 
--- src/lib.rt:57:1
+-- src/lib.rt:54:1
 same-length : tie.Need-same-length
 same-length c = c .before .before .before .before .push .kept .1 .0
 
--- src/lib.rt:57:1
+-- src/lib.rt:54:1
 same-length-2 : tie.Need-same-length-2
 same-length-2 c = c .before .before .before .before .push .kept .1 .1 .0
 
--- src/lib.rt:57:1
+-- src/lib.rt:54:1
 returns : tie.Need-returns
 returns c = push-32-way _ _ _ _ _ _ _ _ (c .before .before .before .before .before .before .before .long .ensures) (c .before .before .before .before .push .ensures)
 

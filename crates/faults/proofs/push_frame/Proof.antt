@@ -6,25 +6,25 @@ use Rattle.faults.proofs.push_frame.Tie as tie
 use Rattle.faults.proofs.push_frame.Reads as reads
 use Rattle.faults.proofs.push_frame.Lts as lts
 use Rattle.faults.proofs.cycle.push_all.Reads as push-all-reads
-use Rattle.faults.proofs.frames.count.Reads as count-reads
+use Rattle.frames.proofs.count.Reads as count-reads
 
--- src/lib.rt:68:9
+-- src/lib.rt:65:9
 count-requires : tie.Need-count-requires
 count-requires c κs = search needs
 
--- src/lib.rt:69:5
+-- src/lib.rt:66:5
 push-all-requires : tie.Need-push-all-requires
 push-all-requires c κs = search needs
 
--- src/lib.rt:65:1
+-- src/lib.rt:62:1
 same-length : tie.Need-same-length
 same-length c = c .before .before .before .before .push-all .kept .1 .0
 
--- src/lib.rt:65:1
+-- src/lib.rt:62:1
 same-length-2 : tie.Need-same-length-2
 same-length-2 c = c .before .before .before .before .push-all .kept .1 .1 .0
 
--- src/lib.rt:65:1
+-- src/lib.rt:62:1
 returns : tie.Need-returns
 returns c = push-frame-way _ _ _ _ _ _ _ _ (c .before .before .before .before .before .before .before .count .ensures .0) (c .before .before .before .before .push-all .ensures)
 

@@ -8,23 +8,23 @@ use Rattle.interrupts.proofs.acknowledge_level.Lts as lts
 use Rattle.interrupts.proofs.state.iack_vector.Reads as iack-vector-reads
 use Rattle.memory.proofs.acknowledge.Reads as acknowledge-reads
 
--- src/lib.rt:30:9
+-- src/lib.rt:29:9
 acknowledge-requires : tie.Need-acknowledge-requires
 acknowledge-requires c κs = search needs
 
--- src/lib.rt:32:9
+-- src/lib.rt:31:9
 iack-vector-requires : tie.Need-iack-vector-requires
 iack-vector-requires c κs = search needs
 
--- src/lib.rt:27:1
+-- src/lib.rt:26:1
 same-length : tie.Need-same-length
 same-length c = c .before .before .before .before .before .before .acknowledge .kept .1 .0
 
--- src/lib.rt:27:1
+-- src/lib.rt:26:1
 same-length-2 : tie.Need-same-length-2
 same-length-2 c = c .before .before .before .before .before .before .acknowledge .kept .1 .1 .0
 
--- src/lib.rt:27:1
+-- src/lib.rt:26:1
 returns : tie.Need-returns
 returns c = acknowledge-level-way _ _ _ _ _ _ _ _ (c .before .before .before .before .before .before .acknowledge .ensures) (c .iack-vector .ensures)
 

@@ -10,35 +10,35 @@ use Rattle.interrupts.proofs.state.clear_level.Reads as clear-level-rea
 use Rattle.interrupts.proofs.state.level.Reads as level-reads
 use Rattle.interrupts.proofs.state.takes.Reads as takes-reads
 
--- src/lib.rt:201:8
+-- src/lib.rt:200:8
 takes-requires : tie.Need-takes-requires
 takes-requires c κs = search needs
 
--- src/lib.rt:202:13
+-- src/lib.rt:201:13
 level-requires : tie.Need-level-requires
 level-requires c κs = search needs
 
--- src/lib.rt:203:13
+-- src/lib.rt:202:13
 service-interrupt-requires : tie.Need-service-interrupt-requires
 service-interrupt-requires c κs = search needs
 
--- src/lib.rt:204:13
+-- src/lib.rt:203:13
 clear-level-requires : tie.Need-clear-level-requires
 clear-level-requires c κs = search needs
 
--- src/lib.rt:205:9
+-- src/lib.rt:204:9
 same-length : tie.Need-same-length
 same-length c = c .before .before .before .before .before .service-interrupt .kept .1 .0
 
--- src/lib.rt:205:9
+-- src/lib.rt:204:9
 same-length-2 : tie.Need-same-length-2
 same-length-2 c = c .before .before .before .before .before .service-interrupt .kept .1 .1 .0
 
--- src/lib.rt:205:9
+-- src/lib.rt:204:9
 returns : tie.Need-returns
 returns c = check-and-service-interrupts-way _ _ _ _ _ _ _ _ _ (c .before .before .before .before .before .before .before .before .before .before .takes .ensures) (c .before .before .before .before .before .before .before .before .before .if1 .taken) (c .before .before .before .before .before .before .before .before .level .ensures) (c .before .before .before .before .before .service-interrupt .ensures) (c .clear-level .ensures)
 
--- src/lib.rt:198:1
+-- src/lib.rt:197:1
 returns-2 : tie.Need-returns-2
 returns-2 c = check-and-service-interrupts-way-2 _ _ _ _ (c .before .takes .ensures) (c .if1 .left)
 

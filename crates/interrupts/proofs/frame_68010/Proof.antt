@@ -11,35 +11,35 @@ use Rattle.interrupts.proofs.state.offset_u16.Reads as offset-u16-reads
 use Rattle.interrupts.proofs.synced_acknowledge.Reads as synced-acknowledge-reads
 use Rattle.interrupts.proofs.writes_68010.Reads as writes-68010-reads
 
--- src/lib.rt:109:9
+-- src/lib.rt:108:9
 synced-acknowledge-requires : tie.Need-synced-acknowledge-requires
 synced-acknowledge-requires c κs = search needs
 
--- src/lib.rt:111:9
+-- src/lib.rt:110:9
 lowered-68010-requires : tie.Need-lowered-68010-requires
 lowered-68010-requires c κs = search needs
 
--- src/lib.rt:112:9
+-- src/lib.rt:111:9
 lowered-top-68010-requires : tie.Need-lowered-top-68010-requires
 lowered-top-68010-requires c κs = search needs
 
--- src/lib.rt:113:9
+-- src/lib.rt:112:9
 offset-u16-requires : tie.Need-offset-u16-requires
 offset-u16-requires c κs = search needs
 
--- src/lib.rt:114:9
+-- src/lib.rt:113:9
 writes-68010-requires : tie.Need-writes-68010-requires
 writes-68010-requires c κs = search needs
 
--- src/lib.rt:106:1
+-- src/lib.rt:105:1
 same-length : tie.Need-same-length
 same-length c = c .before .before .before .before .writes-68010 .kept .1 .0 ∙ c .before .before .before .before .before .before .before .before .before .before .before .before .before .before .before .synced-acknowledge .kept .1 .0
 
--- src/lib.rt:106:1
+-- src/lib.rt:105:1
 same-length-2 : tie.Need-same-length-2
 same-length-2 c = c .before .before .before .before .writes-68010 .kept .1 .1 .0 ∙ c .before .before .before .before .before .before .before .before .before .before .before .before .before .before .before .synced-acknowledge .kept .1 .1 .0
 
--- src/lib.rt:106:1
+-- src/lib.rt:105:1
 returns : tie.Need-returns
 returns c = frame-68010-way _ _ _ _ _ _ _ _ _ _ _ _ _ _ _ (c .before .before .before .before .before .before .before .before .before .before .before .before .before .before .before .synced-acknowledge .ensures) (c .before .before .before .before .before .before .before .before .before .lowered-68010 .ensures) (c .before .before .before .before .before .before .before .before .lowered-top-68010 .ensures) (c .before .before .before .before .before .before .before .offset-u16 .ensures) (c .before .before .before .before .writes-68010 .ensures)
 

@@ -5,58 +5,58 @@ use Rattle.interrupts.proofs.from_68000.Statement.{statement}
 use Rattle.interrupts.proofs.from_68000.Tie as tie
 use Rattle.interrupts.proofs.from_68000.Reads as reads
 use Rattle.interrupts.proofs.from_68000.Lts as lts
-use Rattle.faults.proofs.steps.internal_cycles.Reads as internal-cycles-reads
-use Rattle.faults.proofs.steps.plus.Reads as plus-reads
+use Rattle.steps.proofs.internal_cycles.Reads as internal-cycles-reads
+use Rattle.steps.proofs.plus.Reads as plus-reads
 use Rattle.faults.proofs.write_16.Reads as write-16-reads
 use Rattle.interrupts.proofs.state.high_word.Reads as high-word-reads
 use Rattle.interrupts.proofs.state.low_word.Reads as low-word-reads
 use Rattle.interrupts.proofs.synced_acknowledge.Reads as synced-acknowledge-reads
 
--- src/lib.rt:57:9
+-- src/lib.rt:56:9
 plus-requires : tie.Need-plus-requires
 plus-requires c κs = search needs
 
--- src/lib.rt:58:9
+-- src/lib.rt:57:9
 low-word-requires : tie.Need-low-word-requires
 low-word-requires c κs = search needs
 
--- src/lib.rt:59:9
+-- src/lib.rt:58:9
 write-16-requires : tie.Need-write-16-requires
 write-16-requires c κs = search needs
 
--- src/lib.rt:60:9
+-- src/lib.rt:59:9
 synced-acknowledge-requires : tie.Need-synced-acknowledge-requires
 synced-acknowledge-requires c κs = search needs
 
--- src/lib.rt:62:9
+-- src/lib.rt:61:9
 internal-cycles-requires : tie.Need-internal-cycles-requires
 internal-cycles-requires c κs = search needs
 
--- src/lib.rt:63:9
+-- src/lib.rt:62:9
 write-16-requires-2 : tie.Need-write-16-requires-2
 write-16-requires-2 c κs = search needs
 
--- src/lib.rt:64:9
+-- src/lib.rt:63:9
 plus-requires-2 : tie.Need-plus-requires-2
 plus-requires-2 c κs = search needs
 
--- src/lib.rt:65:9
+-- src/lib.rt:64:9
 high-word-requires : tie.Need-high-word-requires
 high-word-requires c κs = search needs
 
--- src/lib.rt:66:9
+-- src/lib.rt:65:9
 write-16-requires-3 : tie.Need-write-16-requires-3
 write-16-requires-3 c κs = search needs
 
--- src/lib.rt:46:1
+-- src/lib.rt:45:1
 same-length : tie.Need-same-length
 same-length c = c .before .before .before .before .write-163 .kept .1 .0 ∙ c .before .before .before .before .before .before .before .before .before .before .before .before .before .write-162 .kept .1 .0 ∙ c .before .before .before .before .before .before .before .before .before .before .before .before .before .before .before .before .before .before .before .before .before .before .synced-acknowledge .kept .1 .0 ∙ c .before .before .before .before .before .before .before .before .before .before .before .before .before .before .before .before .before .before .before .before .before .before .before .before .before .before .before .before .before .write-16 .kept .1 .0
 
--- src/lib.rt:46:1
+-- src/lib.rt:45:1
 same-length-2 : tie.Need-same-length-2
 same-length-2 c = c .before .before .before .before .write-163 .kept .1 .1 .0 ∙ c .before .before .before .before .before .before .before .before .before .before .before .before .before .write-162 .kept .1 .1 .0 ∙ c .before .before .before .before .before .before .before .before .before .before .before .before .before .before .before .before .before .before .before .before .before .before .synced-acknowledge .kept .1 .1 .0 ∙ c .before .before .before .before .before .before .before .before .before .before .before .before .before .before .before .before .before .before .before .before .before .before .before .before .before .before .before .before .before .write-16 .kept .1 .1 .0
 
--- src/lib.rt:46:1
+-- src/lib.rt:45:1
 returns : tie.Need-returns
 returns c = from-68000-way _ _ _ _ _ _ _ _ _ _ _ _ _ _ _ _ _ _ _ _ _ _ _ _ (c .before .before .before .before .before .before .before .before .before .before .before .before .before .before .before .before .before .before .before .before .before .before .before .before .before .before .before .before .before .before .before .before .before .plus .ensures) (c .before .before .before .before .before .before .before .before .before .before .before .before .before .before .before .before .before .before .before .before .before .before .before .before .before .before .before .before .before .before .before .before .low-word .ensures) (c .before .before .before .before .before .before .before .before .before .before .before .before .before .before .before .before .before .before .before .before .before .before .before .before .before .before .before .before .before .write-16 .ensures) (c .before .before .before .before .before .before .before .before .before .before .before .before .before .before .before .before .before .before .before .before .before .before .synced-acknowledge .ensures) (c .before .before .before .before .before .before .before .before .before .before .before .before .before .before .before .before .internal-cycles .ensures) (c .before .before .before .before .before .before .before .before .before .before .before .before .before .write-162 .ensures) (c .before .before .before .before .before .before .before .before .plus2 .ensures) (c .before .before .before .before .before .before .before .high-word .ensures) (c .before .before .before .before .write-163 .ensures)
 

@@ -11,47 +11,47 @@ use Rattle.interrupts.proofs.state.is_ec020_plus.Reads as is-ec020-plus
 use Rattle.interrupts.proofs.state.m_is_set.Reads as m-is-set-reads
 use Rattle.interrupts.proofs.throwaway_frame.Reads as throwaway-frame-reads
 
--- src/lib.rt:172:8
+-- src/lib.rt:171:8
 m-is-set-requires : tie.Need-m-is-set-requires
 m-is-set-requires c κs = search needs
 
--- src/lib.rt:173:12
+-- src/lib.rt:172:12
 is-ec020-plus-requires : tie.Need-is-ec020-plus-requires
 is-ec020-plus-requires c κs = search needs
 
--- src/lib.rt:174:13
+-- src/lib.rt:173:13
 throwaway-frame-requires : tie.Need-throwaway-frame-requires
 throwaway-frame-requires c κs = search needs
 
--- src/lib.rt:174:13
+-- src/lib.rt:173:13
 same-length : tie.Need-same-length
 same-length c = c .before .before .before .before .throwaway-frame .kept .1 .0
 
--- src/lib.rt:174:13
+-- src/lib.rt:173:13
 same-length-2 : tie.Need-same-length-2
 same-length-2 c = c .before .before .before .before .throwaway-frame .kept .1 .1 .0
 
--- src/lib.rt:174:13
+-- src/lib.rt:173:13
 returns : tie.Need-returns
 returns c = second-frame-way _ _ _ _ _ _ _ _ _ _ _ (c .before .before .before .before .before .before .before .before .before .before .m-is-set .ensures) (c .before .before .before .before .before .before .before .before .before .if1 .taken) (c .before .before .before .before .before .before .before .before .is-ec020-plus .ensures) (c .before .before .before .before .before .before .before .if2 .taken) (c .before .before .before .before .throwaway-frame .ensures)
 
--- src/lib.rt:176:12
+-- src/lib.rt:175:12
 is-060-requires : tie.Need-is-060-requires
 is-060-requires c κs = search needs
 
--- src/lib.rt:177:13
+-- src/lib.rt:176:13
 clear-m-requires : tie.Need-clear-m-requires
 clear-m-requires c κs = search needs
 
--- src/lib.rt:177:13
+-- src/lib.rt:176:13
 returns-2 : tie.Need-returns-2
 returns-2 c = second-frame-way-2 _ _ _ _ _ _ _ _ _ _ (c .before .before .before .before .before .before .m-is-set .ensures) (c .before .before .before .before .before .if1 .taken) (c .before .before .before .before .is-ec020-plus .ensures) (c .before .before .before .if2 .left) (c .before .before .is-060 .ensures) (c .before .if3 .taken) (c .clear-m .ensures)
 
--- src/lib.rt:179:9
+-- src/lib.rt:178:9
 returns-3 : tie.Need-returns-3
 returns-3 c = second-frame-way-3 _ _ _ _ _ _ _ _ _ (c .before .before .before .before .before .m-is-set .ensures) (c .before .before .before .before .if1 .taken) (c .before .before .before .is-ec020-plus .ensures) (c .before .before .if2 .left) (c .before .is-060 .ensures) (c .if3 .left)
 
--- src/lib.rt:169:1
+-- src/lib.rt:168:1
 returns-4 : tie.Need-returns-4
 returns-4 c = second-frame-way-4 _ _ _ _ _ _ _ (c .before .m-is-set .ensures) (c .if1 .left)
 

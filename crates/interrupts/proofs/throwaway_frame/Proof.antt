@@ -5,41 +5,41 @@ use Rattle.interrupts.proofs.throwaway_frame.Statement.{statement}
 use Rattle.interrupts.proofs.throwaway_frame.Tie as tie
 use Rattle.interrupts.proofs.throwaway_frame.Reads as reads
 use Rattle.interrupts.proofs.throwaway_frame.Lts as lts
-use Rattle.exceptions.proofs.frames.format_word.Reads as format-word-reads
-use Rattle.exceptions.proofs.frames.short_frame.Reads as short-frame-reads
+use Rattle.exceptions.proofs.formats.format_word.Reads as format-word-reads
+use Rattle.exceptions.proofs.formats.short_frame.Reads as short-frame-reads
 use Rattle.faults.proofs.push_frame.Reads as push-frame-reads
 use Rattle.interrupts.proofs.state.interrupt_stack.Reads as interrupt-stack-reads
 use Rattle.interrupts.proofs.state.with_s.Reads as with-s-reads
 
--- src/lib.rt:161:9
+-- src/lib.rt:160:9
 interrupt-stack-requires : tie.Need-interrupt-stack-requires
 interrupt-stack-requires c κs = search needs
 
--- src/lib.rt:162:9
+-- src/lib.rt:161:9
 with-s-requires : tie.Need-with-s-requires
 with-s-requires c κs = search needs
 
--- src/lib.rt:163:9
+-- src/lib.rt:162:9
 format-word-requires : tie.Need-format-word-requires
 format-word-requires c κs = search needs
 
--- src/lib.rt:164:9
+-- src/lib.rt:163:9
 short-frame-requires : tie.Need-short-frame-requires
 short-frame-requires c κs = search needs
 
--- src/lib.rt:165:5
+-- src/lib.rt:164:5
 push-frame-requires : tie.Need-push-frame-requires
 push-frame-requires c κs = search needs
 
--- src/lib.rt:151:1
+-- src/lib.rt:150:1
 same-length : tie.Need-same-length
 same-length c = c .before .before .before .before .push-frame .kept .1 .0
 
--- src/lib.rt:151:1
+-- src/lib.rt:150:1
 same-length-2 : tie.Need-same-length-2
 same-length-2 c = c .before .before .before .before .push-frame .kept .1 .1 .0
 
--- src/lib.rt:151:1
+-- src/lib.rt:150:1
 returns : tie.Need-returns
 returns c = throwaway-frame-way _ _ _ _ _ _ _ _ _ _ _ _ _ (c .before .before .before .before .before .before .before .before .before .before .interrupt-stack .ensures) (c .before .before .before .before .before .before .before .before .before .with-s .ensures) (c .before .before .before .before .before .before .before .before .format-word .ensures) (c .before .before .before .before .before .before .before .short-frame .ensures) (c .before .before .before .before .push-frame .ensures)
 

@@ -8,7 +8,7 @@ use Rattle.cpu.proofs.fields.faulted.Tie as tie
 use Rattle.cpu.proofs.fields.faulted.Reads as reads
 use Rattle.cpu.proofs.fields.faulted.Lts as lts
 
--- src/fields.rt:62:1
+-- src/fields.rt:60:1
 returns : tie.Need-returns
 unfolding isFaulted
 returns c = refl

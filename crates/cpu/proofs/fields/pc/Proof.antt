@@ -8,7 +8,7 @@ use Rattle.cpu.proofs.fields.pc.Tie as tie
 use Rattle.cpu.proofs.fields.pc.Reads as reads
 use Rattle.cpu.proofs.fields.pc.Lts as lts
 
--- src/fields.rt:18:1
+-- src/fields.rt:16:1
 returns : tie.Need-returns
 unfolding pcOf
 returns c = refl

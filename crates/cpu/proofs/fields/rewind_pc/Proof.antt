@@ -8,7 +8,7 @@ use Rattle.cpu.proofs.fields.rewind_pc.Tie as tie
 use Rattle.cpu.proofs.fields.rewind_pc.Reads as reads
 use Rattle.cpu.proofs.fields.rewind_pc.Lts as lts
 
--- src/fields.rt:136:1
+-- src/fields.rt:134:1
 returns : tie.Need-returns
 unfolding rewindPc
 returns c = refl

@@ -5,7 +5,7 @@ use Rattle.interrupts.proofs.state.clear_level.Statement.{statement}
 use Rattle.interrupts.proofs.state.clear_level.Tie as tie
 use Rattle.interrupts.proofs.state.clear_level.Reads as reads
 use Rattle.interrupts.proofs.state.clear_level.Lts as lts
-use Rattle.cpu.proofs.interrupts.clear_level.Reads as clear-level-reads
+use Rattle.requests.proofs.interrupts.clear_level.Reads as clear-level-reads
 use Rattle.memory.proofs.with_cpu.Reads as with-cpu-reads
 
 -- src/state.rt:200:25

@@ -5,7 +5,7 @@ use Rattle.interrupts.proofs.state.clear_m.Statement.{statement}
 use Rattle.interrupts.proofs.state.clear_m.Tie as tie
 use Rattle.interrupts.proofs.state.clear_m.Reads as reads
 use Rattle.interrupts.proofs.state.clear_m.Lts as lts
-use Rattle.cpu.proofs.status.clear_m.Reads as clear-m-reads
+use Rattle.status.proofs.clear_m.Reads as clear-m-reads
 use Rattle.memory.proofs.with_cpu.Reads as with-cpu-reads
 
 -- src/state.rt:174:25

@@ -6,7 +6,7 @@ use Rattle.interrupts.proofs.state.close.Tie as tie
 use Rattle.interrupts.proofs.state.close.Reads as reads
 use Rattle.interrupts.proofs.state.close.Lts as lts
 use Rattle.cpu.proofs.fields.clear_stopped.Reads as clear-stopped-reads
-use Rattle.cpu.proofs.interrupts.charge_interrupt.Reads as charge-interrupt-reads
+use Rattle.requests.proofs.interrupts.charge_interrupt.Reads as charge-interrupt-reads
 use Rattle.memory.proofs.with_cpu.Reads as with-cpu-reads
 
 -- src/state.rt:191:9

@@ -5,8 +5,8 @@ use Rattle.interrupts.proofs.state.enter_level.Statement.{statement}
 use Rattle.interrupts.proofs.state.enter_level.Tie as tie
 use Rattle.interrupts.proofs.state.enter_level.Reads as reads
 use Rattle.interrupts.proofs.state.enter_level.Lts as lts
-use Rattle.cpu.proofs.banks.enter_supervisor.Reads as enter-supervisor-reads
-use Rattle.cpu.proofs.status.set_int_mask.Reads as set-int-mask-reads
+use Rattle.status.proofs.banks.enter_supervisor.Reads as enter-supervisor-reads
+use Rattle.status.proofs.set_int_mask.Reads as set-int-mask-reads
 use Rattle.memory.proofs.with_cpu.Reads as with-cpu-reads
 
 -- src/state.rt:182:9

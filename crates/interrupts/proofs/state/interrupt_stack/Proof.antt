@@ -5,7 +5,7 @@ use Rattle.interrupts.proofs.state.interrupt_stack.Statement.{statement
 use Rattle.interrupts.proofs.state.interrupt_stack.Tie as tie
 use Rattle.interrupts.proofs.state.interrupt_stack.Reads as reads
 use Rattle.interrupts.proofs.state.interrupt_stack.Lts as lts
-use Rattle.cpu.proofs.banks.set_sm_flag.Reads as set-sm-flag-reads
+use Rattle.status.proofs.banks.set_sm_flag.Reads as set-sm-flag-reads
 use Rattle.memory.proofs.with_cpu.Reads as with-cpu-reads
 
 -- src/state.rt:166:25

@@ -1,0 +1,22 @@
+use mathlib.Core.Path.{_≡_, refl, sym, _∙_}
+use native.Mathlib.Omega.{arith}
+use lib.ListN.{length-set}
+use borrow.Author.Tests.{lt-ltb, le-ltb, le-leb, lt-leb, eq-eqb, ne-eqb}
+use Rattle.exceptions.specs.Frames.{offsetWord}
+use borrow.Author.Needs.{needs}
+use Rattle.exceptions.proofs.formats.offset_word.Statement.{statement}
+use Rattle.exceptions.proofs.formats.offset_word.Tie as tie
+use Rattle.exceptions.proofs.formats.offset_word.Reads as reads
+use Rattle.exceptions.proofs.formats.offset_word.Lts as lts
+
+-- src/formats.rt:19:5
+mul-result : tie.Need-mul-result
+mul-result c = search needs
+
+-- src/formats.rt:16:1
+returns : tie.Need-returns
+unfolding offsetWord
+returns c = omega arith
+
+pub offset-word-spec : {M : Type 1} → statement M
+offset-word-spec = tie.close (tie.spec mul-result returns)

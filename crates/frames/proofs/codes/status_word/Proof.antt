@@ -1,0 +1,37 @@
+use mathlib.Core.Path.{_≡_, refl, sym, _∙_}
+use native.Mathlib.Omega.{arith}
+use lib.ListN.{length-set}
+use borrow.Author.Tests.{lt-ltb, le-ltb, le-leb, lt-leb, eq-eqb, ne-eqb}
+use Rattle.frames.specs.Codes.{statusWord}
+use borrow.Author.Needs.{needs}
+use Rattle.frames.proofs.codes.status_word.Statement.{statement}
+use Rattle.frames.proofs.codes.status_word.Tie as tie
+use Rattle.frames.proofs.codes.status_word.Reads as reads
+use Rattle.frames.proofs.codes.status_word.Lts as lts
+use Rattle.frames.proofs.codes.number_unless.Reads as number-unless-reads
+
+-- src/codes.rt:71:10
+number-unless-requires : tie.Need-number-unless-requires
+number-unless-requires c κs = search needs
+
+-- src/codes.rt:71:5
+add-result : tie.Need-add-result
+add-result c = search needs
+
+-- src/codes.rt:71:37
+number-unless-requires-2 : tie.Need-number-unless-requires-2
+number-unless-requires-2 c κs = search needs
+
+-- src/codes.rt:71:5
+add-result-2 : tie.Need-add-result-2
+add-result-2 c = search needs
+
+-- src/codes.rt:67:1
+returns : tie.Need-returns
+unfolding statusWord
+returns c = cc (c .before .number-unless .ensures .0, c .number-unless2 .ensures .0)
+
+pub status-word-spec : {M : Type 1} → statement M
+status-word-spec =
+    tie.close
+    (tie.spec number-unless-requires add-result number-unless-requires-2 add-result-2 returns)

@@ -1,0 +1,23 @@
+use mathlib.Core.Path.{_≡_, refl, sym, _∙_}
+use native.Mathlib.Omega.{arith}
+use lib.ListN.{length-set}
+use borrow.Author.Tests.{lt-ltb, le-ltb, le-leb, lt-leb, eq-eqb, ne-eqb}
+use Rattle.requests.specs.Interrupts.{chargeInterrupt}
+use borrow.Author.Needs.{needs}
+use Rattle.requests.proofs.interrupts.charge_interrupt.Statement.{statement}
+use Rattle.requests.proofs.interrupts.charge_interrupt.Tie as tie
+use Rattle.requests.proofs.interrupts.charge_interrupt.Reads as reads
+use Rattle.requests.proofs.interrupts.charge_interrupt.Lts as lts
+use Rattle.requests.proofs.interrupts.charged.Reads as charged-reads
+
+-- src/interrupts.rt:129:9
+charged-requires : tie.Need-charged-requires
+charged-requires c κs = search needs
+
+-- src/interrupts.rt:126:1
+returns : tie.Need-returns
+unfolding chargeInterrupt
+returns c = cc (c .charged .ensures)
+
+pub charge-interrupt-spec : {M : Type 1} → statement M
+charge-interrupt-spec = tie.close (tie.spec charged-requires returns)

@@ -1,0 +1,17 @@
+use mathlib.Core.Path.{_≡_, refl, sym, _∙_}
+use native.Mathlib.Omega.{arith}
+use lib.ListN.{length-set}
+use borrow.Author.Tests.{lt-ltb, le-ltb, le-leb, lt-leb, eq-eqb, ne-eqb}
+use Rattle.requests.specs.Interrupts.{clearLevel}
+use Rattle.requests.proofs.interrupts.clear_level.Statement.{statement}
+use Rattle.requests.proofs.interrupts.clear_level.Tie as tie
+use Rattle.requests.proofs.interrupts.clear_level.Reads as reads
+use Rattle.requests.proofs.interrupts.clear_level.Lts as lts
+
+-- src/interrupts.rt:23:1
+returns : tie.Need-returns
+unfolding clearLevel
+returns c = refl
+
+pub clear-level-spec : {M : Type 1} → statement M
+clear-level-spec = tie.close (tie.spec returns)

@@ -1,0 +1,28 @@
+use mir.Syntax.{w32}
+use mir.Facts.{toZ-ofZ}
+use mathlib.Core.Path.{ap}
+use lib.IntN.{ℤ}
+use mathlib.Core.Path.{_≡_, refl, sym, _∙_}
+use native.Mathlib.Omega.{arith}
+use lib.ListN.{length-set}
+use borrow.Author.Tests.{lt-ltb, le-ltb, le-leb, lt-leb, eq-eqb, ne-eqb}
+use Rattle.requests.specs.Interrupts.{hasRoom}
+use borrow.Author.Needs.{needs}
+use Rattle.requests.proofs.interrupts.flow_has_room.Statement.{statement}
+use Rattle.requests.proofs.interrupts.flow_has_room.Tie as tie
+use Rattle.requests.proofs.interrupts.flow_has_room.Reads as reads
+use Rattle.requests.proofs.interrupts.flow_has_room.Lts as lts
+use Rattle.requests.proofs.interrupts.has_room.Reads as has-room-reads
+
+-- src/interrupts.rt:79:5
+has-room-requires : tie.Need-has-room-requires
+has-room-requires c κs = search needs
+
+-- src/interrupts.rt:76:1
+returns : tie.Need-returns
+returns c =
+    let back = toZ-ofZ {w = w32} {z = c .before .before .args .f .«cycles_remaining»} (record { sfits = c .before .struct-told .given .1 .1 .1 .1 .1 .1 .1 .1 .1 .1 .1 .0 .1 }) in
+    rw back at (c .has-room .ensures)
+
+pub flow-has-room-spec : {M : Type 1} → statement M
+flow-has-room-spec = tie.close (tie.spec has-room-requires returns)

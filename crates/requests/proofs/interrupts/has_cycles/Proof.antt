@@ -1,0 +1,23 @@
+use mathlib.Core.Path.{_≡_, refl, sym, _∙_}
+use native.Mathlib.Omega.{arith}
+use lib.ListN.{length-set}
+use borrow.Author.Tests.{lt-ltb, le-ltb, le-leb, lt-leb, eq-eqb, ne-eqb}
+use Rattle.requests.specs.Interrupts.{hasCycles}
+use borrow.Author.Needs.{needs}
+use Rattle.requests.proofs.interrupts.has_cycles.Statement.{statement}
+use Rattle.requests.proofs.interrupts.has_cycles.Tie as tie
+use Rattle.requests.proofs.interrupts.has_cycles.Reads as reads
+use Rattle.requests.proofs.interrupts.has_cycles.Lts as lts
+use Rattle.requests.proofs.interrupts.flow_has_room.Reads as flow-has-room-reads
+
+-- src/interrupts.rt:73:5
+flow-has-room-requires : tie.Need-flow-has-room-requires
+flow-has-room-requires c κs = search needs
+
+-- src/interrupts.rt:70:1
+returns : tie.Need-returns
+unfolding hasCycles
+returns c = cc (c .flow-has-room .ensures)
+
+pub has-cycles-spec : {M : Type 1} → statement M
+has-cycles-spec = tie.close (tie.spec flow-has-room-requires returns)

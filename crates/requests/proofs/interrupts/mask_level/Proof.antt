@@ -1,0 +1,22 @@
+use mathlib.Core.Path.{_≡_, refl, sym, _∙_}
+use native.Mathlib.Omega.{arith}
+use lib.ListN.{length-set}
+use borrow.Author.Tests.{lt-ltb, le-ltb, le-leb, lt-leb, eq-eqb, ne-eqb}
+use Rattle.requests.specs.Interrupts.{maskLevel}
+use borrow.Author.Needs.{needs}
+use Rattle.requests.proofs.interrupts.mask_level.Statement.{statement}
+use Rattle.requests.proofs.interrupts.mask_level.Tie as tie
+use Rattle.requests.proofs.interrupts.mask_level.Reads as reads
+use Rattle.requests.proofs.interrupts.mask_level.Lts as lts
+
+-- src/interrupts.rt:54:5
+cast-result : tie.Need-cast-result
+cast-result c = search needs
+
+-- src/interrupts.rt:51:1
+returns : tie.Need-returns
+unfolding maskLevel
+returns c = search needs
+
+pub mask-level-spec : {M : Type 1} → statement M
+mask-level-spec = tie.close (tie.spec cast-result returns)

@@ -1,0 +1,17 @@
+use mathlib.Core.Path.{_≡_, refl, sym, _∙_}
+use native.Mathlib.Omega.{arith}
+use lib.ListN.{length-set}
+use borrow.Author.Tests.{lt-ltb, le-ltb, le-leb, lt-leb, eq-eqb, ne-eqb}
+use Rattle.requests.specs.Interrupts.{setIrq}
+use Rattle.requests.proofs.interrupts.set_irq.Statement.{statement}
+use Rattle.requests.proofs.interrupts.set_irq.Tie as tie
+use Rattle.requests.proofs.interrupts.set_irq.Reads as reads
+use Rattle.requests.proofs.interrupts.set_irq.Lts as lts
+
+-- src/interrupts.rt:11:1
+returns : tie.Need-returns
+unfolding setIrq
+returns c = refl
+
+pub set-irq-spec : {M : Type 1} → statement M
+set-irq-spec = tie.close (tie.spec returns)

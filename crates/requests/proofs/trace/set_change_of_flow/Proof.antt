@@ -1,0 +1,17 @@
+use mathlib.Core.Path.{_≡_, refl, sym, _∙_}
+use native.Mathlib.Omega.{arith}
+use lib.ListN.{length-set}
+use borrow.Author.Tests.{lt-ltb, le-ltb, le-leb, lt-leb, eq-eqb, ne-eqb}
+use Rattle.requests.specs.Trace.{setChangeOfFlow}
+use Rattle.requests.proofs.trace.set_change_of_flow.Statement.{statement}
+use Rattle.requests.proofs.trace.set_change_of_flow.Tie as tie
+use Rattle.requests.proofs.trace.set_change_of_flow.Reads as reads
+use Rattle.requests.proofs.trace.set_change_of_flow.Lts as lts
+
+-- src/trace.rt:55:1
+returns : tie.Need-returns
+unfolding setChangeOfFlow
+returns c = refl
+
+pub set-change-of-flow-spec : {M : Type 1} → statement M
+set-change-of-flow-spec = tie.close (tie.spec returns)

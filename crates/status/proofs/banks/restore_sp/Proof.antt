@@ -1,0 +1,36 @@
+use mathlib.Core.Path.{_≡_, refl, sym, _∙_}
+use native.Mathlib.Omega.{arith}
+use lib.ListN.{length-set}
+use borrow.Author.Tests.{lt-ltb, le-ltb, le-leb, lt-leb, eq-eqb, ne-eqb}
+use Rattle.status.specs.Banks.{restoreSp}
+use borrow.Author.Needs.{needs}
+use Rattle.status.proofs.banks.restore_sp.Statement.{statement}
+use Rattle.status.proofs.banks.restore_sp.Tie as tie
+use Rattle.status.proofs.banks.restore_sp.Reads as reads
+use Rattle.status.proofs.banks.restore_sp.Lts as lts
+use Rattle.status.proofs.banks.sp_index.Reads as sp-index-reads
+
+-- src/banks.rt:40:9
+sp-index-requires : tie.Need-sp-index-requires
+sp-index-requires c κs = search needs
+
+-- src/banks.rt:42:13
+mul-v : tie.Need-mul-v
+mul-v c = search needs
+
+-- src/banks.rt:42:13
+element-copy-out-v : tie.Need-element-copy-out-v
+element-copy-out-v c = search needs
+
+-- src/banks.rt:43:5
+element-write-regs : tie.Need-element-write-regs
+element-write-regs c = search needs
+
+-- src/banks.rt:37:1
+returns : tie.Need-returns
+unfolding restoreSp
+returns c = cc
+
+pub restore-sp-spec : {M : Type 1} → statement M
+restore-sp-spec =
+    tie.close (tie.spec sp-index-requires mul-v element-copy-out-v element-write-regs returns)
