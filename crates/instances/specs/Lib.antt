@@ -1,0 +1,6 @@
+pub mod Start
+pub mod Rows
+pub mod Computed
+pub mod Words
+pub mod Entries
+pub mod Instances
