@@ -1,9 +1,10 @@
 #!/usr/bin/env python3
 """sample.py SEED ACCEPTED REFUSED OUT [ORACLE]: recorded answers of the oracle, for crates/replay.
 
-Takes cases of `oracle gen SEED ..` whose store has at most 512 bytes and whose log has at most 192 words, asks `oracle run` for each
-answer, and writes them to OUT (crates/replay/data/sample.bin), with how it was done in README.txt beside it: so many that are
-accepted, spread evenly over the calls and the kinds, then so many that are refused, spread over the numbers, then the calls and the kinds.
+Takes the examples beside it (examples.txt) but returns and walks, then cases of `oracle gen SEED ..` whose store has at most 512 bytes
+and whose log has at most 192 words, asks `oracle run` for each answer, and writes them to OUT (crates/replay/data/sample.bin), with how
+it was done in README.txt beside it: of the generated ones so many that are accepted, spread evenly over the calls and the kinds, then
+so many that are refused, spread over the numbers, then the calls and the kinds.
 ORACLE is the binary, by default target/oracle/release/oracle. The same seed, counts and oracle give the same bytes.
 
 A case is two bytes of length (high byte first) and so many bytes: numbers of one to five bytes. A byte below 251 is the number;
@@ -25,7 +26,9 @@ import sys
 
 HERE = os.path.dirname(os.path.abspath(__file__))
 ROOT = os.path.dirname(HERE)
-STORE = 512
+# The store of crates/replay, and the most that a generated case may have, which keeps the file small.
+STORE = 65536
+SMALL = 512
 LOG = 192
 CASE = 4096
 
@@ -109,9 +112,9 @@ def start_words(f):
 def filling(f):
     fill = int(f['fill'], 16)
     n = int(f['len'])
-    store = bytearray(STORE)
-    for i in range(STORE):
-        if fill:
+    store = bytearray(min(n, STORE))
+    if fill:
+        for i in range(len(store)):
             store[i] = ((i * 31 + fill) ^ (i >> 8)) & 0xFF
     return store, n
 
@@ -174,8 +177,40 @@ def encode(f, o, held):
     return case
 
 
-def wanted(f):
-    return f['call'].split(':')[0] in CALLS and int(f['len']) <= STORE and int(f['log']) <= LOG
+def wanted(f, most):
+    return f['call'].split(':')[0] in CALLS and int(f['len']) <= most and int(f['log']) <= LOG
+
+
+BANKS = {'a7': ('dar', 15), 'a7_save': ('dar_save', 15), 'usp': ('sp', 0), 'isp': ('sp', 4), 'msp': ('sp', 6)}
+
+
+def complete(short):
+    """A short input with the fields that it leaves out: a fresh record and store, 192 log words."""
+    f = {name: '.'.join(['0'] * n) for name, _, n in PLAIN}
+    f.update({name: '-' for name, _, _ in OPTIONS})
+    f.update(s_flag='4', not_z_flag='1', int_mask='700', precise_bus='1', cycles_remaining='0', base='0', len='65536', fill='0', patch='-',
+             win='-', ack='.'.join(['ffffffff'] * 8), log='192')
+    for name, value in short.items():
+        if name == 'status':
+            sr = int(value, 16)
+            for flag, mask, one in (('t1_flag', 0x8000, 0x8000), ('t0_flag', 0x4000, 0x4000), ('s_flag', 0x2000, 4), ('m_flag', 0x1000, 2),
+                                    ('x_flag', 16, 256), ('n_flag', 8, 128), ('v_flag', 2, 128), ('c_flag', 1, 256)):
+                f[flag] = '%x' % (one if sr & mask else 0)
+            f['int_mask'], f['not_z_flag'] = '%x' % (sr & 0x700), '0' if sr & 4 else '1'
+        elif name in BANKS:
+            field, k = BANKS[name]
+            values = f[field].split('.')
+            values[k] = value
+            f[field] = '.'.join(values)
+        else:
+            f[name] = value
+    return f
+
+
+def examples():
+    with open(os.path.join(HERE, 'examples.txt'), encoding='utf-8') as file:
+        lines = [line.split(' => ')[0] for line in file if line.startswith('call=')]
+    return [line for line in lines if wanted(complete(fields(line)), STORE)]
 
 
 def turns(lists):
@@ -218,16 +253,18 @@ def main():
     for line in run(oracle, ['gen', seed, str(made)]):
         given, answer = line.split(' => ')
         f = fields(given)
-        if wanted(f):
+        if wanted(f, SMALL):
             cells[int(fields(answer)['refused'])][(f['call'].split(':')[0], int(f['kind']))].append(given)
     first = cells.pop(0)
     chosen = take('accepted', accepted, list(turns([first[k] for k in sorted(first, key=lambda k: (CALLS.index(k[0]), k[1]))])))
     chosen += take('refused', refused, list(turns([spread(cells[number]) for number in sorted(cells)])))
+    shown = examples()
+    chosen = shown + chosen
     answers = run(oracle, ['run'], '\n'.join(chosen) + '\n')
     data = bytearray()
     counts = collections.defaultdict(collections.Counter)
     for i, (given, answer) in enumerate(zip(chosen, answers, strict=True)):
-        f, o = fields(given), fields(answer)
+        f, o = complete(fields(given)), fields(answer)
         case = encode(f, o, 0 if i % 4 else 1 + i % 300)
         if len(case) > CASE:
             raise SystemExit('sample.py: a case of %d bytes: %s' % (len(case), given))
@@ -241,10 +278,11 @@ def main():
     with open(os.path.join(HERE, 'LIFTED.txt'), 'rb') as file:
         lifted = hashlib.sha256(file.read()).hexdigest()
     lines = ['sample.bin: %d recorded answers of the oracle, %d of them refusals, %d bytes. The format is at the head of oracle/sample.py.'
-             % (accepted + refused, refused, len(data)),
+             % (len(chosen), sum(counts['number'].values()) - counts['number'][0], len(data)),
              'Made by: oracle/sample.py %s %d %d %s' % (seed, accepted, refused, os.path.relpath(os.path.abspath(out), ROOT)),
-             'from the cases of `oracle gen %s %d` with a store of at most %d bytes and a log of at most %d words, answered by `oracle run`.'
-             % (seed, made, STORE, LOG),
+             'from the %d examples of oracle/examples.txt that are no return and no walk, and the cases of `oracle gen %s %d` with a store of'
+             % (len(shown), seed, made),
+             'at most %d bytes and a log of at most %d words, answered by `oracle run`.' % (SMALL, LOG),
              'SHA-256 of sample.bin: ' + hashlib.sha256(data).hexdigest(),
              'SHA-256 of oracle/LIFTED.txt (what the oracle runs): ' + lifted,
              '', 'Cases by call, accepted and refused:']
@@ -255,7 +293,7 @@ def main():
     lines += ['Cases by refusal, 0 for none:'] + ['  %-30d %5d' % (n, counts['number'][n]) for n in sorted(counts['number'])]
     with open(os.path.join(os.path.dirname(os.path.abspath(out)), 'README.txt'), 'w') as file:
         file.write('\n'.join(lines) + '\n')
-    print('%d accepted, %d refused, %d bytes; cells filled: %d' % (accepted, refused, len(data), len(first)))
+    print('%d examples, %d accepted, %d refused, %d bytes; cells filled: %d' % (len(shown), accepted, refused, len(data), len(first)))
 
 
 if __name__ == '__main__':

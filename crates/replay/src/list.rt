@@ -106,7 +106,7 @@ pub(crate) fn words(b: &[u8], at: usize, w: &mut [u32; 136]) -> usize {
 }
 
 // The same of bytes.
-pub(crate) fn bytes(b: &[u8], at: usize, s: &mut [u8; 512]) -> usize {
+pub(crate) fn bytes(b: &[u8], at: usize, s: &mut [u8; 65536]) -> usize {
     let n = number(b, at);
     let count = n.value;
     let mut p = n.next;
@@ -147,9 +147,9 @@ fn filler(i: u32, fill: u32) -> u32 {
     n ^ (i / 256)
 }
 
-pub(crate) fn fill(s: &mut [u8; 512], fill: u32) {
+pub(crate) fn fill(s: &mut [u8; 65536], fill: u32) {
     let mut i: u32 = 0;
-    while i < 512 {
+    while i < 65536 {
         set_byte(s, i, filler(i, fill));
         i += 1;
     }

@@ -53,7 +53,7 @@ fn words(x: u32) -> usize {
 }
 
 // The call of a case.
-fn call_case(w: [u32; 136], store: &mut [u8; 512], log: &mut [u32; 192]) -> RawAnswer {
+fn call_case(w: [u32; 136], store: &mut [u8; 65536], log: &mut [u32; 192]) -> RawAnswer {
     call(w, store, log, size(w[123]), words(w[134]))
 }
 
@@ -68,7 +68,7 @@ fn put_answer(w: &mut [u32; 136], r: RawAnswer, cycles: u32) {
 // Whether the call leaves what was recorded.
 fn is_same(b: &[u8]) -> bool {
     let mut w = [0u32; 136];
-    let mut store = [0u8; 512];
+    let mut store = [0u8; 65536];
     let p = list::words(b, 0, &mut w);
     list::fill(&mut store, w[124]);
     let q = list::bytes(b, p, &mut store);

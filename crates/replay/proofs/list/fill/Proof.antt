@@ -8,7 +8,7 @@ abbrev Inv-loop : tie.InvT-loop
 Inv-loop s₀ fill i₀ s i = Unit
 
 abbrev μ-loop : tie.MeasureT-loop
-μ-loop s₀ fill i₀ s i = 512 - i
+μ-loop s₀ fill i₀ s i = 65536 - i
 
 loop-holds : tie.Need-loop-holds Inv-loop μ-loop
 loop-holds c = search needs
