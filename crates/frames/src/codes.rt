@@ -47,14 +47,14 @@ fn is_supervisor(c: Cpu) -> bool
 }
 
 // The function code of an address error.
-pub fn state_code(c: Cpu, instruction: bool) -> u32
+pub(crate) fn state_code(c: Cpu, instruction: bool) -> u32
     ensures { λ r. ⌜ (r ≡ stateCode c instruction) × (r < 8) ⌝ }
 {
     function_code(is_supervisor(c), instruction)
 }
 
 // The function code of a bus error.
-pub fn fault_code(c: Cpu, instruction: bool) -> u32
+pub(crate) fn fault_code(c: Cpu, instruction: bool) -> u32
     ensures { λ r. ⌜ (r ≡ faultCode c instruction) × (r < 8) ⌝ }
 {
     if cpu::fields::has_fc_override(c) {
@@ -64,7 +64,7 @@ pub fn fault_code(c: Cpu, instruction: bool) -> u32
 }
 
 // 68000.
-pub fn status_word(fc: u32, write: bool, instruction: bool) -> u32
+pub(crate) fn status_word(fc: u32, write: bool, instruction: bool) -> u32
     requires { ⌜ fc < 8 ⌝ }
     ensures { λ r. ⌜ r ≡ statusWord fc write instruction ⌝ }
 {
@@ -87,7 +87,7 @@ fn size_020(size: u32) -> u32
 }
 
 // 68020 and 68030.
-pub fn ssw_020(fc: u32, write: bool, instruction: bool, size: u32) -> u32
+pub(crate) fn ssw_020(fc: u32, write: bool, instruction: bool, size: u32) -> u32
     requires { ⌜ fc < 8 ⌝ }
     ensures { λ r. ⌜ r ≡ ssw020 fc write instruction size ⌝ }
 {
@@ -116,7 +116,7 @@ fn size_040(size: u32) -> u32
 }
 
 // 68040.
-pub fn ssw_040(fc: u32, write: bool, size: u32, cause: u8) -> u32
+pub(crate) fn ssw_040(fc: u32, write: bool, size: u32, cause: u8) -> u32
     requires { ⌜ fc < 8 ⌝ }
     ensures { λ r. ⌜ r ≡ ssw040 fc write size cause ⌝ }
 {
@@ -124,7 +124,7 @@ pub fn ssw_040(fc: u32, write: bool, size: u32, cause: u8) -> u32
 }
 
 // 68040: the status of the third write-back.
-pub fn wb3_status(fc: u32, write: bool, size: u32) -> u32
+pub(crate) fn wb3_status(fc: u32, write: bool, size: u32) -> u32
     requires { ⌜ fc < 8 ⌝ }
     ensures { λ r. ⌜ r ≡ wb3s fc write size ⌝ }
 {
@@ -183,7 +183,7 @@ fn direction_060(write: bool) -> u32
 }
 
 // `fslw_060`.
-pub fn fslw_060(write: bool, instruction: bool, size: u32, fc: u32, cause: u8) -> u32
+pub(crate) fn fslw_060(write: bool, instruction: bool, size: u32, fc: u32, cause: u8) -> u32
     ensures { λ r. ⌜ r ≡ fslw060 write instruction size fc cause ⌝ }
 {
     direction_060(write)

@@ -4,7 +4,7 @@ ghost use Prim.Native.Nat.{_+_, _<_, _≤_};
 ghost use lib.ListN.{length};
 ghost use Rattle.memory.specs.Bytes.{putWord, putLong, getWord, getLong};
 
-pub fn put_word(store: &mut [u8], at: usize, v: u16)
+pub(crate) fn put_word(store: &mut [u8], at: usize, v: u16)
     requires { ⌜ at + 2 ≤ length (now store) ⌝ }
     ensures { λ _. ⌜ now (store .exit) ≡ putWord (now (store .entry)) at v ⌝ }
 {
@@ -12,7 +12,7 @@ pub fn put_word(store: &mut [u8], at: usize, v: u16)
     store[at + 1] = (v % 256) as u8;
 }
 
-pub fn put_long(store: &mut [u8], at: usize, v: u32)
+pub(crate) fn put_long(store: &mut [u8], at: usize, v: u32)
     requires { ⌜ at + 4 ≤ length (now store) ⌝ }
     ensures { λ _. ⌜ now (store .exit) ≡ putLong (now (store .entry)) at v ⌝ }
 {
@@ -26,14 +26,14 @@ fn wide(x: u8) -> u32
     x as u32
 }
 
-pub fn get_word(store: &[u8], at: usize) -> u32
+pub(crate) fn get_word(store: &[u8], at: usize) -> u32
     requires { ⌜ at + 2 ≤ length (now store) ⌝ }
     ensures { λ r. ⌜ (r ≡ getWord (now (store .entry)) at) × (r < 65536) ⌝ }
 {
     wide(store[at]) * 256 + wide(store[at + 1])
 }
 
-pub fn get_long(store: &[u8], at: usize) -> u32
+pub(crate) fn get_long(store: &[u8], at: usize) -> u32
     requires { ⌜ at + 4 ≤ length (now store) ⌝ }
     ensures { λ r. ⌜ r ≡ getLong (now (store .entry)) at ⌝ }
 {

@@ -29,7 +29,7 @@ fn is_flag(n: u32, k: u32) -> bool
     n == k
 }
 
-// 1.
+// Number 1: S or M is neither clear nor its own bit.
 pub fn bad_flags(c: Cpu) -> bool
     ensures { λ r. ⌜ r ≡ badFlags c ⌝ }
 {
@@ -46,7 +46,7 @@ fn odd(a: u32) -> bool
     a % 2 == 1
 }
 
-// 2.
+// Number 2: an odd vector base on a kind that checks alignment, where the vector read would raise an address error without end.
 pub fn odd_base(c: Cpu) -> bool
     ensures { λ r. ⌜ r ≡ oddBase c ⌝ }
 {
@@ -56,7 +56,7 @@ pub fn odd_base(c: Cpu) -> bool
     false
 }
 
-// 3, of the interrupt call.
+// Number 3, of the interrupt call: taking its cycles off would leave the 32-bit numbers.
 pub fn bad_cycles(interrupt: bool, c: Cpu) -> bool
     ensures { λ r. ⌜ r ≡ badCycles interrupt c ⌝ }
 {
@@ -66,7 +66,7 @@ pub fn bad_cycles(interrupt: bool, c: Cpu) -> bool
     false
 }
 
-// 4.
+// Number 4: a function code above 7.
 pub fn bad_code(c: Cpu) -> bool
     ensures { λ r. ⌜ r ≡ badCode c ⌝ }
 {
@@ -76,7 +76,7 @@ pub fn bad_code(c: Cpu) -> bool
     false
 }
 
-// 5, for a store of `len` bytes, where one is lent.
+// Number 5, where a store is lent: its `len` bytes are too many, or reach past 2^32.
 pub fn bad_store(lent: bool, b: Bus, len: usize) -> bool
     ensures { λ r. ⌜ r ≡ badStore lent b len ⌝ }
 {
@@ -120,7 +120,7 @@ fn any_past(b: Bus, left: u32) -> bool
     any_past(b, left - 1)
 }
 
-// 6, where a store is lent.
+// Number 6, where a store is lent: more than 8 windows, or one that ends past 2^32.
 pub fn bad_windows(lent: bool, b: Bus) -> bool
     ensures { λ r. ⌜ r ≡ badWindows lent b ⌝ }
 {
@@ -134,7 +134,7 @@ pub fn bad_windows(lent: bool, b: Bus) -> bool
     false
 }
 
-// 7, for a log of `len` words, where one is lent.
+// Number 7, where a log is lent: its `len` words are too few for the events of a call.
 pub fn short_log(lent: bool, len: usize) -> bool
     ensures { λ r. ⌜ r ≡ shortLog lent len ⌝ }
 {
@@ -144,14 +144,14 @@ pub fn short_log(lent: bool, len: usize) -> bool
     false
 }
 
-// 8.
+// Number 8: no such vector. A call that is given none has 0 here.
 pub fn bad_vector(v: u32) -> bool
     ensures { λ r. ⌜ r ≡ badVector v ⌝ }
 {
     255 < v
 }
 
-// 9.
+// Number 9: no such kind, or a floating-point entry on a kind other than the 68060.
 pub fn bad_kind(floating: bool, c: Cpu) -> bool
     ensures { λ r. ⌜ r ≡ badKind floating c ⌝ }
 {
