@@ -1,5 +1,5 @@
 // Replays recorded answers of the oracle (oracle/sample.py makes data/sample.bin): each case is a call on the proved code, and its
-// answer, the number of events, each event word, the whole record and the whole store must be those that the Rust gave.
+// answer, the number of events, each event word, the whole record and the whole store must be those that the oracle gave.
 use boundary::RawAnswer;
 use boundary::RawCall;
 use memory::Core;
