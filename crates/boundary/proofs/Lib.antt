@@ -1,2 +1,3 @@
 pub mod Answers
 pub mod Ways
+pub mod Rows

@@ -3,6 +3,8 @@
 use Prim.Native.Nat.{ℕ, _+_, _%_}
 use mathlib.Core.Bool.{Bool, true, false, not}
 use lib.Dec.{eqb}
+use mathlib.Core.List.{List, [], _∷_}
+use Rattle.calls.specs.declared.Call.{Call}
 use Rattle.types.specs.Kinds.{pick}
 use Rattle.types.specs.Causes.{causeOf}
 use Rattle.memory.specs.World.{World}
@@ -26,59 +28,56 @@ outcome w n a e = record { after = w; refused = n; answer = a; events = e }
 unfoldable pub flag : ℕ → Bool
 flag n = not (eqb n 0)
 
--- trace and interrupts; any other number is no call
-unfoldable pub decodeInterrupt : RawCall → Decoded
-decodeInterrupt c =
-    pick (eqb (c .number) 19) (Known CheckTrace)
-    (pick (eqb (c .number) 20) (Known (SetIrq (c .a % 256)))
-    (pick (eqb (c .number) 21) (Known CheckInterrupts)
-    (pick (eqb (c .number) 22) (Known CheckAndServiceInterrupts) Unknown)))
+-- a row of the table: a number and its call
+pub record Row : Type 0 where
+  pub number : ℕ
+  pub call : Call
 
--- floating-point entries and wrappers
-unfoldable pub decodeWrapper : RawCall → Decoded
-decodeWrapper c =
-    pick (eqb (c .number) 10) (Known (TakeFpUnimp060 (c .a)))
-    (pick (eqb (c .number) 11) (Known TakeFpDisabled060)
-    (pick (eqb (c .number) 12) (Known TakeAlineException)
-    (pick (eqb (c .number) 13) (Known TakeFlineException)
-    (pick (eqb (c .number) 14) (Known (TakeTrapException (c .a % 256)))
-    (pick (eqb (c .number) 15) (Known TakeBkptException)
-    (pick (eqb (c .number) 16) (Known TakeIllegalException) (decodeInterrupt c)))))))
+abbrev pub is : ℕ → Call → Row
+is n x = record { number = n; call = x }
 
--- exceptions
-unfoldable pub decodeException : RawCall → Decoded
-decodeException c =
-    pick (eqb (c .number) 1) (Known (TakeException (c .a)))
-    (pick (eqb (c .number) 2) (Known (Trap (c .a % 256)))
-    (pick (eqb (c .number) 3) (Known (TakeGroup2Exception (c .a)))
-    (pick (eqb (c .number) 4) (Known ExceptionChk)
-    (pick (eqb (c .number) 5) (Known ExceptionZeroDivide)
-    (pick (eqb (c .number) 6) (Known ExceptionPrivilege)
-    (pick (eqb (c .number) 7) (Known ExceptionTrace) (decodeWrapper c)))))))
+-- the call of a number, or none
+abbrev pub find : ℕ → List Row → Decoded
+find n [] = Unknown
+find n (x ∷ xs) = pick (eqb n (x .number)) (Known (x .call)) (find n xs)
 
--- error entries and triggers
-unfoldable pub decodeError : RawCall → Decoded
-decodeError c =
-    pick (eqb (c .number) 8) (Known (ExceptionAddressError (c .a) (flag (c .b)) (flag (c .c))))
-    (pick (eqb (c .number) 9) (Known (ExceptionBusError (c .a) (flag (c .b)) (flag (c .c)) (c .d) (causeOf (c .e % 256))))
-    (pick (eqb (c .number) 17) (Known (TriggerAddressError (c .a) (flag (c .b)) (flag (c .c))))
-    (pick (eqb (c .number) 18) (Known (TriggerBusError (c .a) (flag (c .b)) (flag (c .c)) (c .d))) (decodeException c))))
+-- the numbers of the case format
+abbrev pub callsOf : RawCall → List Row
+callsOf c =
+    is 1 (TakeException (c .a))
+    ∷ is 2 (Trap (c .a % 256))
+    ∷ is 3 (TakeGroup2Exception (c .a))
+    ∷ is 4 ExceptionChk
+    ∷ is 5 ExceptionZeroDivide
+    ∷ is 6 ExceptionPrivilege
+    ∷ is 7 ExceptionTrace
+    ∷ is 8 (ExceptionAddressError (c .a) (flag (c .b)) (flag (c .c)))
+    ∷ is 9 (ExceptionBusError (c .a) (flag (c .b)) (flag (c .c)) (c .d) (causeOf (c .e % 256)))
+    ∷ is 10 (TakeFpUnimp060 (c .a))
+    ∷ is 11 TakeFpDisabled060
+    ∷ is 12 TakeAlineException
+    ∷ is 13 TakeFlineException
+    ∷ is 14 (TakeTrapException (c .a % 256))
+    ∷ is 15 TakeBkptException
+    ∷ is 16 TakeIllegalException
+    ∷ is 17 (TriggerAddressError (c .a) (flag (c .b)) (flag (c .c)))
+    ∷ is 18 (TriggerBusError (c .a) (flag (c .b)) (flag (c .c)) (c .d))
+    ∷ is 19 CheckTrace
+    ∷ is 20 (SetIrq (c .a % 256))
+    ∷ is 21 CheckInterrupts
+    ∷ is 22 CheckAndServiceInterrupts
+    ∷ is 23 (Read16 (c .a))
+    ∷ is 24 (Read32 (c .a))
+    ∷ is 25 (Write16 (c .a) (c .b % 0x10000))
+    ∷ is 26 (Write32 (c .a) (c .b))
+    ∷ is 27 (Push16 (c .a % 0x10000))
+    ∷ is 28 (Push32 (c .a))
+    ∷ is 29 PrefetchFirst
+    ∷ is 30 PrefetchSecond
+    ∷ []
 
--- pushes and prefetch
-unfoldable pub decodeStack : RawCall → Decoded
-decodeStack c =
-    pick (eqb (c .number) 27) (Known (Push16 (c .a % 65536)))
-    (pick (eqb (c .number) 28) (Known (Push32 (c .a)))
-    (pick (eqb (c .number) 29) (Known PrefetchFirst)
-    (pick (eqb (c .number) 30) (Known PrefetchSecond) (decodeError c))))
-
--- guarded accesses, and so every call by its number
-unfoldable pub decodeAccess : RawCall → Decoded
-decodeAccess c =
-    pick (eqb (c .number) 23) (Known (Read16 (c .a)))
-    (pick (eqb (c .number) 24) (Known (Read32 (c .a)))
-    (pick (eqb (c .number) 25) (Known (Write16 (c .a) (c .b % 65536)))
-    (pick (eqb (c .number) 26) (Known (Write32 (c .a) (c .b))) (decodeStack c))))
+unfoldable pub decode : RawCall → Decoded
+decode c = find (c .number) (callsOf c)
 
 -- the public call, its answer in numbers; 99 where the number names no call
 unfoldable pub ofPerformance : Performance → Outcome
@@ -89,4 +88,4 @@ rawOf w (Known c) = ofPerformance (perform w c)
 rawOf w Unknown = outcome w 99 0 0
 
 unfoldable pub rawCall : World → RawCall → Outcome
-rawCall w c = rawOf w (decodeAccess c)
+rawCall w c = rawOf w (decode c)

@@ -13,7 +13,7 @@ ghost use Prim.Native.Nat.{_%_};
 ghost use Rattle.memory.specs.World.{world};
 ghost use Rattle.types.specs.Causes.{causeOf};
 ghost use Rattle.calls.specs.Calls.{bit, refusedBy, valueOf, countOf};
-ghost use Rattle.boundary.specs.Calls.{outcome, flag, decodeAccess, decodeStack, decodeError, decodeException, decodeWrapper, decodeInterrupt, rawOf, rawCall};
+ghost use Rattle.boundary.specs.Calls.{outcome, flag, decode, rawOf, rawCall};
 ghost use Rattle.status.specs.Status.{statusOf, setSrNointNosp, putBackSr, setCcr};
 ghost use Rattle.status.specs.Banks.{spIndex, backupSp, restoreSp, setSFlag, setSmFlag, setSmFlagNosp};
 ghost use Rattle.cpu.specs.Clocks.{internalCycles, prefetchEnabled};
@@ -46,12 +46,6 @@ pub enum Decoded {
     Unknown,
 }
 
-fn is(n: u32, k: u32) -> bool
-    ensures { λ r. ⌜ r ≡ eqb n k ⌝ }
-{
-    n == k
-}
-
 // A flag is any number but 0.
 fn is_set(n: u32) -> bool
     ensures { λ r. ⌜ r ≡ flag n ⌝ }
@@ -60,9 +54,9 @@ fn is_set(n: u32) -> bool
 }
 
 fn low_word(n: u32) -> u16
-    ensures { λ r. ⌜ r ≡ n % 65536 ⌝ }
+    ensures { λ r. ⌜ r ≡ n % 0x10000 ⌝ }
 {
-    (n % 65536) as u16
+    (n % 0x10000) as u16
 }
 
 fn low_byte(n: u32) -> u8
@@ -80,166 +74,106 @@ fn bit_of(b: bool) -> u32
     0
 }
 
-// Trace and interrupts.
-fn decode_interrupt(call: RawCall) -> Decoded
-    ensures { λ r. ⌜ r ≡ decodeInterrupt call ⌝ }
+// A call by its number, and its arguments: `callsOf` is the table.
+fn decode(call: RawCall) -> Decoded
+    ensures { λ r. ⌜ r ≡ decode call ⌝ }
 {
-    if is(call.number, 19) {
-        return Decoded::Known(Call::CheckTrace);
+    let number = call.number;
+    match number {
+        1 => {
+            let xa = call.a;
+            Decoded::Known(Call::TakeException(xa))
+        }
+        2 => {
+            let xa = low_byte(call.a);
+            Decoded::Known(Call::Trap(xa))
+        }
+        3 => {
+            let xa = call.a;
+            Decoded::Known(Call::TakeGroup2Exception(xa))
+        }
+        4 => Decoded::Known(Call::ExceptionChk),
+        5 => Decoded::Known(Call::ExceptionZeroDivide),
+        6 => Decoded::Known(Call::ExceptionPrivilege),
+        7 => Decoded::Known(Call::ExceptionTrace),
+        8 => {
+            let xa = call.a;
+            let xb = is_set(call.b);
+            let xc = is_set(call.c);
+            Decoded::Known(Call::ExceptionAddressError(xa, xb, xc))
+        }
+        9 => {
+            let xa = call.a;
+            let xb = is_set(call.b);
+            let xc = is_set(call.c);
+            let xd = call.d;
+            let xe = low_byte(call.e);
+            let cause = types::cause_of(xe);
+            Decoded::Known(Call::ExceptionBusError(xa, xb, xc, xd, cause))
+        }
+        10 => {
+            let xa = call.a;
+            Decoded::Known(Call::TakeFpUnimp060(xa))
+        }
+        11 => Decoded::Known(Call::TakeFpDisabled060),
+        12 => Decoded::Known(Call::TakeAlineException),
+        13 => Decoded::Known(Call::TakeFlineException),
+        14 => {
+            let xa = low_byte(call.a);
+            Decoded::Known(Call::TakeTrapException(xa))
+        }
+        15 => Decoded::Known(Call::TakeBkptException),
+        16 => Decoded::Known(Call::TakeIllegalException),
+        17 => {
+            let xa = call.a;
+            let xb = is_set(call.b);
+            let xc = is_set(call.c);
+            Decoded::Known(Call::TriggerAddressError(xa, xb, xc))
+        }
+        18 => {
+            let xa = call.a;
+            let xb = is_set(call.b);
+            let xc = is_set(call.c);
+            let xd = call.d;
+            Decoded::Known(Call::TriggerBusError(xa, xb, xc, xd))
+        }
+        19 => Decoded::Known(Call::CheckTrace),
+        20 => {
+            let xa = low_byte(call.a);
+            Decoded::Known(Call::SetIrq(xa))
+        }
+        21 => Decoded::Known(Call::CheckInterrupts),
+        22 => Decoded::Known(Call::CheckAndServiceInterrupts),
+        23 => {
+            let xa = call.a;
+            Decoded::Known(Call::Read16(xa))
+        }
+        24 => {
+            let xa = call.a;
+            Decoded::Known(Call::Read32(xa))
+        }
+        25 => {
+            let xa = call.a;
+            let xb = low_word(call.b);
+            Decoded::Known(Call::Write16(xa, xb))
+        }
+        26 => {
+            let xa = call.a;
+            let xb = call.b;
+            Decoded::Known(Call::Write32(xa, xb))
+        }
+        27 => {
+            let xa = low_word(call.a);
+            Decoded::Known(Call::Push16(xa))
+        }
+        28 => {
+            let xa = call.a;
+            Decoded::Known(Call::Push32(xa))
+        }
+        29 => Decoded::Known(Call::PrefetchFirst),
+        30 => Decoded::Known(Call::PrefetchSecond),
+        _ => Decoded::Unknown,
     }
-    if is(call.number, 20) {
-        let xa = low_byte(call.a);
-        return Decoded::Known(Call::SetIrq(xa));
-    }
-    if is(call.number, 21) {
-        return Decoded::Known(Call::CheckInterrupts);
-    }
-    if is(call.number, 22) {
-        return Decoded::Known(Call::CheckAndServiceInterrupts);
-    }
-    Decoded::Unknown
-}
-
-// Floating-point entries and wrappers, or one of the calls below.
-fn decode_wrapper(call: RawCall) -> Decoded
-    ensures { λ r. ⌜ r ≡ decodeWrapper call ⌝ }
-{
-    if is(call.number, 10) {
-        let xa = call.a;
-        return Decoded::Known(Call::TakeFpUnimp060(xa));
-    }
-    if is(call.number, 11) {
-        return Decoded::Known(Call::TakeFpDisabled060);
-    }
-    if is(call.number, 12) {
-        return Decoded::Known(Call::TakeAlineException);
-    }
-    if is(call.number, 13) {
-        return Decoded::Known(Call::TakeFlineException);
-    }
-    if is(call.number, 14) {
-        let xa = low_byte(call.a);
-        return Decoded::Known(Call::TakeTrapException(xa));
-    }
-    if is(call.number, 15) {
-        return Decoded::Known(Call::TakeBkptException);
-    }
-    if is(call.number, 16) {
-        return Decoded::Known(Call::TakeIllegalException);
-    }
-    decode_interrupt(call)
-}
-
-// Exceptions, or one of the calls below.
-fn decode_exception(call: RawCall) -> Decoded
-    ensures { λ r. ⌜ r ≡ decodeException call ⌝ }
-{
-    if is(call.number, 1) {
-        let xa = call.a;
-        return Decoded::Known(Call::TakeException(xa));
-    }
-    if is(call.number, 2) {
-        let xa = low_byte(call.a);
-        return Decoded::Known(Call::Trap(xa));
-    }
-    if is(call.number, 3) {
-        let xa = call.a;
-        return Decoded::Known(Call::TakeGroup2Exception(xa));
-    }
-    if is(call.number, 4) {
-        return Decoded::Known(Call::ExceptionChk);
-    }
-    if is(call.number, 5) {
-        return Decoded::Known(Call::ExceptionZeroDivide);
-    }
-    if is(call.number, 6) {
-        return Decoded::Known(Call::ExceptionPrivilege);
-    }
-    if is(call.number, 7) {
-        return Decoded::Known(Call::ExceptionTrace);
-    }
-    decode_wrapper(call)
-}
-
-// Error entries and triggers, or one of the calls below.
-fn decode_error(call: RawCall) -> Decoded
-    ensures { λ r. ⌜ r ≡ decodeError call ⌝ }
-{
-    if is(call.number, 8) {
-        let xa = call.a;
-        let xb = is_set(call.b);
-        let xc = is_set(call.c);
-        return Decoded::Known(Call::ExceptionAddressError(xa, xb, xc));
-    }
-    if is(call.number, 9) {
-        let xa = call.a;
-        let xb = is_set(call.b);
-        let xc = is_set(call.c);
-        let xd = call.d;
-        let xe = low_byte(call.e);
-        let cause = types::cause_of(xe);
-        return Decoded::Known(Call::ExceptionBusError(xa, xb, xc, xd, cause));
-    }
-    if is(call.number, 17) {
-        let xa = call.a;
-        let xb = is_set(call.b);
-        let xc = is_set(call.c);
-        return Decoded::Known(Call::TriggerAddressError(xa, xb, xc));
-    }
-    if is(call.number, 18) {
-        let xa = call.a;
-        let xb = is_set(call.b);
-        let xc = is_set(call.c);
-        let xd = call.d;
-        return Decoded::Known(Call::TriggerBusError(xa, xb, xc, xd));
-    }
-    decode_exception(call)
-}
-
-// Pushes and prefetch, or one of the calls below.
-fn decode_stack(call: RawCall) -> Decoded
-    ensures { λ r. ⌜ r ≡ decodeStack call ⌝ }
-{
-    if is(call.number, 27) {
-        let xa = low_word(call.a);
-        return Decoded::Known(Call::Push16(xa));
-    }
-    if is(call.number, 28) {
-        let xa = call.a;
-        return Decoded::Known(Call::Push32(xa));
-    }
-    if is(call.number, 29) {
-        return Decoded::Known(Call::PrefetchFirst);
-    }
-    if is(call.number, 30) {
-        return Decoded::Known(Call::PrefetchSecond);
-    }
-    decode_error(call)
-}
-
-// Guarded accesses, or one of the calls below: every call by its number.
-fn decode_access(call: RawCall) -> Decoded
-    ensures { λ r. ⌜ r ≡ decodeAccess call ⌝ }
-{
-    if is(call.number, 23) {
-        let xa = call.a;
-        return Decoded::Known(Call::Read16(xa));
-    }
-    if is(call.number, 24) {
-        let xa = call.a;
-        return Decoded::Known(Call::Read32(xa));
-    }
-    if is(call.number, 25) {
-        let xa = call.a;
-        let xb = low_word(call.b);
-        return Decoded::Known(Call::Write16(xa, xb));
-    }
-    if is(call.number, 26) {
-        let xa = call.a;
-        let xb = call.b;
-        return Decoded::Known(Call::Write32(xa, xb));
-    }
-    decode_stack(call)
 }
 
 fn raw(m: Core, refused: u32, answer: u32, events: u32) -> RawAnswer
@@ -294,7 +228,7 @@ fn call_decoded(m: Core, store: &mut [u8], log: &mut [u32], call: Decoded) -> Ra
 pub extern "C" fn m68k_call(m: Core, store: &mut [u8], log: &mut [u32], call: RawCall) -> RawAnswer
     ensures { λ r. ⌜ outcome (world (r .core) (now (store .exit)) (now (log .exit))) (r .refused) (r .answer) (r .events) ≡ rawCall (world m (now (store .entry)) (now (log .entry))) call ⌝ }
 {
-    let d = decode_access(call);
+    let d = decode(call);
     call_decoded(m, store, log, d)
 }
 

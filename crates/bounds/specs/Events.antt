@@ -16,7 +16,7 @@ use Rattle.frames.specs.declared.Field.{Field}
 use Rattle.frames.specs.declared.Frame.{Frame}
 use Rattle.frames.specs.Frames.{fieldAt, busFrame, addressFrame}
 use Rattle.steps.specs.Steps.{beginBus, beginAddress, enterBusError, isCounted}
-use Rattle.faults.specs.Faults.{Request, busFault, addressFault, Raise, cpuOf, on, guardRead, guardWrite, pushed, pushShort, jumpVector, prefetchFirst, prefetchSecond, entryAddress, entryBus, closed, ended, raiseBus, raiseAddress, trigger, raised, entered}
+use Rattle.faults.specs.Faults.{Request, busError, addressError, Raise, cpuOf, on, readAt, writeAt, pushField, pushExceptionFrame68000, jumpVector, prefetchFirst, prefetchSecond, exceptionAddressError, exceptionBusError, closed, ended, raiseBus, raiseAddress, trigger, raised, entered}
 use Rattle.bounds.specs.Skeleton.{Steps, Raises, refills, more, afterField, afterFields, pick-one, pick-when, both-steps, guardRead-good, guardWrite-good, pushed-good, pushShort-good, jump-good, prefetchFirst-good, prefetchSecond-good, frame-good}
 use Rattle.bounds.specs.ErrorFrames.{busWrites, addressWrites, address-plain, bus-plain, address-writes, bus-writes}
 use Rattle.bounds.specs.Levels.{Domain, Safe, Kept, Any, Either, Set, inside, under, domain, clash, refusing, refused, vector-safe, steps, fetching, halted-kept, address-kept, bus-kept, super-kept, super-bus-kept, ended-kept, closed-kept, level-halts}
@@ -62,43 +62,43 @@ more-bill k Exc c l w h p = (p .0, pay (omega arith) (p .1))
 
 -- the ways through a trigger, over any statement of the world that it comes to
 module _ (R : World → Type 0) (t : ℕ) (w : World) (a : ℕ) (wr i : Bool) where
-  bus-ways : (z : ℕ) → R w → R (on w (halted (cpuOf w))) → (isFaulted (cpuOf w) ≡ false → R (closed (entryBus (trigger t) (on w (beginBus (cpuOf w))) a wr i z (causeNumberOf (cpuOf w))))) → R (trigger (suc t) w (busFault a wr i z))
+  bus-ways : (z : ℕ) → R w → R (on w (halted (cpuOf w))) → (isFaulted (cpuOf w) ≡ false → R (closed (exceptionBusError (trigger t) (on w (beginBus (cpuOf w))) a wr i z (causeNumberOf (cpuOf w))))) → R (trigger (suc t) w (busError a wr i z))
   unfolding trigger raiseBus
   bus-ways z f g h = pick-when R (isFaulted (cpuOf w)) (λ x. f) (λ x. pick-one R (inException (cpuOf w)) g (h x))
 
-  address-ways : R w → (isFaulted (cpuOf w) ≡ false → R (ended (entryAddress (trigger t) (on w (beginAddress (cpuOf w))) a wr i))) → R (trigger (suc t) w (addressFault a wr i))
+  address-ways : R w → (isFaulted (cpuOf w) ≡ false → R (ended (exceptionAddressError (trigger t) (on w (beginAddress (cpuOf w))) a wr i))) → R (trigger (suc t) w (addressError a wr i))
   unfolding trigger raiseAddress
   address-ways f g = pick-when R (isFaulted (cpuOf w)) (λ x. f) g
 
 module _ (k : ℕ) (l : List ℕ) where
   -- the ways to raise, from what a bus fault keeps: an address fault cannot be raised at a safe address
-  raises-of : (Exc : Bool → Type 0) (c : ℕ) (t : Raise) → ((n : ℕ) (w : World) (a : ℕ) (wr i : Bool) (z : ℕ) → Bill k Exc c l n w → Bill k Exc c l n (t w (busFault a wr i z))) → Raises (Bill k Exc c l) (Safe k) (isPrefetchKind k) t t
+  raises-of : (Exc : Bool → Type 0) (c : ℕ) (t : Raise) → ((n : ℕ) (w : World) (a : ℕ) (wr i : Bool) (z : ℕ) → Bill k Exc c l n w → Bill k Exc c l n (t w (busError a wr i z))) → Raises (Bill k Exc c l) (Safe k) (isPrefetchKind k) t t
   raises-of Exc c t f = record { fetching = λ n w p. fetching k Exc n w (p .0); bus = λ n w a wr i z p. (refl, f n w a wr i z p); odd = λ n w a wr i p o h. absurd (refused k (cpuOf w) a (p .0 .same) o h); vector = λ n w v p. vector-safe k (cpuOf w) v (p .0 .base) }
 
   -- an error entry, from what a bus fault costs inside it
   module _ (Exc : Bool → Type 0) (c : ℕ) (t : Raise) (T : Raises (Bill k Exc c l) (Safe k) (isPrefetchKind k) t t) where
-    entryBus-cost : (n : ℕ) (w : World) (a : ℕ) (wr i : Bool) (z cause : ℕ) → Bill k Exc c l n w → Bill k Exc c l (busCost k + n) (entryBus t w a wr i z cause)
-    unfolding entryBus
+    entryBus-cost : (n : ℕ) (w : World) (a : ℕ) (wr i : Bool) (z cause : ℕ) → Bill k Exc c l n w → Bill k Exc c l (busCost k + n) (exceptionBusError t w a wr i z cause)
+    unfolding exceptionBusError
     entryBus-cost n w a wr i z cause p =
         let e = bus-writes (cpuOf w) a wr i z cause n in
         let s = ap busWrites (p .0 .same) in
         let r = refills-sum (isPrefetchKind k) (suc (suc (afterFields (busFrame (cpuOf w) a wr i z cause) (busFrame (cpuOf w) a wr i z cause .count) n))) in
-        more-bill k Exc c l (entryBus t w a wr i z cause) (omega arith)
+        more-bill k Exc c l (exceptionBusError t w a wr i z cause) (omega arith)
         (frame-good (Bill k Exc c l) (Safe k) (isPrefetchKind k) t t (bill-steps k Exc c l) T n (on w (enterBusError (cpuOf w))) (busFrame (cpuOf w) a wr i z cause) 2
         (λ h m x g e. clash h (bus-plain (cpuOf w) a wr i z cause (ap isPre68020 (p .0 .same) ∙ e))) (super-bus-kept k Exc w (p .0), super-bus-books c l n w (p .1)) .1)
 
-    entryAddress-cost : (n : ℕ) (w : World) (a : ℕ) (wr i : Bool) → Bill k Exc c l n w → Bill k Exc c l (ownCost k + n) (entryAddress t w a wr i)
-    unfolding entryAddress
+    entryAddress-cost : (n : ℕ) (w : World) (a : ℕ) (wr i : Bool) → Bill k Exc c l n w → Bill k Exc c l (ownCost k + n) (exceptionAddressError t w a wr i)
+    unfolding exceptionAddressError
     entryAddress-cost n w a wr i p =
         let e = address-writes (cpuOf w) a wr i n in
         let s = ap addressWrites (p .0 .same) in
         let r = refills-sum (isPrefetchKind k) (suc (suc (afterFields (addressFrame (cpuOf w) a wr i) (addressFrame (cpuOf w) a wr i .count) n))) in
-        more-bill k Exc c l (entryAddress t w a wr i) (omega arith)
+        more-bill k Exc c l (exceptionAddressError t w a wr i) (omega arith)
         (frame-good (Bill k Exc c l) (Safe k) (isPrefetchKind k) t t (bill-steps k Exc c l) T n (on w (enterSupervisor (cpuOf w))) (addressFrame (cpuOf w) a wr i) 3
         (λ h. clash h (address-plain (cpuOf w) a wr i)) (super-kept k Exc w (p .0), super-books c l n w (p .1)) .1)
 
   -- while an entry is under way a bus fault is free
-  bus-free : (c t n : ℕ) (w : World) (a : ℕ) (wr i : Bool) (z : ℕ) → Bill k Set c l n w → Bill k Set c l n (trigger t w (busFault a wr i z))
+  bus-free : (c t n : ℕ) (w : World) (a : ℕ) (wr i : Bool) (z : ℕ) → Bill k Set c l n w → Bill k Set c l n (trigger t w (busError a wr i z))
   bus-free c t n w a wr i z p = rw (level-halts t w a wr i z (domain k Set w (p .0)) (p .0 .state)) (pick-one (Bill k Set c l n) (isFaulted (cpuOf w)) p (halted-kept k Set w (p .0), halted-books c l n w (p .1)))
 
   -- so an entry that is under way pays for no fault
@@ -106,13 +106,13 @@ module _ (k : ℕ) (l : List ℕ) where
   raises-in c t = raises-of Set c (trigger t) (λ n w a wr i z p. bus-free c t n w a wr i z p)
 
   -- anywhere a bus fault costs its entry
-  bus-cost : (c : ℕ) → busCost k ≤ c → (t n : ℕ) (w : World) (a : ℕ) (wr i : Bool) (z : ℕ) → Bill k Either c l n w → Bill k Either c l n (trigger (suc t) w (busFault a wr i z))
+  bus-cost : (c : ℕ) → busCost k ≤ c → (t n : ℕ) (w : World) (a : ℕ) (wr i : Bool) (z : ℕ) → Bill k Either c l n w → Bill k Either c l n (trigger (suc t) w (busError a wr i z))
   bus-cost c e t n w a wr i z p = bus-ways (Bill k Either c l n) t w a wr i z p (halted-kept k Either w (p .0), halted-books c l n w (p .1)) opened
     where
-      opened : isFaulted (cpuOf w) ≡ false → Bill k Either c l n (closed (entryBus (trigger t) (on w (beginBus (cpuOf w))) a wr i z (causeNumberOf (cpuOf w))))
+      opened : isFaulted (cpuOf w) ≡ false → Bill k Either c l n (closed (exceptionBusError (trigger t) (on w (beginBus (cpuOf w))) a wr i z (causeNumberOf (cpuOf w))))
       opened h =
           let r : c ≤ n = afford c l n w h (p .1) in
-          let x : World = entryBus (trigger t) (on w (beginBus (cpuOf w))) a wr i z (causeNumberOf (cpuOf w)) in
+          let x : World = exceptionBusError (trigger t) (on w (beginBus (cpuOf w))) a wr i z (causeNumberOf (cpuOf w)) in
           let d : Bill k Set 0 l (busCost k + (n - busCost k)) x = entryBus-cost Set 0 (trigger t) (raises-in 0 t) (n - busCost k) (on w (beginBus (cpuOf w))) a wr i z (causeNumberOf (cpuOf w)) (bus-kept k Either w (p .0), begin-bus c l 0 n (n - busCost k) w h (omega arith) (p .1)) in
           (closed-kept k x (d .0), closed-books 0 l c n (busCost k + (n - busCost k)) x (omega arith) (d .1))
 
@@ -121,13 +121,13 @@ module _ (k : ℕ) (l : List ℕ) where
   raises-bus c e t = raises-of Either c (trigger (suc t)) (λ n w a wr i z p. bus-cost c e t n w a wr i z p)
 
   -- an address fault costs its entry and the bus fault, b, that it may raise
-  address-cost : (Exc : Bool → Type 0) (b c : ℕ) → ownCost k + b ≤ c → (t : ℕ) → Raises (Bill k Exc b l) (Safe k) (isPrefetchKind k) (trigger t) (trigger t) → (n : ℕ) (w : World) (a : ℕ) (wr i : Bool) → Bill k Exc c l n w → Bill k Exc c l n (trigger (suc t) w (addressFault a wr i))
+  address-cost : (Exc : Bool → Type 0) (b c : ℕ) → ownCost k + b ≤ c → (t : ℕ) → Raises (Bill k Exc b l) (Safe k) (isPrefetchKind k) (trigger t) (trigger t) → (n : ℕ) (w : World) (a : ℕ) (wr i : Bool) → Bill k Exc c l n w → Bill k Exc c l n (trigger (suc t) w (addressError a wr i))
   address-cost Exc b c e t T n w a wr i p = address-ways (Bill k Exc c l n) t w a wr i p opened
     where
-      opened : isFaulted (cpuOf w) ≡ false → Bill k Exc c l n (ended (entryAddress (trigger t) (on w (beginAddress (cpuOf w))) a wr i))
+      opened : isFaulted (cpuOf w) ≡ false → Bill k Exc c l n (ended (exceptionAddressError (trigger t) (on w (beginAddress (cpuOf w))) a wr i))
       opened h =
           let r : c ≤ n = afford c l n w h (p .1) in
-          let x : World = entryAddress (trigger t) (on w (beginAddress (cpuOf w))) a wr i in
+          let x : World = exceptionAddressError (trigger t) (on w (beginAddress (cpuOf w))) a wr i in
           let d : Bill k Exc b l (ownCost k + (n - ownCost k)) x = entryAddress-cost Exc b (trigger t) T (n - ownCost k) (on w (beginAddress (cpuOf w))) a wr i (address-kept k Exc w (p .0), begin-address c l b n (n - ownCost k) w h (omega arith) (p .1)) in
           (ended-kept k Exc x (d .0), ended-books b l c n (ownCost k + (n - ownCost k)) x (omega arith) (d .1))
 
@@ -240,59 +240,59 @@ module _ (w : World) (s : w .core .bus .events ≡ 0) (d : Domain w) where
   Tb = raises-bus K (w .log) (busCost K) (omega arith) 1
 
   -- a bus error entry that is called: its own events, a bus fault's, and the clocks that wait
-  pub entryBus-events : (a : ℕ) (wr i : Bool) (z cause : ℕ) → Written (1 + busCost K + busCost K) (w .log) (entryBus raised w a wr i z cause)
+  pub entryBus-events : (a : ℕ) (wr i : Bool) (z cause : ℕ) → Written (1 + busCost K + busCost K) (w .log) (exceptionBusError raised w a wr i z cause)
   entryBus-events a wr i z cause =
       let m = bus-most K in
-      written (busCost K + suc (busCost K)) (1 + busCost K + busCost K) (w .log) (entryBus raised w a wr i z cause) (omega arith) (omega arith)
+      written (busCost K + suc (busCost K)) (1 + busCost K + busCost K) (w .log) (exceptionBusError raised w a wr i z cause) (omega arith) (omega arith)
       (entryBus-cost K (w .log) Either (busCost K) raised Tb (suc (busCost K)) w a wr i z cause safe .1)
 
   -- an address error entry that is called
-  pub entryAddress-events : (a : ℕ) (wr i : Bool) → Written (1 + addressCost K) (w .log) (entryAddress raised w a wr i)
+  pub entryAddress-events : (a : ℕ) (wr i : Bool) → Written (1 + addressCost K) (w .log) (exceptionAddressError raised w a wr i)
   entryAddress-events a wr i =
       let m = addressCost-most K in
-      written (ownCost K + suc (busCost K)) (1 + addressCost K) (w .log) (entryAddress raised w a wr i) (omega arith) (omega arith)
+      written (ownCost K + suc (busCost K)) (1 + addressCost K) (w .log) (exceptionAddressError raised w a wr i) (omega arith) (omega arith)
       (entryAddress-cost K (w .log) Either (busCost K) raised Tb (suc (busCost K)) w a wr i safe .1)
 
   -- a bus fault that is raised
-  pub bus-events : (a : ℕ) (wr i : Bool) (z : ℕ) → Written (1 + busCost K) (w .log) (raised w (busFault a wr i z))
+  pub bus-events : (a : ℕ) (wr i : Bool) (z : ℕ) → Written (1 + busCost K) (w .log) (raised w (busError a wr i z))
   bus-events a wr i z =
       let m = bus-most K in
-      written (suc (busCost K)) (1 + busCost K) (w .log) (raised w (busFault a wr i z)) (omega arith) (omega arith) (bus-cost K (w .log) (busCost K) (omega arith) 1 (suc (busCost K)) w a wr i z safe .1)
+      written (suc (busCost K)) (1 + busCost K) (w .log) (raised w (busError a wr i z)) (omega arith) (omega arith) (bus-cost K (w .log) (busCost K) (omega arith) 1 (suc (busCost K)) w a wr i z safe .1)
 
   -- an address fault that is raised
-  pub address-events : (a : ℕ) (wr i : Bool) → Written (1 + addressCost K) (w .log) (raised w (addressFault a wr i))
+  pub address-events : (a : ℕ) (wr i : Bool) → Written (1 + addressCost K) (w .log) (raised w (addressError a wr i))
   address-events a wr i =
       let m = addressCost-most K in
-      written (suc (addressCost K)) (1 + addressCost K) (w .log) (raised w (addressFault a wr i)) (omega arith) (omega arith)
+      written (suc (addressCost K)) (1 + addressCost K) (w .log) (raised w (addressError a wr i)) (omega arith) (omega arith)
       (address-cost K (w .log) Either (busCost K) (addressCost K) (omega arith) 1 (raises-bus K (w .log) (busCost K) (omega arith) 0) (suc (addressCost K)) w a wr i (inside w d, start (addressCost K) w s) .1)
 
   -- a guarded read
-  pub guardRead-events : (a : ℕ) (g : Bool) → Written (2 + guardCost K) (w .log) (guardRead raised w a g .after)
+  pub guardRead-events : (a : ℕ) (g : Bool) → Written (2 + guardCost K) (w .log) (readAt raised w a g .after)
   guardRead-events a g =
       let m = guardCost-most K in
-      written (suc (suc (guardCost K))) (2 + guardCost K) (w .log) (guardRead raised w a g .after) (omega arith) (omega arith)
+      written (suc (suc (guardCost K))) (2 + guardCost K) (w .log) (readAt raised w a g .after) (omega arith) (omega arith)
       (guardRead-good (Bill K Either (guardCost K) (w .log)) Any (isPrefetchKind K) raised raised (bill-steps K Either (guardCost K) (w .log)) (raises-any K (w .log) 0) (suc (guardCost K)) w a g any tt .1 .1)
 
   -- a guarded write
-  pub guardWrite-events : (a : ℕ) (g : Bool) (v : ℕ) → Written (2 + guardCost K) (w .log) (guardWrite raised w a g v)
+  pub guardWrite-events : (a : ℕ) (g : Bool) (v : ℕ) → Written (2 + guardCost K) (w .log) (writeAt raised w a g v)
   guardWrite-events a g v =
       let m = guardCost-most K in
-      written (suc (suc (guardCost K))) (2 + guardCost K) (w .log) (guardWrite raised w a g v) (omega arith) (omega arith)
+      written (suc (suc (guardCost K))) (2 + guardCost K) (w .log) (writeAt raised w a g v) (omega arith) (omega arith)
       (guardWrite-good (Bill K Either (guardCost K) (w .log)) Any (isPrefetchKind K) raised raised (bill-steps K Either (guardCost K) (w .log)) (raises-any K (w .log) 0) (suc (guardCost K)) w a g v any tt .1 .1)
 
   -- a push of a field
-  pub pushed-events : (f : Field) → Written (2 + guardCost K) (w .log) (pushed raised w f)
+  pub pushed-events : (f : Field) → Written (2 + guardCost K) (w .log) (pushField raised w f)
   pushed-events f =
       let m = guardCost-most K in
       let e : afterField f (suc (guardCost K)) ≤ 2 + guardCost K = pick-one (λ x. x ≤ 2 + guardCost K) (isCounted f) (omega arith) (omega arith) in
-      written (afterField f (suc (guardCost K))) (2 + guardCost K) (w .log) (pushed raised w f) e (omega arith)
+      written (afterField f (suc (guardCost K))) (2 + guardCost K) (w .log) (pushField raised w f) e (omega arith)
       (pushed-good (Bill K Either (guardCost K) (w .log)) Any (isPrefetchKind K) raised raised (bill-steps K Either (guardCost K) (w .log)) (raises-any K (w .log) 0) (suc (guardCost K)) w f (λ h k n x p. tt) any .1 .1)
 
   -- the three writes of the short frame
-  pub pushShort-events : (pc sr : ℕ) → Written (4 + guardCost K) (w .log) (pushShort raised w pc sr)
+  pub pushShort-events : (pc sr : ℕ) → Written (4 + guardCost K) (w .log) (pushExceptionFrame68000 raised w pc sr)
   pushShort-events pc sr =
       let m = guardCost-most K in
-      written (suc (suc (suc (suc (guardCost K))))) (4 + guardCost K) (w .log) (pushShort raised w pc sr) (omega arith) (omega arith)
+      written (suc (suc (suc (suc (guardCost K))))) (4 + guardCost K) (w .log) (pushExceptionFrame68000 raised w pc sr) (omega arith) (omega arith)
       (pushShort-good (Bill K Either (guardCost K) (w .log)) Any (isPrefetchKind K) raised raised (bill-steps K Either (guardCost K) (w .log)) (raises-any K (w .log) 0) (λ a. tt) (suc (guardCost K)) w pc sr any .1 .1)
 
   -- the jump to a vector: the vector's address is even, so a bus fault at most
@@ -360,15 +360,15 @@ pub data Call : Type 0 where
 
 -- the world that a call comes to
 unfoldable pub run : Call → World → World
-run (reads a g) w = guardRead raised w a g .after
-run (writes a g v) w = guardWrite raised w a g v
-run (pushes f) w = pushed raised w f
-run (pushesShort pc sr) w = pushShort raised w pc sr
+run (reads a g) w = readAt raised w a g .after
+run (writes a g v) w = writeAt raised w a g v
+run (pushes f) w = pushField raised w f
+run (pushesShort pc sr) w = pushExceptionFrame68000 raised w pc sr
 run first w = prefetchFirst raised w
 run second w = prefetchSecond raised w
 run (jumps v) w = jumpVector raised w v
-run (busEntry a wr i z cause) w = entryBus raised w a wr i z cause
-run (addressEntry a wr i) w = entryAddress raised w a wr i
+run (busEntry a wr i z cause) w = exceptionBusError raised w a wr i z cause
+run (addressEntry a wr i) w = exceptionAddressError raised w a wr i
 run (raises q) w = raised w q
 
 -- the most that each makes, over all kinds
@@ -382,8 +382,8 @@ most second = 15
 most (jumps v) = 33
 most (busEntry a wr i z cause) = 61
 most (addressEntry a wr i) = 36
-most (raises (busFault a wr i z)) = 31
-most (raises (addressFault a wr i)) = 36
+most (raises (busError a wr i z)) = 31
+most (raises (addressError a wr i)) = 36
 
 -- THE EVENTS: no call makes more than its most
 pub events : (c : Call) (w : World) → w .core .bus .events ≡ 0 → Domain w → Written (most c) (w .log) (run c w)
@@ -397,8 +397,8 @@ events second w s d = few-more (queue-most (kindOf (cpuOf w))) (prefetchSecond-e
 events (jumps v) w s d = few-more (let e = bus-most (kindOf (cpuOf w)) in omega arith) (jumpVector-events w s d v)
 events (busEntry a wr i z cause) w s d = few-more (let e = bus-most (kindOf (cpuOf w)) in omega arith) (entryBus-events w s d a wr i z cause)
 events (addressEntry a wr i) w s d = few-more (let e = addressCost-most (kindOf (cpuOf w)) in omega arith) (entryAddress-events w s d a wr i)
-events (raises (busFault a wr i z)) w s d = few-more (let e = bus-most (kindOf (cpuOf w)) in omega arith) (bus-events w s d a wr i z)
-events (raises (addressFault a wr i)) w s d = few-more (let e = addressCost-most (kindOf (cpuOf w)) in omega arith) (address-events w s d a wr i)
+events (raises (busError a wr i z)) w s d = few-more (let e = bus-most (kindOf (cpuOf w)) in omega arith) (bus-events w s d a wr i z)
+events (raises (addressError a wr i)) w s d = few-more (let e = addressCost-most (kindOf (cpuOf w)) in omega arith) (address-events w s d a wr i)
 
 -- each of these is 61 at most
 pub most-61 : (c : Call) → most c ≤ 61
@@ -412,8 +412,8 @@ most-61 second = omega arith
 most-61 (jumps v) = omega arith
 most-61 (busEntry a wr i z cause) = omega arith
 most-61 (addressEntry a wr i) = omega arith
-most-61 (raises (busFault a wr i z)) = omega arith
-most-61 (raises (addressFault a wr i)) = omega arith
+most-61 (raises (busError a wr i z)) = omega arith
+most-61 (raises (addressError a wr i)) = omega arith
 
 -- so no call makes more than 61 events
 pub events-61 : (c : Call) (w : World) → w .core .bus .events ≡ 0 → Domain w → Written 61 (w .log) (run c w)

@@ -15,7 +15,7 @@ use Rattle.frames.specs.declared.Field.{Field}
 use Rattle.frames.specs.declared.Frame.{Frame}
 use Rattle.frames.specs.Frames.{fieldAt, busFrame, addressFrame}
 use Rattle.steps.specs.Steps.{beginBus, beginAddress, enterBusError, isCounted, isRaw}
-use Rattle.faults.specs.Faults.{Request, busFault, addressFault, Raise, cpuOf, on, guardRead, guardWrite, stackField, pushed, pushFields, stacked, jumpVector, prefetchFirst, prefetchSecond, entryAddress, entryBus, closed, ended, raiseBus, raiseAddress, trigger}
+use Rattle.faults.specs.Faults.{Request, busError, addressError, Raise, cpuOf, on, readAt, writeAt, stackField, pushField, pushFields, pushFrame, jumpVector, prefetchFirst, prefetchSecond, exceptionAddressError, exceptionBusError, closed, ended, raiseBus, raiseAddress, trigger}
 use Rattle.bounds.specs.Skeleton.{Steps, Raises, pick-one, pick-when, flush-ways, write-ways, read-ways, clocks-ways, pushFields-good, jump-good, prefetchFirst-good, prefetchSecond-good, frame-good}
 
 abbrev pub Faulted : World → Type 0
@@ -44,18 +44,18 @@ address-ends w x p = pick-when Faulted (isFaulted (cpuOf w)) (λ h. h) (λ h. p)
 -- after a trigger the record is faulted, at any level and from any world
 pub trigger-faulted : (n : ℕ) (w : World) (q : Request) → isFaulted (trigger n w q .core .cpu) ≡ true
 unfolding trigger
-trigger-faulted zero w (busFault a wr i z) = bus-ends w _ (halts w)
-trigger-faulted (suc n) w (busFault a wr i z) = bus-ends w _ (closes (entryBus (trigger n) (on w (beginBus (cpuOf w))) a wr i z (causeNumberOf (cpuOf w))))
-trigger-faulted zero w (addressFault a wr i) = address-ends w _ (halts w)
-trigger-faulted (suc n) w (addressFault a wr i) = address-ends w _ (ends (entryAddress (trigger n) (on w (beginAddress (cpuOf w))) a wr i))
+trigger-faulted zero w (busError a wr i z) = bus-ends w _ (halts w)
+trigger-faulted (suc n) w (busError a wr i z) = bus-ends w _ (closes (exceptionBusError (trigger n) (on w (beginBus (cpuOf w))) a wr i z (causeNumberOf (cpuOf w))))
+trigger-faulted zero w (addressError a wr i) = address-ends w _ (halts w)
+trigger-faulted (suc n) w (addressError a wr i) = address-ends w _ (ends (exceptionAddressError (trigger n) (on w (beginAddress (cpuOf w))) a wr i))
 
 -- on a faulted record a trigger does nothing
 pub trigger-none : (n : ℕ) (w : World) (q : Request) → isFaulted (w .core .cpu) ≡ true → trigger n w q ≡ w
 unfolding trigger raiseBus raiseAddress
-trigger-none zero w (busFault a wr i z) h = rw h
-trigger-none (suc n) w (busFault a wr i z) h = rw h
-trigger-none zero w (addressFault a wr i) h = rw h
-trigger-none (suc n) w (addressFault a wr i) h = rw h
+trigger-none zero w (busError a wr i z) h = rw h
+trigger-none (suc n) w (busError a wr i z) h = rw h
+trigger-none zero w (addressError a wr i) h = rw h
+trigger-none (suc n) w (addressError a wr i) h = rw h
 
 lower-faulted : (c : Cpu) (v : ℕ) → isFaulted (lowerA7 c v) ≡ isFaulted c
 unfolding isFaulted lowerA7 setA7
@@ -64,13 +64,13 @@ lower-faulted c v = refl
 -- a guarded write, a guarded read and a push of a field that is not raw, whatever raises
 module _ (t : Raise) where
   -- a guarded write does nothing
-  pub write-none : (w : World) (a : ℕ) (g : Bool) (v : ℕ) → isFaulted (w .core .cpu) ≡ true → guardWrite t w a g v ≡ w
-  unfolding guardWrite
+  pub write-none : (w : World) (a : ℕ) (g : Bool) (v : ℕ) → isFaulted (w .core .cpu) ≡ true → writeAt t w a g v ≡ w
+  unfolding writeAt
   write-none w a g v h = rw h
 
   -- a guarded read does nothing, fails, and reads 0
-  pub read-none : (w : World) (a : ℕ) (g : Bool) → isFaulted (w .core .cpu) ≡ true → guardRead t w a g ≡ reply w false 0
-  unfolding guardRead
+  pub read-none : (w : World) (a : ℕ) (g : Bool) → isFaulted (w .core .cpu) ≡ true → readAt t w a g ≡ reply w false 0
+  unfolding readAt
   read-none w a g h = rw h
 
   stack-none : (w : World) (f : Field) → isRaw f ≡ false → Faulted w → stackField t w f ≡ w
@@ -78,8 +78,8 @@ module _ (t : Raise) where
   stack-none w f r h = pick-one (λ x. x ≡ w) (isCounted f) refl (rw r (write-none w _ (f .long) (f .value) h))
 
   -- a push only lowers A7
-  pub push-none : (w : World) (f : Field) → isRaw f ≡ false → isFaulted (w .core .cpu) ≡ true → pushed t w f ≡ on w (lowerA7 (cpuOf w) (widthOf (f .long)))
-  unfolding pushed putCpu
+  pub push-none : (w : World) (f : Field) → isRaw f ≡ false → isFaulted (w .core .cpu) ≡ true → pushField t w f ≡ on w (lowerA7 (cpuOf w) (widthOf (f .long)))
+  unfolding pushField putCpu
   push-none w f r h = stack-none (on w (lowerA7 (cpuOf w) (widthOf (f .long)))) f r (lower-faulted (cpuOf w) (widthOf (f .long)) ∙ h)
 
 -- whether one of the first k fields is pushed by a raw access
@@ -142,7 +142,7 @@ unfolding release noted lowerA7 setA7 setWdata startVector setPc clearPrefetch f
 steps = record { weaken = λ n w p. p; flushes = flushes; lowers = λ n w g p. p; datum = λ n w v p. p; writes = writes; reads = reads; releases = λ n w p. p; starts = λ n w v p. p; goes = λ n w v p. p; drops = λ n w p. p; firsts = λ n w v p. p; seconds = λ n w v p. p; clocks = λ n w h p. clocks-ways Faulted w 2 (λ h. p) p }
 
 raises : (n : ℕ) → Raises Stays (λ a. Unit {0}) true (trigger n) (trigger n)
-raises n = record { fetching = λ m w p h. refl; bus = λ m w a wr i z p. (refl, trigger-faulted n w (busFault a wr i z)); odd = λ m w a wr i p o h. (refl, trigger-faulted n w _); vector = λ m w v p. tt }
+raises n = record { fetching = λ m w p h. refl; bus = λ m w a wr i z p. (refl, trigger-faulted n w (busError a wr i z)); odd = λ m w a wr i p o h. (refl, trigger-faulted n w _); vector = λ m w v p. tt }
 
 enter-faulted : (w : World) → Faulted w → Faulted (on w (enterSupervisor (cpuOf w)))
 unfolding putCpu isFaulted enterSupervisor clearTrace setSFlag restoreSp putS backupSp
@@ -170,15 +170,15 @@ module _ (n : ℕ) (w : World) (h : isFaulted (w .core .cpu) ≡ true) where
   second-faulted = prefetchSecond-good Stays (λ a. Unit {0}) true (trigger n) (trigger n) steps (raises n) 0 w h .1
 
   -- through an entry of any frame
-  pub frame-faulted : (f : Frame) (v : ℕ) → isFaulted (jumpVector (trigger n) (stacked (trigger n) w f) v .core .cpu) ≡ true
+  pub frame-faulted : (f : Frame) (v : ℕ) → isFaulted (jumpVector (trigger n) (pushFrame (trigger n) w f) v .core .cpu) ≡ true
   frame-faulted f v = frame-good Stays (λ a. Unit {0}) true (trigger n) (trigger n) steps (raises n) 0 w f v (λ g m x p. tt) h .1
 
 -- through an address error entry that is called
-pub entryAddress-faulted : (n : ℕ) (w : World) (a : ℕ) (wr i : Bool) → isFaulted (w .core .cpu) ≡ true → isFaulted (entryAddress (trigger n) w a wr i .core .cpu) ≡ true
-unfolding entryAddress
+pub entryAddress-faulted : (n : ℕ) (w : World) (a : ℕ) (wr i : Bool) → isFaulted (w .core .cpu) ≡ true → isFaulted (exceptionAddressError (trigger n) w a wr i .core .cpu) ≡ true
+unfolding exceptionAddressError
 entryAddress-faulted n w a wr i h = frame-faulted n (on w (enterSupervisor (cpuOf w))) (enter-faulted w h) (addressFrame (cpuOf w) a wr i) 3
 
 -- through a bus error entry that is called
-pub entryBus-faulted : (n : ℕ) (w : World) (a : ℕ) (wr i : Bool) (z cause : ℕ) → isFaulted (w .core .cpu) ≡ true → isFaulted (entryBus (trigger n) w a wr i z cause .core .cpu) ≡ true
-unfolding entryBus
+pub entryBus-faulted : (n : ℕ) (w : World) (a : ℕ) (wr i : Bool) (z cause : ℕ) → isFaulted (w .core .cpu) ≡ true → isFaulted (exceptionBusError (trigger n) w a wr i z cause .core .cpu) ≡ true
+unfolding exceptionBusError
 entryBus-faulted n w a wr i z cause h = frame-faulted n (on w (enterBusError (cpuOf w))) (enter-bus-faulted w h) (busFrame (cpuOf w) a wr i z cause) 2

@@ -16,7 +16,7 @@ use Rattle.frames.specs.declared.Field.{Field}
 use Rattle.frames.specs.declared.Frame.{Frame}
 use Rattle.frames.specs.Frames.{busFrame, addressFrame}
 use Rattle.steps.specs.Steps.{refusesOdd, vectorAddress, beginBus, beginAddress, enterBusError}
-use Rattle.faults.specs.Faults.{Request, busFault, addressFault, Raise, cpuOf, on, guardRead, guardWrite, pushed, pushFields, pushShort, stacked, jumpVector, prefetchFirst, prefetchSecond, entryAddress, entryBus, closed, ended, raiseBus, raiseAddress, trigger, entered}
+use Rattle.faults.specs.Faults.{Request, busError, addressError, Raise, cpuOf, on, readAt, writeAt, pushField, pushFields, pushExceptionFrame68000, pushFrame, jumpVector, prefetchFirst, prefetchSecond, exceptionAddressError, exceptionBusError, closed, ended, raiseBus, raiseAddress, trigger, entered}
 use Rattle.bounds.specs.Skeleton.{Good, Steps, Raises, pick-if, pick-one, flush-ways, write-ways, read-ways, clocks-ways, guardRead-good, guardWrite-good, pushed-good, pushFields-good, stacked-good, pushShort-good, jump-good, prefetchFirst-good, prefetchSecond-good, frame-good}
 use Rattle.bounds.specs.ErrorFrames.{address-plain, bus-plain}
 
@@ -149,15 +149,15 @@ module _ (k : ℕ) (Exc : Bool → Type 0) where
   -- an error entry, from ways to raise a bus fault that agree: what an address fault does there is not asked
   module _ (t u : Raise) (T : Raises (Kept k Exc) (Safe k) (isPrefetchKind k) t u) where
     -- an address error entry is one, whichever raises
-    pub entryAddress-good : (w : World) (a : ℕ) (wr i : Bool) → Kept k Exc 0 w → Good (Kept k Exc) 0 (entryAddress t w a wr i) (entryAddress u w a wr i)
-    unfolding entryAddress
+    pub entryAddress-good : (w : World) (a : ℕ) (wr i : Bool) → Kept k Exc 0 w → Good (Kept k Exc) 0 (exceptionAddressError t w a wr i) (exceptionAddressError u w a wr i)
+    unfolding exceptionAddressError
     entryAddress-good w a wr i p =
         frame-good (Kept k Exc) (Safe k) (isPrefetchKind k) t u steps T 0 (on w (enterSupervisor (cpuOf w))) (addressFrame (cpuOf w) a wr i) 3
         (λ h. clash h (address-plain (cpuOf w) a wr i)) (super-kept w p)
 
     -- so is a bus error entry
-    pub entryBus-good : (w : World) (a : ℕ) (wr i : Bool) (z cause : ℕ) → Kept k Exc 0 w → Good (Kept k Exc) 0 (entryBus t w a wr i z cause) (entryBus u w a wr i z cause)
-    unfolding entryBus
+    pub entryBus-good : (w : World) (a : ℕ) (wr i : Bool) (z cause : ℕ) → Kept k Exc 0 w → Good (Kept k Exc) 0 (exceptionBusError t w a wr i z cause) (exceptionBusError u w a wr i z cause)
+    unfolding exceptionBusError
     entryBus-good w a wr i z cause p =
         frame-good (Kept k Exc) (Safe k) (isPrefetchKind k) t u steps T 0 (on w (enterBusError (cpuOf w))) (busFrame (cpuOf w) a wr i z cause) 2
         (λ h m x g e. clash h (bus-plain (cpuOf w) a wr i z cause (ap isPre68020 (p .same) ∙ e))) (super-bus-kept w p)
@@ -169,12 +169,12 @@ closed-kept k w p = record { same = p .same; base = p .base; state = tt }
 
 -- THE EQUATIONS OF THE RECURSION: t on the left, and v inside
 pub record Unrolls (t v : Raise) : Type 0 where
-  pub bus : (w : World) (a : ℕ) (wr i : Bool) (z : ℕ) → Domain w → t w (busFault a wr i z) ≡ raiseBus w (closed (entryBus v (on w (beginBus (cpuOf w))) a wr i z (causeNumberOf (cpuOf w))))
-  pub address : (w : World) (a : ℕ) (wr i : Bool) → Domain w → t w (addressFault a wr i) ≡ raiseAddress w (ended (entryAddress v (on w (beginAddress (cpuOf w))) a wr i))
+  pub bus : (w : World) (a : ℕ) (wr i : Bool) (z : ℕ) → Domain w → t w (busError a wr i z) ≡ raiseBus w (closed (exceptionBusError v (on w (beginBus (cpuOf w))) a wr i z (causeNumberOf (cpuOf w))))
+  pub address : (w : World) (a : ℕ) (wr i : Bool) → Domain w → t w (addressError a wr i) ≡ raiseAddress w (ended (exceptionAddressError v (on w (beginAddress (cpuOf w))) a wr i))
 
 -- while an entry is under way a bus fault halts
 abbrev pub Halts : Raise → Type 0
-Halts t = (w : World) (a : ℕ) (wr i : Bool) (z : ℕ) → Domain w → inException (cpuOf w) ≡ true → t w (busFault a wr i z) ≡ pick (isFaulted (cpuOf w)) w (on w (halted (cpuOf w)))
+Halts t = (w : World) (a : ℕ) (wr i : Bool) (z : ℕ) → Domain w → inException (cpuOf w) ≡ true → t w (busError a wr i z) ≡ pick (isFaulted (cpuOf w)) w (on w (halted (cpuOf w)))
 
 -- what meets the equations halts
 pub unrolled-halts : (t v : Raise) → Unrolls t v → Halts t
@@ -194,10 +194,10 @@ level-unrolls n = record { bus = λ w a wr i z d. refl; address = λ w a wr i d.
 
 module _ (k : ℕ) where
   -- the two ways to raise, from what they do at a bus fault: an address fault cannot be raised at a safe address
-  pub raises-of : (Exc : Bool → Type 0) (t u : Raise) → ((w : World) (a : ℕ) (wr i : Bool) (z : ℕ) → Kept k Exc 0 w → Good (Kept k Exc) 0 (t w (busFault a wr i z)) (u w (busFault a wr i z))) → Raises (Kept k Exc) (Safe k) (isPrefetchKind k) t u
+  pub raises-of : (Exc : Bool → Type 0) (t u : Raise) → ((w : World) (a : ℕ) (wr i : Bool) (z : ℕ) → Kept k Exc 0 w → Good (Kept k Exc) 0 (t w (busError a wr i z)) (u w (busError a wr i z))) → Raises (Kept k Exc) (Safe k) (isPrefetchKind k) t u
   raises-of Exc t u f = record { fetching = fetching k Exc; bus = λ l w a wr i z p. f w a wr i z p; odd = λ l w a wr i p o h. absurd (refused k (cpuOf w) a (p .same) o h); vector = λ l w v p. vector-safe k (cpuOf w) v (p .base) }
 
-  halts-good : (t u : Raise) → Halts t → Halts u → (w : World) (a : ℕ) (wr i : Bool) (z : ℕ) → Kept k Set 0 w → Good (Kept k Set) 0 (t w (busFault a wr i z)) (u w (busFault a wr i z))
+  halts-good : (t u : Raise) → Halts t → Halts u → (w : World) (a : ℕ) (wr i : Bool) (z : ℕ) → Kept k Set 0 w → Good (Kept k Set) 0 (t w (busError a wr i z)) (u w (busError a wr i z))
   halts-good t u f g w a wr i z p =
       let e = f w a wr i z (domain k Set w p) (p .state) in
       (e ∙ sym (g w a wr i z (domain k Set w p) (p .state)), rw e (pick-one (Kept k Set 0) (isFaulted (cpuOf w)) p (halted-kept k Set w p)))
@@ -212,14 +212,14 @@ module _ (k : ℕ) where
   ending : (Exc : Bool → Type 0) {x y : World} → Good (Kept k Exc) 0 x y → Good (Kept k Exc) 0 (ended x) (ended y)
   ending Exc {x} {y} g = (ap ended (g .0), ended-kept k Exc x (g .1))
 
-  bus-body : (v x : Raise) → Raises (Kept k Set) (Safe k) (isPrefetchKind k) v x → (w : World) (a : ℕ) (wr i : Bool) (z cause : ℕ) → Kept k Either 0 w → Good (Kept k Either) 0 (raiseBus w (closed (entryBus v (on w (beginBus (cpuOf w))) a wr i z cause))) (raiseBus w (closed (entryBus x (on w (beginBus (cpuOf w))) a wr i z cause)))
+  bus-body : (v x : Raise) → Raises (Kept k Set) (Safe k) (isPrefetchKind k) v x → (w : World) (a : ℕ) (wr i : Bool) (z cause : ℕ) → Kept k Either 0 w → Good (Kept k Either) 0 (raiseBus w (closed (exceptionBusError v (on w (beginBus (cpuOf w))) a wr i z cause))) (raiseBus w (closed (exceptionBusError x (on w (beginBus (cpuOf w))) a wr i z cause)))
   unfolding raiseBus
   bus-body v x T w a wr i z cause p =
       pick-if (Good (Kept k Either) 0) (isFaulted (cpuOf w)) (λ h. (refl, p))
       (λ h. pick-if (Good (Kept k Either) 0) (inException (cpuOf w)) (λ h. (refl, halted-kept k Either w p))
       (λ h. closing (entryBus-good k Set v x T (on w (beginBus (cpuOf w))) a wr i z cause (bus-kept k Either w p))))
 
-  address-body : (Exc : Bool → Type 0) (v x : Raise) → Raises (Kept k Exc) (Safe k) (isPrefetchKind k) v x → (w : World) (a : ℕ) (wr i : Bool) → Kept k Exc 0 w → Good (Kept k Exc) 0 (raiseAddress w (ended (entryAddress v (on w (beginAddress (cpuOf w))) a wr i))) (raiseAddress w (ended (entryAddress x (on w (beginAddress (cpuOf w))) a wr i)))
+  address-body : (Exc : Bool → Type 0) (v x : Raise) → Raises (Kept k Exc) (Safe k) (isPrefetchKind k) v x → (w : World) (a : ℕ) (wr i : Bool) → Kept k Exc 0 w → Good (Kept k Exc) 0 (raiseAddress w (ended (exceptionAddressError v (on w (beginAddress (cpuOf w))) a wr i))) (raiseAddress w (ended (exceptionAddressError x (on w (beginAddress (cpuOf w))) a wr i)))
   unfolding raiseAddress
   address-body Exc v x T w a wr i p =
       pick-if (Good (Kept k Exc) 0) (isFaulted (cpuOf w)) (λ h. (refl, p))
@@ -230,7 +230,7 @@ module _ (k : ℕ) where
 
   module _ (t v u x : Raise) (s : Unrolls t v) (r : Unrolls u x) where
     -- class two: a bus fault anywhere; its entry is in class one
-    pub bus-any : Raises (Kept k Set) (Safe k) (isPrefetchKind k) v x → (w : World) (a : ℕ) (wr i : Bool) (z : ℕ) → Kept k Either 0 w → Good (Kept k Either) 0 (t w (busFault a wr i z)) (u w (busFault a wr i z))
+    pub bus-any : Raises (Kept k Set) (Safe k) (isPrefetchKind k) v x → (w : World) (a : ℕ) (wr i : Bool) (z : ℕ) → Kept k Either 0 w → Good (Kept k Either) 0 (t w (busError a wr i z)) (u w (busError a wr i z))
     bus-any T w a wr i z p = let d = domain k Either w p in same Either (s .bus w a wr i z d) (r .bus w a wr i z d) (bus-body v x T w a wr i z (causeNumberOf (cpuOf w)) p)
 
     -- so the two agree where only bus faults are raised
@@ -238,7 +238,7 @@ module _ (k : ℕ) where
     raises-bus T = raises-of Either t u (bus-any T)
 
     -- class three: an address fault anywhere; its entry raises bus faults only, which are in class two
-    pub address-any : (Exc : Bool → Type 0) → Raises (Kept k Exc) (Safe k) (isPrefetchKind k) v x → (w : World) (a : ℕ) (wr i : Bool) → Kept k Exc 0 w → Good (Kept k Exc) 0 (t w (addressFault a wr i)) (u w (addressFault a wr i))
+    pub address-any : (Exc : Bool → Type 0) → Raises (Kept k Exc) (Safe k) (isPrefetchKind k) v x → (w : World) (a : ℕ) (wr i : Bool) → Kept k Exc 0 w → Good (Kept k Exc) 0 (t w (addressError a wr i)) (u w (addressError a wr i))
     address-any Exc U w a wr i p = let d = domain k Exc w p in same Exc (s .address w a wr i d) (r .address w a wr i d) (address-body Exc v x U w a wr i p)
 
     -- so the two agree at any address
@@ -263,8 +263,8 @@ module _ (k : ℕ) where
 
 -- THE LEVELS: two are enough for every trigger
 pub levels : (n : ℕ) (w : World) (q : Request) → Domain w → trigger (suc (suc n)) w q ≡ trigger 2 w q
-levels n w (busFault a wr i z) d = level-any (kindOf (cpuOf w)) n 0 .bus 0 w a wr i z (inside w d) .0
-levels n w (addressFault a wr i) d =
+levels n w (busError a wr i z) d = level-any (kindOf (cpuOf w)) n 0 .bus 0 w a wr i z (inside w d) .0
+levels n w (addressError a wr i) d =
     address-any (kindOf (cpuOf w)) (trigger (suc (suc n))) (trigger (suc n)) (trigger 2) (trigger 1) (level-unrolls (suc n)) (level-unrolls 1) Either (level-bus (kindOf (cpuOf w)) n 0) w a wr i (inside w d) .0
 
 -- and for every definition over a trigger
@@ -276,15 +276,15 @@ module _ (n : ℕ) (w : World) (d : Domain w) where
   Q = isPrefetchKind (kindOf (cpuOf w))
 
   -- a guarded read
-  pub guardRead-levels : (a : ℕ) (g : Bool) → guardRead (trigger (suc (suc n))) w a g ≡ guardRead (trigger 2) w a g
+  pub guardRead-levels : (a : ℕ) (g : Bool) → readAt (trigger (suc (suc n))) w a g ≡ readAt (trigger 2) w a g
   guardRead-levels a g = guardRead-good K Any Q (trigger (suc (suc n))) (trigger 2) (steps (kindOf (cpuOf w)) Either) (level-any (kindOf (cpuOf w)) n 0) 0 w a g (inside w d) tt .0
 
   -- a guarded write
-  pub guardWrite-levels : (a : ℕ) (g : Bool) (v : ℕ) → guardWrite (trigger (suc (suc n))) w a g v ≡ guardWrite (trigger 2) w a g v
+  pub guardWrite-levels : (a : ℕ) (g : Bool) (v : ℕ) → writeAt (trigger (suc (suc n))) w a g v ≡ writeAt (trigger 2) w a g v
   guardWrite-levels a g v = guardWrite-good K Any Q (trigger (suc (suc n))) (trigger 2) (steps (kindOf (cpuOf w)) Either) (level-any (kindOf (cpuOf w)) n 0) 0 w a g v (inside w d) tt .0
 
   -- a push
-  pub pushed-levels : (f : Field) → pushed (trigger (suc (suc n))) w f ≡ pushed (trigger 2) w f
+  pub pushed-levels : (f : Field) → pushField (trigger (suc (suc n))) w f ≡ pushField (trigger 2) w f
   pushed-levels f = pushed-good K Any Q (trigger (suc (suc n))) (trigger 2) (steps (kindOf (cpuOf w)) Either) (level-any (kindOf (cpuOf w)) n 0) 0 w f (λ h k m x p. tt) (inside w d) .0
 
   -- some fields of a frame
@@ -292,11 +292,11 @@ module _ (n : ℕ) (w : World) (d : Domain w) where
   pushFields-levels f j = pushFields-good K Any Q (trigger (suc (suc n))) (trigger 2) (steps (kindOf (cpuOf w)) Either) (level-any (kindOf (cpuOf w)) n 0) 0 w f j (λ h m x p. tt) (inside w d) .0
 
   -- all fields of a frame
-  pub stacked-levels : (f : Frame) → stacked (trigger (suc (suc n))) w f ≡ stacked (trigger 2) w f
+  pub stacked-levels : (f : Frame) → pushFrame (trigger (suc (suc n))) w f ≡ pushFrame (trigger 2) w f
   stacked-levels f = stacked-good K Any Q (trigger (suc (suc n))) (trigger 2) (steps (kindOf (cpuOf w)) Either) (level-any (kindOf (cpuOf w)) n 0) 0 w f (λ h m x p. tt) (inside w d) .0
 
   -- the short frame
-  pub pushShort-levels : (pc sr : ℕ) → pushShort (trigger (suc (suc n))) w pc sr ≡ pushShort (trigger 2) w pc sr
+  pub pushShort-levels : (pc sr : ℕ) → pushExceptionFrame68000 (trigger (suc (suc n))) w pc sr ≡ pushExceptionFrame68000 (trigger 2) w pc sr
   pushShort-levels pc sr = pushShort-good K Any Q (trigger (suc (suc n))) (trigger 2) (steps (kindOf (cpuOf w)) Either) (level-any (kindOf (cpuOf w)) n 0) (λ a. tt) 0 w pc sr (inside w d) .0
 
   -- the first word for the queue
@@ -312,31 +312,31 @@ module _ (n : ℕ) (w : World) (d : Domain w) where
   jumpVector-levels v = jump-good K Any Q (trigger (suc (suc n))) (trigger 2) (steps (kindOf (cpuOf w)) Either) (level-any (kindOf (cpuOf w)) n 0) 0 w v (inside w d) .0
 
   -- an entry as data, at any A7
-  pub entered-levels : (f : Frame) (v : ℕ) → jumpVector (trigger (suc (suc n))) (stacked (trigger (suc (suc n))) w f) v ≡ entered w f v
+  pub entered-levels : (f : Frame) (v : ℕ) → jumpVector (trigger (suc (suc n))) (pushFrame (trigger (suc (suc n))) w f) v ≡ entered w f v
   unfolding entered
   entered-levels f v = frame-good K Any Q (trigger (suc (suc n))) (trigger 2) (steps (kindOf (cpuOf w)) Either) (level-any (kindOf (cpuOf w)) n 0) 0 w f v (λ h m x p. tt) (inside w d) .0
 
   -- a bus error entry that is called: one level is enough
-  pub entryBus-level : (a : ℕ) (wr i : Bool) (z cause : ℕ) → entryBus (trigger (suc n)) w a wr i z cause ≡ entryBus (trigger 1) w a wr i z cause
+  pub entryBus-level : (a : ℕ) (wr i : Bool) (z cause : ℕ) → exceptionBusError (trigger (suc n)) w a wr i z cause ≡ exceptionBusError (trigger 1) w a wr i z cause
   entryBus-level a wr i z cause = entryBus-good (kindOf (cpuOf w)) Either (trigger (suc n)) (trigger 1) (level-bus (kindOf (cpuOf w)) n 0) w a wr i z cause (inside w d) .0
 
   -- an address error entry that is called: the same
-  pub entryAddress-level : (a : ℕ) (wr i : Bool) → entryAddress (trigger (suc n)) w a wr i ≡ entryAddress (trigger 1) w a wr i
+  pub entryAddress-level : (a : ℕ) (wr i : Bool) → exceptionAddressError (trigger (suc n)) w a wr i ≡ exceptionAddressError (trigger 1) w a wr i
   entryAddress-level a wr i = entryAddress-good (kindOf (cpuOf w)) Either (trigger (suc n)) (trigger 1) (level-bus (kindOf (cpuOf w)) n 0) w a wr i (inside w d) .0
 
 module _ (n : ℕ) (w : World) (d : Domain w) where
   -- so more than two levels change no bus error entry
-  pub entryBus-levels : (a : ℕ) (wr i : Bool) (z cause : ℕ) → entryBus (trigger (suc (suc n))) w a wr i z cause ≡ entryBus (trigger 2) w a wr i z cause
+  pub entryBus-levels : (a : ℕ) (wr i : Bool) (z cause : ℕ) → exceptionBusError (trigger (suc (suc n))) w a wr i z cause ≡ exceptionBusError (trigger 2) w a wr i z cause
   entryBus-levels a wr i z cause = entryBus-level (suc n) w d a wr i z cause ∙ sym (entryBus-level 1 w d a wr i z cause)
 
   -- nor an address error entry
-  pub entryAddress-levels : (a : ℕ) (wr i : Bool) → entryAddress (trigger (suc (suc n))) w a wr i ≡ entryAddress (trigger 2) w a wr i
+  pub entryAddress-levels : (a : ℕ) (wr i : Bool) → exceptionAddressError (trigger (suc (suc n))) w a wr i ≡ exceptionAddressError (trigger 2) w a wr i
   entryAddress-levels a wr i = entryAddress-level (suc n) w d a wr i ∙ sym (entryAddress-level 1 w d a wr i)
 
 -- an entry as data, at any A7, while an entry is under way: one level is enough
-pub underway-level : (n : ℕ) (w : World) → Domain w → inException (cpuOf w) ≡ true → (f : Frame) (v : ℕ) → jumpVector (trigger (suc n)) (stacked (trigger (suc n)) w f) v ≡ jumpVector (trigger 1) (stacked (trigger 1) w f) v
+pub underway-level : (n : ℕ) (w : World) → Domain w → inException (cpuOf w) ≡ true → (f : Frame) (v : ℕ) → jumpVector (trigger (suc n)) (pushFrame (trigger (suc n)) w f) v ≡ jumpVector (trigger 1) (pushFrame (trigger 1) w f) v
 underway-level n w d h f v = frame-good (Kept (kindOf (cpuOf w)) Set) Any (isPrefetchKind (kindOf (cpuOf w))) (trigger (suc n)) (trigger 1) (steps (kindOf (cpuOf w)) Set) (level-set (kindOf (cpuOf w)) n 0) 0 w f v (λ h m x p. tt) (under w d h) .0
 
 -- `again`: with two levels a trigger is what the recursion says, with itself inside and no level
 pub again : Unrolls (trigger 2) (trigger 2)
-again = record { bus = λ w a wr i z d. sym (levels 1 w (busFault a wr i z) d) ∙ level-unrolls 2 .bus w a wr i z d; address = λ w a wr i d. sym (levels 1 w (addressFault a wr i) d) ∙ level-unrolls 2 .address w a wr i d }
+again = record { bus = λ w a wr i z d. sym (levels 1 w (busError a wr i z) d) ∙ level-unrolls 2 .bus w a wr i z d; address = λ w a wr i d. sym (levels 1 w (addressError a wr i) d) ∙ level-unrolls 2 .address w a wr i d }

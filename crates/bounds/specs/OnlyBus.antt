@@ -7,14 +7,14 @@ use Rattle.types.specs.Kinds.{isPrefetchKind}
 use Rattle.cpu.specs.Fields.{kindOf, addressOf, isFaulted, inException, causeNumberOf}
 use Rattle.memory.specs.World.{World}
 use Rattle.steps.specs.Steps.{refusesOdd, vectorAddress, beginBus, beginAddress}
-use Rattle.faults.specs.Faults.{Request, busFault, addressFault, Raise, cpuOf, on, readOr, prefetchRead, firstFrom, prefetchFirst, secondFrom, prefetchSecond, jumpVector, entryAddress, entryBus, closed, ended, raiseBus, raiseAddress, trigger}
+use Rattle.faults.specs.Faults.{Request, busError, addressError, Raise, cpuOf, on, readOr, prefetchRead, firstFrom, prefetchFirst, secondFrom, prefetchSecond, jumpVector, exceptionAddressError, exceptionBusError, closed, ended, raiseBus, raiseAddress, trigger}
 use Rattle.bounds.specs.Skeleton.{Raises, pick-one, jump-good}
 use Rattle.bounds.specs.Levels.{Domain, Safe, Kept, Either, Set, inside, domain, refused, vector-safe, raises-of, steps, halted-kept, bus-kept, address-kept, entryAddress-good, entryBus-good, level-bus}
 
 -- a bus fault as t raises it, an address fault as s does
 unfoldable pub busOr : Raise → Raise → World → Request → World
-busOr t s w (busFault a wr i z) = t w (busFault a wr i z)
-busOr t s w (addressFault a wr i) = s w (addressFault a wr i)
+busOr t s w (busError a wr i z) = t w (busError a wr i z)
+busOr t s w (addressError a wr i) = s w (addressError a wr i)
 
 -- a prefetch raises bus faults only, in any world
 module _ (t s : Raise) (w : World) where
@@ -42,7 +42,7 @@ vector-even w v d = go (refusesOdd (cpuOf w) (addressOf (cpuOf w) (vectorAddress
     go false h = refl
 
 module _ (k n : ℕ) (s : Raise) where
-  keeps : (n : ℕ) (w : World) (a : ℕ) (wr i : Bool) (z : ℕ) → Kept k Either 0 w → Kept k Either 0 (trigger n w (busFault a wr i z))
+  keeps : (n : ℕ) (w : World) (a : ℕ) (wr i : Bool) (z : ℕ) → Kept k Either 0 w → Kept k Either 0 (trigger n w (busError a wr i z))
   unfolding trigger raiseBus
   keeps zero w a wr i z p = pick-one (Kept k Either 0) (isFaulted (cpuOf w)) p (pick-one (Kept k Either 0) (inException (cpuOf w)) (halted-kept k Either w p) (halted-kept k Either w p))
   keeps (suc n) w a wr i z p = level-bus k n n .bus 0 w a wr i z p .1
@@ -57,23 +57,23 @@ module _ (n : ℕ) (s : Raise) (w : World) (d : Domain w) where
   jump-only-bus v = jump-good (Kept (kindOf (cpuOf w)) Either) (Safe (kindOf (cpuOf w))) (isPrefetchKind (kindOf (cpuOf w))) (trigger n) (busOr (trigger n) s) (steps (kindOf (cpuOf w)) Either) (raises (kindOf (cpuOf w)) n s) 0 w v (inside w d) .0
 
   -- an address error entry that is called raises bus faults only
-  pub entryAddress-only-bus : (a : ℕ) (wr i : Bool) → entryAddress (trigger n) w a wr i ≡ entryAddress (busOr (trigger n) s) w a wr i
+  pub entryAddress-only-bus : (a : ℕ) (wr i : Bool) → exceptionAddressError (trigger n) w a wr i ≡ exceptionAddressError (busOr (trigger n) s) w a wr i
   entryAddress-only-bus a wr i = entryAddress-good (kindOf (cpuOf w)) Either (trigger n) (busOr (trigger n) s) (raises (kindOf (cpuOf w)) n s) w a wr i (inside w d) .0
 
   -- so does a bus error entry
-  pub entryBus-only-bus : (a : ℕ) (wr i : Bool) (z cause : ℕ) → entryBus (trigger n) w a wr i z cause ≡ entryBus (busOr (trigger n) s) w a wr i z cause
+  pub entryBus-only-bus : (a : ℕ) (wr i : Bool) (z cause : ℕ) → exceptionBusError (trigger n) w a wr i z cause ≡ exceptionBusError (busOr (trigger n) s) w a wr i z cause
   entryBus-only-bus a wr i z cause = entryBus-good (kindOf (cpuOf w)) Either (trigger n) (busOr (trigger n) s) (raises (kindOf (cpuOf w)) n s) w a wr i z cause (inside w d) .0
 
 -- and so does the entry of a trigger
 module _ (n : ℕ) (s : Raise) (w : World) (d : Domain w) where
   -- the entry of an address fault
-  pub address-only-bus : (a : ℕ) (wr i : Bool) → trigger (suc n) w (addressFault a wr i) ≡ raiseAddress w (ended (entryAddress (busOr (trigger n) s) (on w (beginAddress (cpuOf w))) a wr i))
+  pub address-only-bus : (a : ℕ) (wr i : Bool) → trigger (suc n) w (addressError a wr i) ≡ raiseAddress w (ended (exceptionAddressError (busOr (trigger n) s) (on w (beginAddress (cpuOf w))) a wr i))
   unfolding trigger
   address-only-bus a wr i =
       ap (λ x. raiseAddress w (ended x)) (entryAddress-only-bus n s (on w (beginAddress (cpuOf w))) (domain (kindOf (cpuOf w)) Either (on w (beginAddress (cpuOf w))) (address-kept (kindOf (cpuOf w)) Either w (inside w d))) a wr i)
 
   -- the entry of a bus fault
-  pub bus-only-bus : (a : ℕ) (wr i : Bool) (z : ℕ) → trigger (suc n) w (busFault a wr i z) ≡ raiseBus w (closed (entryBus (busOr (trigger n) s) (on w (beginBus (cpuOf w))) a wr i z (causeNumberOf (cpuOf w))))
+  pub bus-only-bus : (a : ℕ) (wr i : Bool) (z : ℕ) → trigger (suc n) w (busError a wr i z) ≡ raiseBus w (closed (exceptionBusError (busOr (trigger n) s) (on w (beginBus (cpuOf w))) a wr i z (causeNumberOf (cpuOf w))))
   unfolding trigger
   bus-only-bus a wr i z =
       ap (λ x. raiseBus w (closed x)) (entryBus-only-bus n s (on w (beginBus (cpuOf w))) (domain (kindOf (cpuOf w)) Set (on w (beginBus (cpuOf w))) (bus-kept (kindOf (cpuOf w)) Either w (inside w d))) a wr i z (causeNumberOf (cpuOf w)))

@@ -11,7 +11,7 @@ use Rattle.frames.specs.declared.Field.{Field}
 use Rattle.frames.specs.declared.Frame.{Frame}
 use Rattle.frames.specs.Frames.{fieldAt}
 use Rattle.steps.specs.Steps.{refusesOdd, vectorAddress, isCounted, isRaw}
-use Rattle.faults.specs.Faults.{busFault, addressFault, Raise, cpuOf, on, readOr, prefetchRead, keptFirst, firstFrom, prefetchFirst, keptSecond, secondFrom, prefetchSecond, checkedRead, guardRead, wrote, checkedWrite, guardWrite, stackField, pushed, pushFields, stacked, shortWrites, pushShort, vectorRead, refill, jumpTo, jumpVector}
+use Rattle.faults.specs.Faults.{busError, addressError, Raise, cpuOf, on, readOr, prefetchRead, keptFirst, firstFrom, prefetchFirst, keptSecond, secondFrom, prefetchSecond, checkedRead, readAt, wrote, checkedWrite, writeAt, stackField, pushField, pushFields, pushFrame, shortWrites, pushExceptionFrame68000, vectorRead, refill, jumpTo, jumpVector}
 
 -- the two runs come to one world, and it has P at the cost n
 abbrev pub Good : (ℕ → World → Type 0) → ℕ → World → World → Type 0
@@ -62,8 +62,8 @@ pub record Steps (P : ℕ → World → Type 0) (q : Bool) : Type 0 where
 -- the two ways to raise agree where P holds; `Ok` is what is known of an address that is pushed at or is a vector's
 pub record Raises (P : ℕ → World → Type 0) (Ok : ℕ → Type 0) (q : Bool) (t u : Raise) : Type 0 where
   pub fetching : (n : ℕ) (w : World) → P n w → prefetchEnabled (cpuOf w) ≡ true → q ≡ true
-  pub bus : (n : ℕ) (w : World) (a : ℕ) (wr i : Bool) (z : ℕ) → P n w → Good P n (t w (busFault a wr i z)) (u w (busFault a wr i z))
-  pub odd : (n : ℕ) (w : World) (a : ℕ) (wr i : Bool) → P n w → Ok a → refusesOdd (cpuOf w) (addressOf (cpuOf w) a) ≡ true → Good P n (t w (addressFault (addressOf (cpuOf w) a) wr i)) (u w (addressFault (addressOf (cpuOf w) a) wr i))
+  pub bus : (n : ℕ) (w : World) (a : ℕ) (wr i : Bool) (z : ℕ) → P n w → Good P n (t w (busError a wr i z)) (u w (busError a wr i z))
+  pub odd : (n : ℕ) (w : World) (a : ℕ) (wr i : Bool) → P n w → Ok a → refusesOdd (cpuOf w) (addressOf (cpuOf w) a) ≡ true → Good P n (t w (addressError (addressOf (cpuOf w) a) wr i)) (u w (addressError (addressOf (cpuOf w) a) wr i))
   pub vector : (n : ℕ) (w : World) (v : ℕ) → P n w → Ok (vectorAddress (cpuOf w) v)
 
 -- a branch, of two runs
@@ -132,8 +132,8 @@ module _ (P : ℕ → World → Type 0) (Ok : ℕ → Type 0) (q : Bool) (t u : 
       (λ h. wrote-good (suc n) (addressOf (cpuOf w) a) g _ (S .writes n _ (addressOf (cpuOf w) a) g v (S .datum n w v p)))
 
   -- a guarded write
-  pub guardWrite-good : (n : ℕ) (w : World) (a : ℕ) (g : Bool) (v : ℕ) → P n w → Ok a → Good P (suc n) (guardWrite t w a g v) (guardWrite u w a g v)
-  unfolding guardWrite
+  pub guardWrite-good : (n : ℕ) (w : World) (a : ℕ) (g : Bool) (v : ℕ) → P n w → Ok a → Good P (suc n) (writeAt t w a g v) (writeAt u w a g v)
+  unfolding writeAt
   guardWrite-good n w a g v p o =
       pick-if (Good P (suc n)) (isFaulted (cpuOf w)) (λ h. (refl, S .weaken n w p)) (λ h. checkedWrite-good n (flush w) a g v (S .flushes n w p) o)
 
@@ -144,8 +144,8 @@ module _ (P : ℕ → World → Type 0) (Ok : ℕ → Type 0) (q : Bool) (t u : 
       (λ h. pick-if (Good P (suc n)) (isRaw f) (λ k. (refl, S .writes n w _ (f .long) (f .value) p)) (λ k. guardWrite-good n w _ (f .long) (f .value) p (o h k)))
 
   -- a push of a field
-  pub pushed-good : (n : ℕ) (w : World) (f : Field) → (isCounted f ≡ false → isRaw f ≡ false → (m : ℕ) (x : World) → P m x → Ok (a7Of (cpuOf x))) → P n w → Good P (afterField f n) (pushed t w f) (pushed u w f)
-  unfolding pushed
+  pub pushed-good : (n : ℕ) (w : World) (f : Field) → (isCounted f ≡ false → isRaw f ≡ false → (m : ℕ) (x : World) → P m x → Ok (a7Of (cpuOf x))) → P n w → Good P (afterField f n) (pushField t w f) (pushField u w f)
+  unfolding pushField
   pushed-good n w f o p =
       let r = S .lowers n w (widthOf (f .long)) p in
       stackField-good n (on w (lowerA7 (cpuOf w) (widthOf (f .long)))) f (λ h k. o h k n _ r) r
@@ -164,22 +164,22 @@ module _ (P : ℕ → World → Type 0) (Ok : ℕ → Type 0) (q : Bool) (t u : 
       right false h = h
 
   -- all fields of a frame
-  pub stacked-good : (n : ℕ) (w : World) (f : Frame) → (anyGuarded f (f .count) ≡ true → (m : ℕ) (x : World) → P m x → Ok (a7Of (cpuOf x))) → P n w → Good P (afterFields f (f .count) n) (stacked t w f) (stacked u w f)
-  unfolding stacked
+  pub stacked-good : (n : ℕ) (w : World) (f : Frame) → (anyGuarded f (f .count) ≡ true → (m : ℕ) (x : World) → P m x → Ok (a7Of (cpuOf x))) → P n w → Good P (afterFields f (f .count) n) (pushFrame t w f) (pushFrame u w f)
+  unfolding pushFrame
   stacked-good n w f o p = pushFields-good n w f (f .count) o p
 
   -- three guarded writes at any address
   pub shortWrites-good : ((a : ℕ) → Ok a) → (n : ℕ) (w : World) (sp pc sr : ℕ) → P n w → Good P (suc (suc (suc n))) (shortWrites t w sp pc sr) (shortWrites u w sp pc sr)
   unfolding shortWrites
   shortWrites-good o n w sp pc sr p =
-      let f = guardWrite-good n w ((sp + 4) % 2 ^ 32) false (pc % 65536) p (o _) in
+      let f = guardWrite-good n w ((sp + 4) % 2 ^ 32) false (pc % 0x10000) p (o _) in
       let g = guardWrite-good (suc n) _ sp false sr (f .1) (o _) in
-      let h = guardWrite-good (suc (suc n)) _ ((sp + 2) % 2 ^ 32) false (pc / 65536) (g .1) (o _) in
-      chain P _ (λ x. guardWrite u (guardWrite u x sp false sr) ((sp + 2) % 2 ^ 32) false (pc / 65536)) (f .0) (chain P _ (λ x. guardWrite u x ((sp + 2) % 2 ^ 32) false (pc / 65536)) (g .0) h)
+      let h = guardWrite-good (suc (suc n)) _ ((sp + 2) % 2 ^ 32) false (pc / 0x10000) (g .1) (o _) in
+      chain P _ (λ x. writeAt u (writeAt u x sp false sr) ((sp + 2) % 2 ^ 32) false (pc / 0x10000)) (f .0) (chain P _ (λ x. writeAt u x ((sp + 2) % 2 ^ 32) false (pc / 0x10000)) (g .0) h)
 
   -- the short frame
-  pub pushShort-good : ((a : ℕ) → Ok a) → (n : ℕ) (w : World) (pc sr : ℕ) → P n w → Good P (suc (suc (suc n))) (pushShort t w pc sr) (pushShort u w pc sr)
-  unfolding pushShort
+  pub pushShort-good : ((a : ℕ) → Ok a) → (n : ℕ) (w : World) (pc sr : ℕ) → P n w → Good P (suc (suc (suc n))) (pushExceptionFrame68000 t w pc sr) (pushExceptionFrame68000 u w pc sr)
+  unfolding pushExceptionFrame68000
   pushShort-good o n w pc sr p = shortWrites-good o n _ _ pc sr (S .lowers n w 6 p)
 
   readOr-good : (n : ℕ) (a : ℕ) (i : Bool) (z : ℕ) (x : Attempt) → P n (x .after) → GoodReply P n (readOr t a i z x) (readOr u a i z x)
@@ -195,8 +195,8 @@ module _ (P : ℕ → World → Type 0) (Ok : ℕ → Type 0) (q : Bool) (t u : 
       (λ h. readOr-good (suc n) (addressOf (cpuOf w) a) false (widthOf g) _ (S .reads n w (addressOf (cpuOf w) a) g p))
 
   -- a guarded read
-  pub guardRead-good : (n : ℕ) (w : World) (a : ℕ) (g : Bool) → P n w → Ok a → GoodReply P (suc n) (guardRead t w a g) (guardRead u w a g)
-  unfolding guardRead
+  pub guardRead-good : (n : ℕ) (w : World) (a : ℕ) (g : Bool) → P n w → Ok a → GoodReply P (suc n) (readAt t w a g) (readAt u w a g)
+  unfolding readAt
   guardRead-good n w a g p o =
       pick-if (GoodReply P (suc n)) (isFaulted (cpuOf w)) (λ h. (refl, S .weaken n w p)) (λ h. checkedRead-good n (flush w) a g (S .flushes n w p) o)
 
@@ -262,7 +262,7 @@ module _ (P : ℕ → World → Type 0) (Ok : ℕ → Type 0) (q : Bool) (t u : 
       chain P (refills q (suc (suc n))) (λ x. jumpTo u x) (g .0) (jumpTo-good (suc (suc n)) _ (g .1))
 
   -- an entry: the frame's fields, and the jump
-  pub frame-good : (n : ℕ) (w : World) (f : Frame) (v : ℕ) → (anyGuarded f (f .count) ≡ true → (m : ℕ) (x : World) → P m x → Ok (a7Of (cpuOf x))) → P n w → Good P (refills q (suc (suc (afterFields f (f .count) n)))) (jumpVector t (stacked t w f) v) (jumpVector u (stacked u w f) v)
+  pub frame-good : (n : ℕ) (w : World) (f : Frame) (v : ℕ) → (anyGuarded f (f .count) ≡ true → (m : ℕ) (x : World) → P m x → Ok (a7Of (cpuOf x))) → P n w → Good P (refills q (suc (suc (afterFields f (f .count) n)))) (jumpVector t (pushFrame t w f) v) (jumpVector u (pushFrame u w f) v)
   frame-good n w f v o p =
       let g = stacked-good n w f o p in
       chain P _ (λ x. jumpVector u x v) (g .0) (jump-good (afterFields f (f .count) n) _ v (g .1))

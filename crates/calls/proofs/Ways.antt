@@ -11,7 +11,7 @@ use Rattle.requests.specs.declared.trace.Traced.{Traced}
 use Rattle.memory.specs.declared.Core.{Core}
 use Rattle.memory.specs.declared.Reply.{Reply}
 use Rattle.memory.specs.World.{World, Attempt, world, reply, tried, putCpu}
-use Rattle.faults.specs.Faults.{on, raised, entryBus}
+use Rattle.faults.specs.Faults.{on, raised, exceptionBusError}
 use Rattle.exceptions.specs.declared.Entered.{Entered}
 use Rattle.exceptions.specs.Exceptions.{Entry, entry}
 use Rattle.interrupts.specs.declared.Serviced.{Serviced}
@@ -53,8 +53,8 @@ pub charged-way : {m : Core} {r : Performed} {s l : List ℕ} {w : World} → wo
 unfolding cycles
 charged-way {s = s} {l = l} h k = ap (λ r. answered (world (r .core) s l) (r .answer)) k ∙ ap (λ w. cycles w 50) h
 
-pub charged-cause-number-way : {m : Core} {r : Performed} {s l : List ℕ} (w : World) (a z : ℕ) {n k : ℕ} (write instruction : Bool) → n ≡ k → world m s l ≡ entryBus raised w a write instruction z n → r ≡ record { core = m; answer = Cycles 50 (eventsOf m) } → answered (world (r .core) s l) (r .answer) ≡ cycles (entryBus raised w a write instruction z k) 50
-charged-cause-number-way w a z write instruction g h k = charged-way (h ∙ ap (entryBus raised w a write instruction z) g) k
+pub charged-cause-number-way : {m : Core} {r : Performed} {s l : List ℕ} (w : World) (a z : ℕ) {n k : ℕ} (write instruction : Bool) → n ≡ k → world m s l ≡ exceptionBusError raised w a write instruction z n → r ≡ record { core = m; answer = Cycles 50 (eventsOf m) } → answered (world (r .core) s l) (r .answer) ≡ cycles (exceptionBusError raised w a write instruction z k) 50
+charged-cause-number-way w a z write instruction g h k = charged-way (h ∙ ap (exceptionBusError raised w a write instruction z) g) k
 
 pub done-way : {m : Core} {r : Performed} {s l : List ℕ} {w : World} → world m s l ≡ w → r ≡ record { core = m; answer = Done (eventsOf m) } → answered (world (r .core) s l) (r .answer) ≡ plain w
 unfolding plain

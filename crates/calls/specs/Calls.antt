@@ -13,7 +13,7 @@ use Rattle.memory.specs.declared.Core.{Core}
 use Rattle.memory.specs.declared.Bus.{Bus}
 use Rattle.memory.specs.World.{World, Attempt, world}
 use Rattle.frames.specs.Frames.{word, long}
-use Rattle.faults.specs.Faults.{cpuOf, on, raised, busFault, addressFault, guardRead, guardWrite, pushed, prefetchFirst, prefetchSecond, entryBus, entryAddress}
+use Rattle.faults.specs.Faults.{cpuOf, on, raised, busError, addressError, readAt, writeAt, pushField, prefetchFirst, prefetchSecond, exceptionBusError, exceptionAddressError}
 use Rattle.exceptions.specs.Exceptions.{Entry, takeException, takeGroup2, trap, exceptionTrace, takeRewound, takeFpUnimp060, takeFpDisabled060}
 use Rattle.interrupts.specs.Interrupts.{checkAndService}
 use Rattle.calls.specs.declared.Call.{Call}
@@ -89,8 +89,8 @@ run w ExceptionChk = ofEntry (takeGroup2 w 6)
 run w ExceptionZeroDivide = ofEntry (takeGroup2 w 5)
 run w ExceptionPrivilege = ofEntry (takeException w 8)
 run w ExceptionTrace = ofEntry (exceptionTrace w)
-run w (ExceptionAddressError a write instruction) = cycles (entryAddress raised w a write instruction) 50
-run w (ExceptionBusError a write instruction z cause) = cycles (entryBus raised w a write instruction z (causeNumber cause)) 50
+run w (ExceptionAddressError a write instruction) = cycles (exceptionAddressError raised w a write instruction) 50
+run w (ExceptionBusError a write instruction z cause) = cycles (exceptionBusError raised w a write instruction z (causeNumber cause)) 50
 run w (TakeFpUnimp060 ea) = ofEntry (takeFpUnimp060 w ea)
 run w TakeFpDisabled060 = ofEntry (takeFpDisabled060 w)
 run w TakeAlineException = ofEntry (takeRewound w 10)
@@ -98,18 +98,18 @@ run w TakeFlineException = ofEntry (takeRewound w 11)
 run w (TakeTrapException n) = ofEntry (trap w n)
 run w TakeBkptException = ofEntry (takeRewound w 4)
 run w TakeIllegalException = ofEntry (takeRewound w 4)
-run w (TriggerAddressError a write instruction) = plain (raised w (addressFault a write instruction))
-run w (TriggerBusError a write instruction z) = plain (raised w (busFault a write instruction z))
+run w (TriggerAddressError a write instruction) = plain (raised w (addressError a write instruction))
+run w (TriggerBusError a write instruction z) = plain (raised w (busError a write instruction z))
 run w CheckTrace = ofTrace w (checkTrace (cpuOf w))
 run w (SetIrq n) = plain (on w (setIrq (cpuOf w) n))
 run w CheckInterrupts = flag w (checkInterrupts (cpuOf w))
 run w CheckAndServiceInterrupts = ofService (checkAndService w)
-run w (Read16 a) = ofRead (guardRead raised w a false)
-run w (Read32 a) = ofRead (guardRead raised w a true)
-run w (Write16 a v) = plain (guardWrite raised w a false v)
-run w (Write32 a v) = plain (guardWrite raised w a true v)
-run w (Push16 v) = plain (pushed raised w (word v))
-run w (Push32 v) = plain (pushed raised w (long v))
+run w (Read16 a) = ofRead (readAt raised w a false)
+run w (Read32 a) = ofRead (readAt raised w a true)
+run w (Write16 a v) = plain (writeAt raised w a false v)
+run w (Write32 a v) = plain (writeAt raised w a true v)
+run w (Push16 v) = plain (pushField raised w (word v))
+run w (Push32 v) = plain (pushField raised w (long v))
 run w PrefetchFirst = plain (prefetchFirst raised w)
 run w PrefetchSecond = plain (prefetchSecond raised w)
 

@@ -14,7 +14,7 @@ use Rattle.cpu.specs.Clocks.{setClocks, internalCycles}
 use Rattle.memory.specs.World.{World, putCpu}
 use Rattle.frames.specs.Frames.{fieldAt}
 use Rattle.steps.specs.Steps.{isCounted}
-use Rattle.faults.specs.Faults.{cpuOf, on, raised, jumpVector, stacked}
+use Rattle.faults.specs.Faults.{cpuOf, on, raised, jumpVector, pushFrame}
 use Rattle.exceptions.specs.Frames.{formatWord, offsetWord, shortFrame, longFrame, disabledFrame}
 use Rattle.exceptions.specs.Exceptions.{entry, is68000, stackedAddress, supervised, stackShort, beginEntry, finished, taken, takeException, stackGroup2, takeGroup2, trap, beginTrace, exceptionTrace, takeRewound, stackUnimp, takeFpUnimp060, stackDisabled, takeFpDisabled060}
 use Rattle.bounds.specs.Skeleton.{Raises, afterFields, refills, pick-one, clocks-ways, pushShort-good, stacked-good, jump-good}
@@ -32,17 +32,17 @@ module _ (k : ℕ) (Exc : Bool → Type 0) (c : ℕ) (l : List ℕ) where
 
   module _ (T : Raises (Bill k Exc c l) Any (isPrefetchKind k) raised raised) where
     -- a frame of three fields
-    pub short-bill : (n : ℕ) (w : World) (sr pc format : ℕ) → Bill k Exc c l n w → Bill k Exc c l (suc (suc (suc n))) (stacked raised w (shortFrame sr pc format))
+    pub short-bill : (n : ℕ) (w : World) (sr pc format : ℕ) → Bill k Exc c l n w → Bill k Exc c l (suc (suc (suc n))) (pushFrame raised w (shortFrame sr pc format))
     unfolding afterFields shortFrame fieldAt isCounted
     short-bill n w sr pc format p = stacked-good (Bill k Exc c l) Any (isPrefetchKind k) raised raised (bill-steps k Exc c l) T n w (shortFrame sr pc format) (λ h m x g. tt) p .1
 
     -- .. of four
-    pub long-bill : (n : ℕ) (w : World) (sr pc format extra : ℕ) → Bill k Exc c l n w → Bill k Exc c l (suc (suc (suc (suc n)))) (stacked raised w (longFrame sr pc format extra))
+    pub long-bill : (n : ℕ) (w : World) (sr pc format extra : ℕ) → Bill k Exc c l n w → Bill k Exc c l (suc (suc (suc (suc n)))) (pushFrame raised w (longFrame sr pc format extra))
     unfolding afterFields longFrame fieldAt isCounted
     long-bill n w sr pc format extra p = stacked-good (Bill k Exc c l) Any (isPrefetchKind k) raised raised (bill-steps k Exc c l) T n w (longFrame sr pc format extra) (λ h m x g. tt) p .1
 
     -- .. of five
-    pub disabled-bill : (n : ℕ) (w : World) (sr pc format ea extra : ℕ) → Bill k Exc c l n w → Bill k Exc c l (suc (suc (suc (suc (suc n))))) (stacked raised w (disabledFrame sr pc format ea extra))
+    pub disabled-bill : (n : ℕ) (w : World) (sr pc format ea extra : ℕ) → Bill k Exc c l n w → Bill k Exc c l (suc (suc (suc (suc (suc n))))) (pushFrame raised w (disabledFrame sr pc format ea extra))
     unfolding afterFields disabledFrame fieldAt isCounted
     disabled-bill n w sr pc format ea extra p = stacked-good (Bill k Exc c l) Any (isPrefetchKind k) raised raised (bill-steps k Exc c l) T n w (disabledFrame sr pc format ea extra) (λ h m x g. tt) p .1
 
@@ -66,11 +66,10 @@ module _ (k : ℕ) (Exc : Bool → Type 0) (c : ℕ) (l : List ℕ) where
         more = bill-steps k Exc c l .weaken (suc (suc (suc n))) (stackShort w (pcOf (cpuOf w)) (offsetWord v)) short
 
         go : (b : Bool) → isPre68020 k ≡ b → Bill k Exc c l (pick b (suc (suc (suc n))) (suc (suc (suc (suc n))))) (stackGroup2 w v)
-        go true h = pick-one (Bill k Exc c l (suc (suc (suc n)))) (is68000 (cpuOf w)) short (rw (p .0 .same, h) short)
+        go true h = rw (p .0 .same, h) short
         go false h =
-            pick-one (Bill k Exc c l (suc (suc (suc (suc n))))) (is68000 (cpuOf w)) more
-            (pick-one (Bill k Exc c l (suc (suc (suc (suc n))))) (isPre68020 (kindOf (cpuOf w))) more
-            (long-bill n (supervised w) (statusOf (cpuOf w)) (pcOf (cpuOf w)) (formatWord 2 v) (ppcOf (cpuOf w)) (super-bill n w p)))
+            pick-one (Bill k Exc c l (suc (suc (suc (suc n))))) (isPre68020 (kindOf (cpuOf w))) more
+            (long-bill n (supervised w) (statusOf (cpuOf w)) (pcOf (cpuOf w)) (formatWord 2 v) (ppcOf (cpuOf w)) (super-bill n w p))
 
     -- the jump: release, the vector, and the queue's refill
     pub jump-bill : (n : ℕ) (w : World) (v : ℕ) → Bill k Exc c l n w → Bill k Exc c l (refills (isPrefetchKind k) (suc (suc n))) (jumpVector raised w v)

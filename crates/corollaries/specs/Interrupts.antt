@@ -16,7 +16,7 @@ use Rattle.cpu.specs.Clocks.{hasClocks, setClocks, internalCycles}
 use Rattle.requests.specs.Interrupts.{pendingLevel, maskLevel, takesInterrupt, clearLevel, chargeInterrupt, charged}
 use Rattle.requests.specs.Laws.{seven-taken, taken-above, taken-exceeds, exceeding-taken}
 use Rattle.memory.specs.World.{World, Attempt, tried, putCpu, noted, flush, responseOf, acknowledged}
-use Rattle.faults.specs.Faults.{cpuOf, on, raised, guardWrite, jumpVector}
+use Rattle.faults.specs.Faults.{cpuOf, on, raised, writeAt, jumpVector}
 use Rattle.exceptions.specs.Frames.{formatWord, offsetWord}
 use Rattle.interrupts.specs.Interrupts.{vectorFrom, acknowledgeLevel, syncedAcknowledge, enterLevel, rest68000, from68000, frame68000Interrupt, writes68010, rest68010, frame68010Interrupt, restOther, frameOther, firstFrame, withS, throwaway, secondFrame, closed, ended, dispatched, serviceInterrupt, serviced, checkAndService}
 use Rattle.bounds.specs.Skeleton.{Raises, more, pick-one, clocks-ways, guardWrite-good}
@@ -59,7 +59,7 @@ module _ (k : ℕ) (c : ℕ) (l : List ℕ) where
 
   module _ (T : Raises P Any (isPrefetchKind k) raised raised) where
     -- a guarded write
-    write-bill : (n : ℕ) (w : World) (a : ℕ) (g : Bool) (v : ℕ) → P n w → P (suc n) (guardWrite raised w a g v)
+    write-bill : (n : ℕ) (w : World) (a : ℕ) (g : Bool) (v : ℕ) → P n w → P (suc n) (writeAt raised w a g v)
     write-bill n w a g v p = guardWrite-good P Any (isPrefetchKind k) raised raised (bill-steps k Either c l) T n w a g v p tt .1
 
     -- the status and PC high of kind 1, after 4 clocks
@@ -71,8 +71,8 @@ module _ (k : ℕ) (c : ℕ) (l : List ℕ) where
     from68000-bill : (n : ℕ) (w : World) (sp pc sr level : ℕ) → P n w → P (suc (suc (suc (suc (suc (suc n)))))) (from68000 w sp pc sr level .after)
     unfolding from68000
     from68000-bill n w sp pc sr level p =
-        let x : World = guardWrite raised w ((sp + 4) % 2 ^ 32) false (pc % 65536) in
-        rest68000-bill _ sp pc sr (syncedAcknowledge x 4 level) (synced-bill _ x 4 level (clocks-bill _ x 4 (write-bill n w ((sp + 4) % 2 ^ 32) false (pc % 65536) p)))
+        let x : World = writeAt raised w ((sp + 4) % 2 ^ 32) false (pc % 0x10000) in
+        rest68000-bill _ sp pc sr (syncedAcknowledge x 4 level) (synced-bill _ x 4 level (clocks-bill _ x 4 (write-bill n w ((sp + 4) % 2 ^ 32) false (pc % 0x10000) p)))
 
     -- the four writes of kind 2
     rest68010-bill : (n : ℕ) (pc sr : ℕ) (x : Attempt) → P n (x .after) → P (suc (suc (suc (suc n)))) (rest68010 pc sr x .after)

@@ -4,3 +4,4 @@ pub mod Cycles
 pub mod Refusals
 pub mod Calls
 pub mod Sharp
+pub mod Promises

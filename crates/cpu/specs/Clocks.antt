@@ -5,7 +5,7 @@ use lib.Dec.{eqb, ltb}
 use lib.ListN.{set}
 use Rattle.types.specs.Kinds.{pick, isPrefetchKind}
 use Rattle.cpu.specs.declared.Cpu.{Cpu}
-use Rattle.cpu.specs.Groups.{withQueue}
+use Rattle.cpu.specs.Groups.{withPendingSyncClocks, withPrefetchCount, withPrefetchQueue}
 
 -- whether clocks wait to be reported
 unfoldable pub hasClocks : Cpu → Bool
@@ -25,7 +25,7 @@ prefetchEnabled c = pick (c .queue .«precise_bus») (isPrefetchKind (c .flow .�
 
 -- n clocks wait to be reported
 unfoldable pub setClocks : Cpu → ℕ → Cpu
-setClocks c n = withQueue c (record { «prefetch_queue» = c .queue .«prefetch_queue»; «prefetch_count» = c .queue .«prefetch_count»; «pending_sync_clocks» = n; «precise_bus» = c .queue .«precise_bus» })
+setClocks c n = withPendingSyncClocks c n
 
 -- `internal_cycles`: clocks of internal processing wait for the next guarded access, modulo 2^32
 unfoldable pub internalCycles : Cpu → ℕ → Cpu
@@ -33,12 +33,12 @@ internalCycles c n = pick (prefetchEnabled c) (setClocks c ((clocksOf c + n) % 2
 
 -- nothing is queued
 unfoldable pub clearPrefetch : Cpu → Cpu
-clearPrefetch c = withQueue c (record { «prefetch_queue» = c .queue .«prefetch_queue»; «prefetch_count» = 0; «pending_sync_clocks» = c .queue .«pending_sync_clocks»; «precise_bus» = c .queue .«precise_bus» })
+clearPrefetch c = withPrefetchCount c 0
 
 -- the first word is queued
 unfoldable pub firstWord : Cpu → ℕ → Cpu
-firstWord c w = withQueue c (record { «prefetch_queue» = set (c .queue .«prefetch_queue») 0 w; «prefetch_count» = 1; «pending_sync_clocks» = c .queue .«pending_sync_clocks»; «precise_bus» = c .queue .«precise_bus» })
+firstWord c w = withPrefetchCount (withPrefetchQueue c (set (c .queue .«prefetch_queue») 0 w)) 1
 
 -- the second word is queued
 unfoldable pub secondWord : Cpu → ℕ → Cpu
-secondWord c w = withQueue c (record { «prefetch_queue» = set (c .queue .«prefetch_queue») 1 w; «prefetch_count» = 2; «pending_sync_clocks» = c .queue .«pending_sync_clocks»; «precise_bus» = c .queue .«precise_bus» })
+secondWord c w = withPrefetchCount (withPrefetchQueue c (set (c .queue .«prefetch_queue») 1 w)) 2

@@ -5,7 +5,7 @@ use lib.Dec.{eqb}
 use lib.ListN.{set, getD}
 use Rattle.types.specs.Kinds.{both, isPre68020, maskAddress}
 use Rattle.cpu.specs.declared.Cpu.{Cpu}
-use Rattle.cpu.specs.Groups.{withRegs, withFlow, withFault}
+use Rattle.cpu.specs.Groups.{withDar, withExceptionProcessing, withFpiar, withInstructionExceptionVector, withLastExceptionVector, withLoopMode, withMmuFcOverride, withPc, withPendingFaultCause, withPendingFaultWdata, withRunMode, withStopped}
 
 -- the kind of processor
 unfoldable pub kindOf : Cpu → ℕ
@@ -65,55 +65,55 @@ fcOverrideOf c = c .fault .«mmu_fc_override» .value
 
 -- A7 is v
 unfoldable pub setA7 : Cpu → ℕ → Cpu
-setA7 c v = withRegs c (record { dar = set (c .regs .dar) 15 v; «dar_save» = c .regs .«dar_save»; sp = c .regs .sp })
+setA7 c v = withDar c (set (c .regs .dar) 15 v)
 
 -- PC is v
 unfoldable pub setPc : Cpu → ℕ → Cpu
-setPc c v = withFlow c (record { ppc = c .flow .ppc; pc = v; vbr = c .flow .vbr; ir = c .flow .ir; fpiar = c .flow .fpiar; «cpu_type» = c .flow .«cpu_type»; «run_mode» = c .flow .«run_mode»; stopped = c .flow .stopped; «exception_processing» = c .flow .«exception_processing»; «change_of_flow» = c .flow .«change_of_flow»; «loop_mode» = c .flow .«loop_mode»; «cycles_remaining» = c .flow .«cycles_remaining» })
+setPc c v = withPc c v
 
 -- PC is back at the instruction that runs
 unfoldable pub rewindPc : Cpu → Cpu
-rewindPc c = withFlow c (record { ppc = c .flow .ppc; pc = c .flow .ppc; vbr = c .flow .vbr; ir = c .flow .ir; fpiar = c .flow .fpiar; «cpu_type» = c .flow .«cpu_type»; «run_mode» = c .flow .«run_mode»; stopped = c .flow .stopped; «exception_processing» = c .flow .«exception_processing»; «change_of_flow» = c .flow .«change_of_flow»; «loop_mode» = c .flow .«loop_mode»; «cycles_remaining» = c .flow .«cycles_remaining» })
+rewindPc c = withPc c (c .flow .ppc)
 
 -- FPIAR is the instruction that runs
 unfoldable pub noteFpiar : Cpu → Cpu
-noteFpiar c = withFlow c (record { ppc = c .flow .ppc; pc = c .flow .pc; vbr = c .flow .vbr; ir = c .flow .ir; fpiar = c .flow .ppc; «cpu_type» = c .flow .«cpu_type»; «run_mode» = c .flow .«run_mode»; stopped = c .flow .stopped; «exception_processing» = c .flow .«exception_processing»; «change_of_flow» = c .flow .«change_of_flow»; «loop_mode» = c .flow .«loop_mode»; «cycles_remaining» = c .flow .«cycles_remaining» })
+noteFpiar c = withFpiar c (c .flow .ppc)
 
 -- a second fault halts: `stopped` and `run_mode` are 1
 unfoldable pub halted : Cpu → Cpu
-halted c = withFlow c (record { ppc = c .flow .ppc; pc = c .flow .pc; vbr = c .flow .vbr; ir = c .flow .ir; fpiar = c .flow .fpiar; «cpu_type» = c .flow .«cpu_type»; «run_mode» = 1; stopped = 1; «exception_processing» = c .flow .«exception_processing»; «change_of_flow» = c .flow .«change_of_flow»; «loop_mode» = c .flow .«loop_mode»; «cycles_remaining» = c .flow .«cycles_remaining» })
+halted c = withStopped (withRunMode c 1) 1
 
 -- an entry that halts on a second fault begins or ends
 unfoldable pub setException : Cpu → Bool → Cpu
-setException c b = withFlow c (record { ppc = c .flow .ppc; pc = c .flow .pc; vbr = c .flow .vbr; ir = c .flow .ir; fpiar = c .flow .fpiar; «cpu_type» = c .flow .«cpu_type»; «run_mode» = c .flow .«run_mode»; stopped = c .flow .stopped; «exception_processing» = b; «change_of_flow» = c .flow .«change_of_flow»; «loop_mode» = c .flow .«loop_mode»; «cycles_remaining» = c .flow .«cycles_remaining» })
+setException c b = withExceptionProcessing c b
 
 -- an interrupt ends the stopped state
 unfoldable pub clearStopped : Cpu → Cpu
-clearStopped c = withFlow c (record { ppc = c .flow .ppc; pc = c .flow .pc; vbr = c .flow .vbr; ir = c .flow .ir; fpiar = c .flow .fpiar; «cpu_type» = c .flow .«cpu_type»; «run_mode» = c .flow .«run_mode»; stopped = 0; «exception_processing» = c .flow .«exception_processing»; «change_of_flow» = c .flow .«change_of_flow»; «loop_mode» = c .flow .«loop_mode»; «cycles_remaining» = c .flow .«cycles_remaining» })
+clearStopped c = withStopped c 0
 
 -- a trace ends a STOP: the lowest bit of `stopped` is cleared
 unfoldable pub leaveStop : Cpu → Cpu
-leaveStop c = withFlow c (record { ppc = c .flow .ppc; pc = c .flow .pc; vbr = c .flow .vbr; ir = c .flow .ir; fpiar = c .flow .fpiar; «cpu_type» = c .flow .«cpu_type»; «run_mode» = c .flow .«run_mode»; stopped = c .flow .stopped - c .flow .stopped % 2; «exception_processing» = c .flow .«exception_processing»; «change_of_flow» = c .flow .«change_of_flow»; «loop_mode» = c .flow .«loop_mode»; «cycles_remaining» = c .flow .«cycles_remaining» })
+leaveStop c = withStopped c (c .flow .stopped - c .flow .stopped % 2)
 
 -- the registers are those saved before the instruction; the saved stack pointers stay
 unfoldable pub restoreRegisters : Cpu → Cpu
-restoreRegisters c = withRegs c (record { dar = c .regs .«dar_save»; «dar_save» = c .regs .«dar_save»; sp = c .regs .sp })
+restoreRegisters c = withDar c (c .regs .«dar_save»)
 
 -- the data of the write that is tried
 unfoldable pub setWdata : Cpu → ℕ → Cpu
-setWdata c v = withFault c (record { «instruction_exception_vector» = c .fault .«instruction_exception_vector»; «last_exception_vector» = c .fault .«last_exception_vector»; «pending_fault_cause» = c .fault .«pending_fault_cause»; «mmu_fc_override» = c .fault .«mmu_fc_override»; «pending_fault_wdata» = v })
+setWdata c v = withPendingFaultWdata c v
 
 -- the cause is taken
 unfoldable pub clearCause : Cpu → Cpu
-clearCause c = withFault c (record { «instruction_exception_vector» = c .fault .«instruction_exception_vector»; «last_exception_vector» = c .fault .«last_exception_vector»; «pending_fault_cause» = 0; «mmu_fc_override» = c .fault .«mmu_fc_override»; «pending_fault_wdata» = c .fault .«pending_fault_wdata» })
+clearCause c = withPendingFaultCause c 0
 
 -- the function code that stands in is consumed
 unfoldable pub clearFcOverride : Cpu → Cpu
-clearFcOverride c = withFault c (record { «instruction_exception_vector» = c .fault .«instruction_exception_vector»; «last_exception_vector» = c .fault .«last_exception_vector»; «pending_fault_cause» = c .fault .«pending_fault_cause»; «mmu_fc_override» = record { some = false; value = 0 }; «pending_fault_wdata» = c .fault .«pending_fault_wdata» })
+clearFcOverride c = withMmuFcOverride c (record { some = false; value = 0 })
 
 -- a vectored dispatch ends loop mode and leaves its vector in both vector fields
 unfoldable pub startVector : Cpu → ℕ → Cpu
-startVector c v = withFault (withFlow c (record { ppc = c .flow .ppc; pc = c .flow .pc; vbr = c .flow .vbr; ir = c .flow .ir; fpiar = c .flow .fpiar; «cpu_type» = c .flow .«cpu_type»; «run_mode» = c .flow .«run_mode»; stopped = c .flow .stopped; «exception_processing» = c .flow .«exception_processing»; «change_of_flow» = c .flow .«change_of_flow»; «loop_mode» = false; «cycles_remaining» = c .flow .«cycles_remaining» })) (record { «instruction_exception_vector» = record { some = true; value = v }; «last_exception_vector» = record { some = true; value = v }; «pending_fault_cause» = c .fault .«pending_fault_cause»; «mmu_fc_override» = c .fault .«mmu_fc_override»; «pending_fault_wdata» = c .fault .«pending_fault_wdata» })
+startVector c v = withLastExceptionVector (withInstructionExceptionVector (withLoopMode c false) (record { some = true; value = v })) (record { some = true; value = v })
 
 -- a minus n modulo 2^32
 unfoldable pub minus32 : ℕ → ℕ → ℕ

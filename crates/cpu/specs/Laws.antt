@@ -18,6 +18,6 @@ unfolding internalCycles
 clocks-kept c n h = rw h
 
 -- past 2^32 the sum wraps: 0xFFFFFFFF and 4 more leave 3
-pub clocks-wrap : clocksOf (internalCycles (setClocks (freshCpu 1) 4294967295) 4) ≡ 3
+pub clocks-wrap : clocksOf (internalCycles (setClocks (freshCpu 1) 0xFFFFFFFF) 4) ≡ 3
 unfolding clocksOf internalCycles setClocks freshCpu freshQueue freshFlow prefetchEnabled isPrefetchKind
 clocks-wrap = refl

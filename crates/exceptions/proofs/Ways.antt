@@ -7,26 +7,26 @@ use mathlib.Core.List.{List}
 use lib.ListN.{length, getD, set}
 use lib.Dec.{eqb, ltb, leb}
 use native.Mathlib.Numerals.{sub-one}
-use Rattle.status.specs.Banks.{enterSupervisor}
 use Rattle.cpu.specs.Clocks.{internalCycles}
 use Rattle.cpu.specs.Fields.{halted, inException, kindOf, leaveStop, noteFpiar, pcOf, ppcOf, rewindPc, setException}
-use Rattle.status.specs.Status.{statusOf}
 use Rattle.cpu.specs.declared.Cpu.{Cpu}
 use Rattle.exceptions.specs.Exceptions.{beginEntry, beginTrace, entry, exceptionTrace, finished, is68000, stackDisabled, stackGroup2, stackShort, stackUnimp, stackedAddress, stacksNext, takeException, takeFpDisabled060, takeFpUnimp060, takeGroup2, takeRewound, taken, trap}
 use Rattle.exceptions.specs.Frames.{disabledFrame, formatWord, longFrame, offsetWord, shortFrame}
 use Rattle.exceptions.specs.declared.Entered.{Entered}
-use Rattle.faults.specs.Faults.{jumpVector, pushShort, raised, stacked}
+use Rattle.faults.specs.Faults.{jumpVector, pushExceptionFrame68000, pushFrame, raised}
 use Rattle.frames.specs.declared.Frame.{Frame}
 use Rattle.memory.specs.World.{putCpu, world}
 use Rattle.memory.specs.declared.Core.{Core}
+use Rattle.status.specs.Banks.{enterSupervisor}
+use Rattle.status.specs.Status.{statusOf}
 use Rattle.types.specs.Kinds.{isPre68020}
 use Rattle.types.specs.Tables.{exceptionCycles}
 
-pub stack-short-way : (m : Core) (s l : List ℕ) (pc format : ℕ) (r : Core) (b : Bool) (n : ℕ) (s1 l1 : List ℕ) (r1 : Core) → r ≡ putCpu m (enterSupervisor (m .cpu)) → b ≡ is68000 (m .cpu) → b ≡ true → n ≡ statusOf (m .cpu) → world r1 s1 l1 ≡ pushShort raised (world r s l) pc n → world r1 s1 l1 ≡ stackShort (world m s l) pc format
+pub stack-short-way : (m : Core) (s l : List ℕ) (pc format : ℕ) (r : Core) (b : Bool) (n : ℕ) (s1 l1 : List ℕ) (r1 : Core) → r ≡ putCpu m (enterSupervisor (m .cpu)) → b ≡ is68000 (m .cpu) → b ≡ true → n ≡ statusOf (m .cpu) → world r1 s1 l1 ≡ pushExceptionFrame68000 raised (world r s l) pc n → world r1 s1 l1 ≡ stackShort (world m s l) pc format
 unfolding stackShort
 stack-short-way m s l pc format r b n s1 l1 r1 h0 h1 h2 h3 h4 = cc
 
-pub stack-short-way-2 : (m : Core) (s l : List ℕ) (pc format : ℕ) (r : Core) (b : Bool) (n : ℕ) (r1 : Frame) (s1 l1 : List ℕ) (r2 : Core) → r ≡ putCpu m (enterSupervisor (m .cpu)) → b ≡ is68000 (m .cpu) → b ≡ false → n ≡ statusOf (m .cpu) → r1 ≡ shortFrame n pc format → world r2 s1 l1 ≡ stacked raised (world r s l) r1 → world r2 s1 l1 ≡ stackShort (world m s l) pc format
+pub stack-short-way-2 : (m : Core) (s l : List ℕ) (pc format : ℕ) (r : Core) (b : Bool) (n : ℕ) (r1 : Frame) (s1 l1 : List ℕ) (r2 : Core) → r ≡ putCpu m (enterSupervisor (m .cpu)) → b ≡ is68000 (m .cpu) → b ≡ false → n ≡ statusOf (m .cpu) → r1 ≡ shortFrame n pc format → world r2 s1 l1 ≡ pushFrame raised (world r s l) r1 → world r2 s1 l1 ≡ stackShort (world m s l) pc format
 unfolding stackShort
 stack-short-way-2 m s l pc format r b n r1 s1 l1 r2 h0 h1 h2 h3 h4 h5 = cc
 
@@ -42,17 +42,13 @@ pub take-exception-way-2 : (m : Core) (s l : List ℕ) (vector : ℕ) (b : Bool)
 unfolding takeException
 take-exception-way-2 m s l vector b r s1 l1 r1 n h0 h1 h2 h3 h4 = cc
 
-pub stack-group2-way : (m : Core) (s l : List ℕ) (vector n : ℕ) (b : Bool) (n1 : ℕ) (s1 l1 : List ℕ) (r : Core) → n ≡ pcOf (m .cpu) → b ≡ is68000 (m .cpu) → b ≡ true → n1 ≡ offsetWord vector → world r s1 l1 ≡ stackShort (world m s l) n n1 → world r s1 l1 ≡ stackGroup2 (world m s l) vector
+pub stack-group2-way : (m : Core) (s l : List ℕ) (vector n : ℕ) (b : Bool) (n1 : ℕ) (s1 l1 : List ℕ) (r : Core) → n ≡ pcOf (m .cpu) → b ≡ isPre68020 (kindOf (m .cpu)) → b ≡ true → n1 ≡ offsetWord vector → world r s1 l1 ≡ stackShort (world m s l) n n1 → world r s1 l1 ≡ stackGroup2 (world m s l) vector
 unfolding stackGroup2
 stack-group2-way m s l vector n b n1 s1 l1 r h0 h1 h2 h3 h4 = cc
 
-pub stack-group2-way-2 : (m : Core) (s l : List ℕ) (vector n : ℕ) (b b1 : Bool) (n1 : ℕ) (s1 l1 : List ℕ) (r : Core) → n ≡ pcOf (m .cpu) → b ≡ is68000 (m .cpu) → b ≡ false → b1 ≡ isPre68020 (kindOf (m .cpu)) → b1 ≡ true → n1 ≡ offsetWord vector → world r s1 l1 ≡ stackShort (world m s l) n n1 → world r s1 l1 ≡ stackGroup2 (world m s l) vector
+pub stack-group2-way-2 : (m : Core) (s l : List ℕ) (vector n : ℕ) (b : Bool) (r : Core) (n1 n2 n3 : ℕ) (r1 : Frame) (s1 l1 : List ℕ) (r2 : Core) → n ≡ pcOf (m .cpu) → b ≡ isPre68020 (kindOf (m .cpu)) → b ≡ false → r ≡ putCpu m (enterSupervisor (m .cpu)) → n1 ≡ statusOf (m .cpu) → n2 ≡ formatWord (2 % 16) vector → n3 ≡ ppcOf (m .cpu) → r1 ≡ longFrame n1 n n2 n3 → world r2 s1 l1 ≡ pushFrame raised (world r s l) r1 → world r2 s1 l1 ≡ stackGroup2 (world m s l) vector
 unfolding stackGroup2
-stack-group2-way-2 m s l vector n b b1 n1 s1 l1 r h0 h1 h2 h3 h4 h5 h6 = cc
-
-pub stack-group2-way-3 : (m : Core) (s l : List ℕ) (vector n : ℕ) (b b1 : Bool) (r : Core) (n1 n2 n3 : ℕ) (r1 : Frame) (s1 l1 : List ℕ) (r2 : Core) → n ≡ pcOf (m .cpu) → b ≡ is68000 (m .cpu) → b ≡ false → b1 ≡ isPre68020 (kindOf (m .cpu)) → b1 ≡ false → r ≡ putCpu m (enterSupervisor (m .cpu)) → n1 ≡ statusOf (m .cpu) → n2 ≡ formatWord (2 % 16) vector → n3 ≡ ppcOf (m .cpu) → r1 ≡ longFrame n1 n n2 n3 → world r2 s1 l1 ≡ stacked raised (world r s l) r1 → world r2 s1 l1 ≡ stackGroup2 (world m s l) vector
-unfolding stackGroup2
-stack-group2-way-3 m s l vector n b b1 r n1 n2 n3 r1 s1 l1 r2 h0 h1 h2 h3 h4 h5 h6 h7 h8 h9 h10 = cc
+stack-group2-way-2 m s l vector n b r n1 n2 n3 r1 s1 l1 r2 h0 h1 h2 h3 h4 h5 h6 h7 h8 = cc
 
 pub take-group2-exception-way : (m : Core) (s l : List ℕ) (vector : ℕ) (s1 l1 : List ℕ) (r : Core) (s2 l2 : List ℕ) (r1 : Core) (n : ℕ) → world r s1 l1 ≡ stackGroup2 (world m s l) vector → world r1 s2 l2 ≡ jumpVector raised (world r s1 l1) vector → n ≡ exceptionCycles vector → entry (world r1 s2 l2) n ≡ takeGroup2 (world m s l) vector
 unfolding takeGroup2
@@ -102,7 +98,7 @@ pub take-trap-exception-way : (m : Core) (s l : List ℕ) (n : ℕ) (s1 l1 : Lis
 unfolding trap
 take-trap-exception-way m s l n s1 l1 r h0 = cc
 
-pub stack-unimp-way : (m : Core) (s l : List ℕ) (ea : ℕ) (r : Core) (n n1 n2 : ℕ) (r1 : Frame) (s1 l1 : List ℕ) (r2 : Core) → r ≡ putCpu m (enterSupervisor (m .cpu)) → n ≡ statusOf (m .cpu) → n1 ≡ pcOf (m .cpu) → n2 ≡ formatWord (2 % 16) 11 → r1 ≡ longFrame n n1 n2 ea → world r2 s1 l1 ≡ stacked raised (world r s l) r1 → world r2 s1 l1 ≡ stackUnimp (world m s l) ea
+pub stack-unimp-way : (m : Core) (s l : List ℕ) (ea : ℕ) (r : Core) (n n1 n2 : ℕ) (r1 : Frame) (s1 l1 : List ℕ) (r2 : Core) → r ≡ putCpu m (enterSupervisor (m .cpu)) → n ≡ statusOf (m .cpu) → n1 ≡ pcOf (m .cpu) → n2 ≡ formatWord (2 % 16) 11 → r1 ≡ longFrame n n1 n2 ea → world r2 s1 l1 ≡ pushFrame raised (world r s l) r1 → world r2 s1 l1 ≡ stackUnimp (world m s l) ea
 unfolding stackUnimp
 stack-unimp-way m s l ea r n n1 n2 r1 s1 l1 r2 h0 h1 h2 h3 h4 h5 = cc
 
@@ -110,7 +106,7 @@ pub take-fp-unimp-060-way : (m : Core) (s l : List ℕ) (ea : ℕ) (r : Core) (s
 unfolding takeFpUnimp060
 take-fp-unimp-060-way m s l ea r s1 l1 r1 s2 l2 r2 n h0 h1 h2 h3 = cc
 
-pub stack-disabled-way : (m : Core) (s l : List ℕ) (r : Core) (n n1 n2 : ℕ) (r1 : Frame) (s1 l1 : List ℕ) (r2 : Core) → r ≡ putCpu m (enterSupervisor (m .cpu)) → n ≡ statusOf (m .cpu) → n1 ≡ ppcOf (m .cpu) → n2 ≡ formatWord (4 % 16) 11 → r1 ≡ disabledFrame n n1 n2 0 n1 → world r2 s1 l1 ≡ stacked raised (world r s l) r1 → world r2 s1 l1 ≡ stackDisabled (world m s l)
+pub stack-disabled-way : (m : Core) (s l : List ℕ) (r : Core) (n n1 n2 : ℕ) (r1 : Frame) (s1 l1 : List ℕ) (r2 : Core) → r ≡ putCpu m (enterSupervisor (m .cpu)) → n ≡ statusOf (m .cpu) → n1 ≡ ppcOf (m .cpu) → n2 ≡ formatWord (4 % 16) 11 → r1 ≡ disabledFrame n n1 n2 0 n1 → world r2 s1 l1 ≡ pushFrame raised (world r s l) r1 → world r2 s1 l1 ≡ stackDisabled (world m s l)
 unfolding stackDisabled
 stack-disabled-way m s l r n n1 n2 r1 s1 l1 r2 h0 h1 h2 h3 h4 h5 = cc
 

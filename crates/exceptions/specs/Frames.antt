@@ -6,11 +6,11 @@ use Rattle.frames.specs.Frames.{word, long, framed}
 
 -- the word of a format and a vector: format × 4096 + vector × 4, the vector's offset in 12 bits
 unfoldable pub formatWord : ℕ → ℕ → ℕ
-formatWord format v = format * 4096 + v * 4 % 4096
+formatWord format v = format * 0x1000 + v * 4 % 0x1000
 
 -- format 0 of `take_exception`: the vector's offset fills the word
 unfoldable pub offsetWord : ℕ → ℕ
-offsetWord v = v * 4 % 65536
+offsetWord v = v * 4 % 0x10000
 
 -- 8 bytes: status, address, format word
 unfoldable pub shortFrame : ℕ → ℕ → ℕ → Frame

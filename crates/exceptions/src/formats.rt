@@ -9,14 +9,14 @@ ghost use Rattle.exceptions.specs.Frames.{formatWord, offsetWord, shortF
 pub fn format_word(format: u32, v: u32) -> u32
     ensures { λ r. ⌜ r ≡ formatWord (format % 16) v ⌝ }
 {
-    format % 16 * 4096 + v % 1024 * 4
+    format % 16 * 0x1000 + v % 1024 * 4
 }
 
 // The offset of a vector, 16 bits.
 pub fn offset_word(v: u32) -> u32
     ensures { λ r. ⌜ r ≡ offsetWord v ⌝ }
 {
-    v % 16384 * 4
+    v % 0x4000 * 4
 }
 
 // 8 bytes.

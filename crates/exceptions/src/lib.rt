@@ -60,10 +60,6 @@ fn stack_group2(m: Core, store: &mut [u8], log: &mut [u32], vector: u32) -> Core
     ensures { λ r. ⌜ world r (now (store .exit)) (now (log .exit)) ≡ stackGroup2 (world m (now (store .entry)) (now (log .entry))) vector ⌝ }
 {
     let pc = steps::pc(m);
-    if state::is_68000(m) {
-        let format = formats::offset_word(vector);
-        return stack_short(m, store, log, pc, format);
-    }
     if state::is_pre_68020(m) {
         let format = formats::offset_word(vector);
         return stack_short(m, store, log, pc, format);
@@ -97,21 +93,21 @@ pub fn trap(m: Core, store: &mut [u8], log: &mut [u32], n: u8) -> Entered
 pub fn exception_chk(m: Core, store: &mut [u8], log: &mut [u32]) -> Entered
     ensures { λ r. ⌜ entry (world (r .core) (now (store .exit)) (now (log .exit))) (r .cycles) ≡ takeGroup2 (world m (now (store .entry)) (now (log .entry))) 6 ⌝ }
 {
-    take_group2_exception(m, store, log, 6)
+    take_group2_exception(m, store, log, types::CHK)
 }
 
 // Divide by zero.
 pub fn exception_zero_divide(m: Core, store: &mut [u8], log: &mut [u32]) -> Entered
     ensures { λ r. ⌜ entry (world (r .core) (now (store .exit)) (now (log .exit))) (r .cycles) ≡ takeGroup2 (world m (now (store .entry)) (now (log .entry))) 5 ⌝ }
 {
-    take_group2_exception(m, store, log, 5)
+    take_group2_exception(m, store, log, types::ZERO_DIVIDE)
 }
 
 // Privilege violation.
 pub fn exception_privilege(m: Core, store: &mut [u8], log: &mut [u32]) -> Entered
     ensures { λ r. ⌜ entry (world (r .core) (now (store .exit)) (now (log .exit))) (r .cycles) ≡ takeException (world m (now (store .entry)) (now (log .entry))) 8 ⌝ }
 {
-    take_exception(m, store, log, 8)
+    take_exception(m, store, log, types::PRIVILEGE_VIOLATION)
 }
 
 // Trace.
@@ -119,7 +115,7 @@ pub fn exception_trace(m: Core, store: &mut [u8], log: &mut [u32]) -> Entered
     ensures { λ r. ⌜ entry (world (r .core) (now (store .exit)) (now (log .exit))) (r .cycles) ≡ exceptionTrace (world m (now (store .entry)) (now (log .entry))) ⌝ }
 {
     let a = state::begin_trace(m);
-    take_group2_exception(a, store, log, 9)
+    take_group2_exception(a, store, log, types::TRACE)
 }
 
 // An exception with PC back at the instruction.
@@ -134,28 +130,28 @@ fn take_rewound(m: Core, store: &mut [u8], log: &mut [u32], vector: u32) -> Ente
 pub fn take_aline_exception(m: Core, store: &mut [u8], log: &mut [u32]) -> Entered
     ensures { λ r. ⌜ entry (world (r .core) (now (store .exit)) (now (log .exit))) (r .cycles) ≡ takeRewound (world m (now (store .entry)) (now (log .entry))) 10 ⌝ }
 {
-    take_rewound(m, store, log, 10)
+    take_rewound(m, store, log, types::LINE_1010)
 }
 
 // Line F.
 pub fn take_fline_exception(m: Core, store: &mut [u8], log: &mut [u32]) -> Entered
     ensures { λ r. ⌜ entry (world (r .core) (now (store .exit)) (now (log .exit))) (r .cycles) ≡ takeRewound (world m (now (store .entry)) (now (log .entry))) 11 ⌝ }
 {
-    take_rewound(m, store, log, 11)
+    take_rewound(m, store, log, types::LINE_1111)
 }
 
 // Breakpoint.
 pub fn take_bkpt_exception(m: Core, store: &mut [u8], log: &mut [u32]) -> Entered
     ensures { λ r. ⌜ entry (world (r .core) (now (store .exit)) (now (log .exit))) (r .cycles) ≡ takeRewound (world m (now (store .entry)) (now (log .entry))) 4 ⌝ }
 {
-    take_rewound(m, store, log, 4)
+    take_rewound(m, store, log, types::ILLEGAL_INSTRUCTION)
 }
 
 // Illegal instruction.
 pub fn take_illegal_exception(m: Core, store: &mut [u8], log: &mut [u32]) -> Entered
     ensures { λ r. ⌜ entry (world (r .core) (now (store .exit)) (now (log .exit))) (r .cycles) ≡ takeRewound (world m (now (store .entry)) (now (log .entry))) 4 ⌝ }
 {
-    take_rewound(m, store, log, 4)
+    take_rewound(m, store, log, types::ILLEGAL_INSTRUCTION)
 }
 
 // TRAP #n that nobody handled.

@@ -8,7 +8,8 @@ use lib.ListN.{length, getD, set}
 use lib.Dec.{eqb, ltb, leb}
 use native.Mathlib.Numerals.{sub-one}
 use Rattle.cpu.specs.Fields.{a7Of, lowerA7}
-use Rattle.faults.specs.Faults.{addressFault, busFault, entryAddress, entryBus, firstFrom, guardRead, guardWrite, jumpTo, jumpVector, keptFirst, keptSecond, prefetchFirst, prefetchSecond, pushFields, pushShort, pushed, raised, refill, secondFrom, shortWrites, stackField, stacked, trigger, vectorRead}
+use Rattle.cpu.specs.declared.Cpu.{Cpu}
+use Rattle.faults.specs.Faults.{addressError, busError, checkedRead, checkedWrite, exceptionAddressError, exceptionBusError, firstFrom, jumpTo, jumpVector, keptFirst, keptSecond, prefetchFirst, prefetchSecond, pushExceptionFrame68000, pushField, pushFields, pushFrame, raised, readAt, readOr, refill, secondFrom, shortWrites, stackField, trigger, vectorRead, writeAt, wrote}
 use Rattle.frames.specs.Frames.{long, word}
 use Rattle.frames.specs.declared.Field.{Field}
 use Rattle.frames.specs.declared.Frame.{Frame}
@@ -16,37 +17,37 @@ use Rattle.memory.specs.World.{putCpu, reply, world}
 use Rattle.memory.specs.declared.Core.{Core}
 use Rattle.memory.specs.declared.Reply.{Reply}
 
-pub read-16-way : (m : Core) (s l : List ℕ) (a : ℕ) (s1 l1 : List ℕ) (r : Reply) → reply (world (r .core) s1 l1) (r .ok) (r .value) ≡ guardRead (trigger 2) (world m s l) a false → reply (world (r .core) s1 l1) (r .ok) (r .value) ≡ guardRead raised (world m s l) a false
-unfolding guardRead
+pub read-16-way : (m : Core) (s l : List ℕ) (a : ℕ) (s1 l1 : List ℕ) (r : Reply) → reply (world (r .core) s1 l1) (r .ok) (r .value) ≡ readAt (trigger 2) (world m s l) a false → reply (world (r .core) s1 l1) (r .ok) (r .value) ≡ readAt raised (world m s l) a false
+unfolding readAt checkedRead readOr
 read-16-way m s l a s1 l1 r h0 = cc
 
-pub read-32-way : (m : Core) (s l : List ℕ) (a : ℕ) (s1 l1 : List ℕ) (r : Reply) → reply (world (r .core) s1 l1) (r .ok) (r .value) ≡ guardRead (trigger 2) (world m s l) a true → reply (world (r .core) s1 l1) (r .ok) (r .value) ≡ guardRead raised (world m s l) a true
-unfolding guardRead
+pub read-32-way : (m : Core) (s l : List ℕ) (a : ℕ) (s1 l1 : List ℕ) (r : Reply) → reply (world (r .core) s1 l1) (r .ok) (r .value) ≡ readAt (trigger 2) (world m s l) a true → reply (world (r .core) s1 l1) (r .ok) (r .value) ≡ readAt raised (world m s l) a true
+unfolding readAt checkedRead readOr
 read-32-way m s l a s1 l1 r h0 = cc
 
-pub write-16-way : (m : Core) (s l : List ℕ) (a v : ℕ) (s1 l1 : List ℕ) (r : Core) → world r s1 l1 ≡ guardWrite (trigger 2) (world m s l) a false v → world r s1 l1 ≡ guardWrite raised (world m s l) a false v
-unfolding guardWrite
+pub write-16-way : (m : Core) (s l : List ℕ) (a v : ℕ) (s1 l1 : List ℕ) (r : Core) → world r s1 l1 ≡ writeAt (trigger 2) (world m s l) a false v → world r s1 l1 ≡ writeAt raised (world m s l) a false v
+unfolding writeAt checkedWrite wrote
 write-16-way m s l a v s1 l1 r h0 = cc
 
-pub write-32-way : (m : Core) (s l : List ℕ) (a v : ℕ) (s1 l1 : List ℕ) (r : Core) → world r s1 l1 ≡ guardWrite (trigger 2) (world m s l) a true v → world r s1 l1 ≡ guardWrite raised (world m s l) a true v
-unfolding guardWrite
+pub write-32-way : (m : Core) (s l : List ℕ) (a v : ℕ) (s1 l1 : List ℕ) (r : Core) → world r s1 l1 ≡ writeAt (trigger 2) (world m s l) a true v → world r s1 l1 ≡ writeAt raised (world m s l) a true v
+unfolding writeAt checkedWrite wrote
 write-32-way m s l a v s1 l1 r h0 = cc
 
-pub push-16-way : (m : Core) (s l : List ℕ) (v : ℕ) (r : Field) (s1 l1 : List ℕ) (r1 : Core) → r ≡ word v → world r1 s1 l1 ≡ pushed (trigger 2) (world m s l) r → world r1 s1 l1 ≡ pushed raised (world m s l) (word v)
-unfolding pushed stackField
+pub push-16-way : (m : Core) (s l : List ℕ) (v : ℕ) (r : Field) (s1 l1 : List ℕ) (r1 : Core) → r ≡ word v → world r1 s1 l1 ≡ pushField (trigger 2) (world m s l) r → world r1 s1 l1 ≡ pushField raised (world m s l) (word v)
+unfolding pushField stackField
 push-16-way m s l v r s1 l1 r1 h0 h1 = cc
 
-pub push-32-way : (m : Core) (s l : List ℕ) (v : ℕ) (r : Field) (s1 l1 : List ℕ) (r1 : Core) → r ≡ long v → world r1 s1 l1 ≡ pushed (trigger 2) (world m s l) r → world r1 s1 l1 ≡ pushed raised (world m s l) (long v)
-unfolding pushed stackField
+pub push-32-way : (m : Core) (s l : List ℕ) (v : ℕ) (r : Field) (s1 l1 : List ℕ) (r1 : Core) → r ≡ long v → world r1 s1 l1 ≡ pushField (trigger 2) (world m s l) r → world r1 s1 l1 ≡ pushField raised (world m s l) (long v)
+unfolding pushField stackField
 push-32-way m s l v r s1 l1 r1 h0 h1 = cc
 
-pub push-frame-way : (m : Core) (s l : List ℕ) (f : Frame) (n : ℕ) (s1 l1 : List ℕ) (r : Core) → n ≡ f .count → world r s1 l1 ≡ pushFields (trigger 2) (world m s l) f n → world r s1 l1 ≡ stacked raised (world m s l) f
-unfolding stacked
+pub push-frame-way : (m : Core) (s l : List ℕ) (f : Frame) (n : ℕ) (s1 l1 : List ℕ) (r : Core) → n ≡ f .count → world r s1 l1 ≡ pushFields (trigger 2) (world m s l) f n → world r s1 l1 ≡ pushFrame raised (world m s l) f
+unfolding pushFrame
 push-frame-way m s l f n s1 l1 r h0 h1 = cc
 
-pub push-exception-frame-68000-way : (m : Core) (s l : List ℕ) (pc sr : ℕ) (r : Core) (n n1 : ℕ) (s1 l1 : List ℕ) (r1 : Core) (s2 l2 : List ℕ) (r2 : Core) (n2 : ℕ) (s3 l3 : List ℕ) (r3 : Core) → r ≡ putCpu m (lowerA7 (m .cpu) 6) → n ≡ a7Of (r .cpu) → n1 ≡ (n + 4) % 2 ^ 32 → world r1 s1 l1 ≡ guardWrite (trigger 2) (world r s l) n1 false (pc % 65536) → world r2 s2 l2 ≡ guardWrite (trigger 2) (world r1 s1 l1) n false sr → n2 ≡ (n + 2) % 2 ^ 32 → world r3 s3 l3 ≡ guardWrite (trigger 2) (world r2 s2 l2) n2 false (pc / 65536) → world r3 s3 l3 ≡ pushShort raised (world m s l) pc sr
-unfolding pushShort shortWrites
-push-exception-frame-68000-way m s l pc sr r n n1 s1 l1 r1 s2 l2 r2 n2 s3 l3 r3 h0 h1 h2 h3 h4 h5 h6 = cc
+pub push-exception-frame-68000-way : (m : Core) (s l : List ℕ) (pc sr : ℕ) (r : Cpu) (r1 : Core) (n n1 : ℕ) (s1 l1 : List ℕ) (r2 : Core) (s2 l2 : List ℕ) (r3 : Core) (n2 : ℕ) (s3 l3 : List ℕ) (r4 : Core) → r ≡ lowerA7 (m .cpu) 6 → r1 ≡ putCpu m r → n ≡ a7Of (r1 .cpu) → n1 ≡ (n + 4) % 2 ^ 32 → world r2 s1 l1 ≡ writeAt (trigger 2) (world r1 s l) n1 false (pc % 65536) → world r3 s2 l2 ≡ writeAt (trigger 2) (world r2 s1 l1) n false sr → n2 ≡ (n + 2) % 2 ^ 32 → world r4 s3 l3 ≡ writeAt (trigger 2) (world r3 s2 l2) n2 false (pc / 65536) → world r4 s3 l3 ≡ pushExceptionFrame68000 raised (world m s l) pc sr
+unfolding pushExceptionFrame68000 shortWrites
+push-exception-frame-68000-way m s l pc sr r r1 n n1 s1 l1 r2 s2 l2 r3 n2 s3 l3 r4 h0 h1 h2 h3 h4 h5 h6 h7 = cc
 
 pub jump-vector-way : (m : Core) (s l : List ℕ) (vector : ℕ) (s1 l1 : List ℕ) (r : Core) → world r s1 l1 ≡ jumpVector (trigger 2) (world m s l) vector → world r s1 l1 ≡ jumpVector raised (world m s l) vector
 unfolding jumpVector jumpTo vectorRead refill
@@ -60,16 +61,16 @@ pub prefetch-second-way : (m : Core) (s l s1 l1 : List ℕ) (r : Core) → world
 unfolding prefetchSecond secondFrom keptSecond
 prefetch-second-way m s l s1 l1 r h0 = cc
 
-pub trigger-bus-error-way : (m : Core) (s l : List ℕ) (address : ℕ) (write instruction : Bool) (size : ℕ) (s1 l1 : List ℕ) (r : Core) → world r s1 l1 ≡ trigger 2 (world m s l) (busFault address write instruction size) → world r s1 l1 ≡ raised (world m s l) (busFault address write instruction size)
+pub trigger-bus-error-way : (m : Core) (s l : List ℕ) (address : ℕ) (write instruction : Bool) (size : ℕ) (s1 l1 : List ℕ) (r : Core) → world r s1 l1 ≡ trigger 2 (world m s l) (busError address write instruction size) → world r s1 l1 ≡ raised (world m s l) (busError address write instruction size)
 trigger-bus-error-way m s l address write instruction size s1 l1 r h0 = cc
 
-pub trigger-address-error-way : (m : Core) (s l : List ℕ) (address : ℕ) (write instruction : Bool) (s1 l1 : List ℕ) (r : Core) → world r s1 l1 ≡ trigger 2 (world m s l) (addressFault address write instruction) → world r s1 l1 ≡ raised (world m s l) (addressFault address write instruction)
+pub trigger-address-error-way : (m : Core) (s l : List ℕ) (address : ℕ) (write instruction : Bool) (s1 l1 : List ℕ) (r : Core) → world r s1 l1 ≡ trigger 2 (world m s l) (addressError address write instruction) → world r s1 l1 ≡ raised (world m s l) (addressError address write instruction)
 trigger-address-error-way m s l address write instruction s1 l1 r h0 = cc
 
-pub exception-bus-error-way : (m : Core) (s l : List ℕ) (address : ℕ) (write instruction : Bool) (size cause : ℕ) (s1 l1 : List ℕ) (r : Core) → world r s1 l1 ≡ entryBus (trigger 2) (world m s l) address write instruction size cause → world r s1 l1 ≡ entryBus raised (world m s l) address write instruction size cause
-unfolding entryBus
+pub exception-bus-error-way : (m : Core) (s l : List ℕ) (address : ℕ) (write instruction : Bool) (size cause : ℕ) (s1 l1 : List ℕ) (r : Core) → world r s1 l1 ≡ exceptionBusError (trigger 2) (world m s l) address write instruction size cause → world r s1 l1 ≡ exceptionBusError raised (world m s l) address write instruction size cause
+unfolding exceptionBusError
 exception-bus-error-way m s l address write instruction size cause s1 l1 r h0 = cc
 
-pub exception-address-error-way : (m : Core) (s l : List ℕ) (address : ℕ) (write instruction : Bool) (s1 l1 : List ℕ) (r : Core) → world r s1 l1 ≡ entryAddress (trigger 2) (world m s l) address write instruction → world r s1 l1 ≡ entryAddress raised (world m s l) address write instruction
-unfolding entryAddress
+pub exception-address-error-way : (m : Core) (s l : List ℕ) (address : ℕ) (write instruction : Bool) (s1 l1 : List ℕ) (r : Core) → world r s1 l1 ≡ exceptionAddressError (trigger 2) (world m s l) address write instruction → world r s1 l1 ≡ exceptionAddressError raised (world m s l) address write instruction
+unfolding exceptionAddressError
 exception-address-error-way m s l address write instruction s1 l1 r h0 = cc

@@ -7,170 +7,163 @@ use mathlib.Core.List.{List}
 use lib.ListN.{length, getD, set}
 use lib.Dec.{eqb, ltb, leb}
 use native.Mathlib.Numerals.{sub-one}
-use Rattle.status.specs.Banks.{enterSupervisor}
 use Rattle.cpu.specs.Clocks.{clearPrefetch, firstWord, internalCycles, oneFetched, prefetchEnabled, secondWord}
 use Rattle.cpu.specs.Fields.{a7Of, addressOf, causeNumberOf, halted, inException, isFaulted, lowerA7, oddPc, pcOf, setException, setPc, setWdata, startVector}
-use Rattle.status.specs.Status.{keepResume}
-use Rattle.faults.specs.Faults.{addressFault, busFault, checkedRead, checkedWrite, entryAddress, entryBus, firstFrom, guardRead, guardWrite, jumpTo, jumpVector, keptFirst, keptSecond, prefetchFirst, prefetchRead, prefetchSecond, pushFields, pushed, raiseAddress, raiseBus, readOr, refill, secondFrom, stackField, stacked, trigger, vectorRead, wrote}
-use Rattle.frames.specs.Frames.{addressFrame, busFrame, fieldAt, long}
-use Rattle.steps.specs.Steps.{beginAddress, beginBus, enterBusError, isCounted, isRaw, refusesOdd, vectorAddress}
+use Rattle.cpu.specs.declared.Cpu.{Cpu}
+use Rattle.faults.specs.Faults.{addressError, busError, checkedRead, checkedWrite, exceptionAddressError, exceptionBusError, firstFrom, jumpTo, jumpVector, keptFirst, keptSecond, prefetchFirst, prefetchRead, prefetchSecond, pushField, pushFields, pushFrame, raiseAddress, raiseBus, readAt, readOr, refill, secondFrom, stackField, trigger, vectorRead, writeAt, wrote}
+use Rattle.frames.specs.Frames.{addressFrame, busFrame, fieldAt}
 use Rattle.frames.specs.declared.Field.{Field}
 use Rattle.frames.specs.declared.Frame.{Frame}
 use Rattle.memory.specs.World.{flush, putCpu, rawWrite, release, reply, tried, tryRead, tryWrite, widthOf, world}
 use Rattle.memory.specs.declared.Core.{Core}
 use Rattle.memory.specs.declared.Reply.{Reply}
 use Rattle.memory.specs.declared.Tried.{Tried}
+use Rattle.status.specs.Banks.{enterSupervisor}
+use Rattle.status.specs.Status.{keepResume}
+use Rattle.steps.specs.Steps.{beginAddress, beginBus, enterBusError, isCounted, isRaw, refusesOdd, vectorAddress}
 
-pub raise-bus-faulted : (m : Core) (s l : List ℕ) (levels address : ℕ) (write instruction : Bool) (size : ℕ) (b : Bool) → b ≡ isFaulted (m .cpu) → b ≡ true → world m s l ≡ trigger levels (world m s l) (busFault address write instruction size)
+pub trigger-bus-error-way : (m : Core) (s l : List ℕ) (levels address : ℕ) (write instruction : Bool) (size : ℕ) (b : Bool) → b ≡ isFaulted (m .cpu) → b ≡ true → world m s l ≡ trigger levels (world m s l) (busError address write instruction size)
 unfolding trigger raiseAddress raiseBus
-raise-bus-faulted m s l zero address write instruction size b h0 h1 = cc
-raise-bus-faulted m s l (suc levels) address write instruction size b h0 h1 = cc
+trigger-bus-error-way m s l zero address write instruction size b h0 h1 = cc
+trigger-bus-error-way m s l (suc levels) address write instruction size b h0 h1 = cc
 
-pub raise-bus-under-way : (m : Core) (s l : List ℕ) (levels address : ℕ) (write instruction : Bool) (size : ℕ) (b b1 : Bool) (r : Core) → b ≡ isFaulted (m .cpu) → b ≡ false → b1 ≡ inException (m .cpu) → b1 ≡ true → r ≡ putCpu m (halted (m .cpu)) → world r s l ≡ trigger levels (world m s l) (busFault address write instruction size)
+pub trigger-bus-error-way-2 : (m : Core) (s l : List ℕ) (levels address : ℕ) (write instruction : Bool) (size : ℕ) (b b1 : Bool) (r : Cpu) (r1 : Core) → b ≡ isFaulted (m .cpu) → b ≡ false → b1 ≡ inException (m .cpu) → b1 ≡ true → r ≡ halted (m .cpu) → r1 ≡ putCpu m r → world r1 s l ≡ trigger levels (world m s l) (busError address write instruction size)
 unfolding trigger raiseAddress raiseBus
-raise-bus-under-way m s l zero address write instruction size b b1 r h0 h1 h2 h3 h4 = cc
-raise-bus-under-way m s l (suc levels) address write instruction size b b1 r h0 h1 h2 h3 h4 = cc
+trigger-bus-error-way-2 m s l zero address write instruction size b b1 r r1 h0 h1 h2 h3 h4 h5 = cc
+trigger-bus-error-way-2 m s l (suc levels) address write instruction size b b1 r r1 h0 h1 h2 h3 h4 h5 = cc
 
-pub raise-bus-without-level : (m : Core) (s l : List ℕ) (levels address : ℕ) (write instruction : Bool) (size : ℕ) (b b1 : Bool) (r : Core) → b ≡ isFaulted (m .cpu) → b ≡ false → b1 ≡ inException (m .cpu) → b1 ≡ false → levels ≡ 0 → r ≡ putCpu m (halted (m .cpu)) → world r s l ≡ trigger levels (world m s l) (busFault address write instruction size)
+pub trigger-bus-error-way-3 : (m : Core) (s l : List ℕ) (levels address : ℕ) (write instruction : Bool) (size : ℕ) (b b1 : Bool) (r : Cpu) (r1 : Core) → b ≡ isFaulted (m .cpu) → b ≡ false → b1 ≡ inException (m .cpu) → b1 ≡ false → levels ≡ 0 → r ≡ halted (m .cpu) → r1 ≡ putCpu m r → world r1 s l ≡ trigger levels (world m s l) (busError address write instruction size)
 unfolding trigger raiseAddress raiseBus
-raise-bus-without-level m s l levels address write instruction size b b1 r h0 h1 h2 h3 h4 h5 = cc
+trigger-bus-error-way-3 m s l levels address write instruction size b b1 r r1 h0 h1 h2 h3 h4 h5 h6 = cc
 
-pub raise-bus-enters : (m : Core) (s l : List ℕ) (levels address : ℕ) (write instruction : Bool) (size : ℕ) (b b1 : Bool) (n : ℕ) (r : Core) (s1 l1 : List ℕ) (r1 r2 : Core) → b ≡ isFaulted (m .cpu) → b ≡ false → b1 ≡ inException (m .cpu) → b1 ≡ false → (levels ≡ 0 → ⊥) → n ≡ causeNumberOf (m .cpu) → r ≡ putCpu m (beginBus (m .cpu)) → world r1 s1 l1 ≡ entryBus (trigger (levels - 1)) (world r s l) address write instruction size n → r2 ≡ putCpu r1 (keepResume (setException (r1 .cpu) false)) → world r2 s1 l1 ≡ trigger levels (world m s l) (busFault address write instruction size)
+pub trigger-bus-error-way-4 : (m : Core) (s l : List ℕ) (levels address : ℕ) (write instruction : Bool) (size : ℕ) (b b1 : Bool) (n : ℕ) (r : Cpu) (r1 : Core) (s1 l1 : List ℕ) (r2 : Core) (r3 : Cpu) (r4 : Core) → b ≡ isFaulted (m .cpu) → b ≡ false → b1 ≡ inException (m .cpu) → b1 ≡ false → (levels ≡ 0 → ⊥) → n ≡ causeNumberOf (m .cpu) → r ≡ beginBus (m .cpu) → r1 ≡ putCpu m r → world r2 s1 l1 ≡ exceptionBusError (trigger (levels - 1)) (world r1 s l) address write instruction size n → r3 ≡ keepResume (setException (r2 .cpu) false) → r4 ≡ putCpu r2 r3 → world r4 s1 l1 ≡ trigger levels (world m s l) (busError address write instruction size)
 unfolding trigger raiseAddress raiseBus
-raise-bus-enters m s l zero address write instruction size b b1 n r s1 l1 r1 r2 h0 h1 h2 h3 h4 h5 h6 h7 h8 = absurd (h4 refl)
-raise-bus-enters m s l (suc levels) address write instruction size b b1 n r s1 l1 r1 r2 h0 h1 h2 h3 h4 h5 h6 h7 h8 = cc (sub-one (suc levels))
+trigger-bus-error-way-4 m s l zero address write instruction size b b1 n r r1 s1 l1 r2 r3 r4 h0 h1 h2 h3 h4 h5 h6 h7 h8 h9 h10 = absurd (h4 refl)
+trigger-bus-error-way-4 m s l (suc levels) address write instruction size b b1 n r r1 s1 l1 r2 r3 r4 h0 h1 h2 h3 h4 h5 h6 h7 h8 h9 h10 = cc (sub-one (suc levels))
 
-pub raise-odd-faulted : (m : Core) (s l : List ℕ) (levels address : ℕ) (write instruction b : Bool) → b ≡ isFaulted (m .cpu) → b ≡ true → world m s l ≡ trigger levels (world m s l) (addressFault address write instruction)
+pub trigger-address-error-way : (m : Core) (s l : List ℕ) (levels address : ℕ) (write instruction b : Bool) → b ≡ isFaulted (m .cpu) → b ≡ true → world m s l ≡ trigger levels (world m s l) (addressError address write instruction)
 unfolding trigger raiseAddress raiseBus
-raise-odd-faulted m s l zero address write instruction b h0 h1 = cc
-raise-odd-faulted m s l (suc levels) address write instruction b h0 h1 = cc
+trigger-address-error-way m s l zero address write instruction b h0 h1 = cc
+trigger-address-error-way m s l (suc levels) address write instruction b h0 h1 = cc
 
-pub raise-odd-without-level : (m : Core) (s l : List ℕ) (levels address : ℕ) (write instruction b : Bool) (r : Core) → b ≡ isFaulted (m .cpu) → b ≡ false → levels ≡ 0 → r ≡ putCpu m (halted (m .cpu)) → world r s l ≡ trigger levels (world m s l) (addressFault address write instruction)
+pub trigger-address-error-way-2 : (m : Core) (s l : List ℕ) (levels address : ℕ) (write instruction b : Bool) (r : Cpu) (r1 : Core) → b ≡ isFaulted (m .cpu) → b ≡ false → levels ≡ 0 → r ≡ halted (m .cpu) → r1 ≡ putCpu m r → world r1 s l ≡ trigger levels (world m s l) (addressError address write instruction)
 unfolding trigger raiseAddress raiseBus
-raise-odd-without-level m s l levels address write instruction b r h0 h1 h2 h3 = cc
+trigger-address-error-way-2 m s l levels address write instruction b r r1 h0 h1 h2 h3 h4 = cc
 
-pub raise-odd-enters : (m : Core) (s l : List ℕ) (levels address : ℕ) (write instruction b : Bool) (r : Core) (s1 l1 : List ℕ) (r1 r2 : Core) → b ≡ isFaulted (m .cpu) → b ≡ false → (levels ≡ 0 → ⊥) → r ≡ putCpu m (beginAddress (m .cpu)) → world r1 s1 l1 ≡ entryAddress (trigger (levels - 1)) (world r s l) address write instruction → r2 ≡ putCpu r1 (keepResume (r1 .cpu)) → world r2 s1 l1 ≡ trigger levels (world m s l) (addressFault address write instruction)
+pub trigger-address-error-way-3 : (m : Core) (s l : List ℕ) (levels address : ℕ) (write instruction b : Bool) (r : Cpu) (r1 : Core) (s1 l1 : List ℕ) (r2 : Core) (r3 : Cpu) (r4 : Core) → b ≡ isFaulted (m .cpu) → b ≡ false → (levels ≡ 0 → ⊥) → r ≡ beginAddress (m .cpu) → r1 ≡ putCpu m r → world r2 s1 l1 ≡ exceptionAddressError (trigger (levels - 1)) (world r1 s l) address write instruction → r3 ≡ keepResume (r2 .cpu) → r4 ≡ putCpu r2 r3 → world r4 s1 l1 ≡ trigger levels (world m s l) (addressError address write instruction)
 unfolding trigger raiseAddress raiseBus
-raise-odd-enters m s l zero address write instruction b r s1 l1 r1 r2 h0 h1 h2 h3 h4 h5 = absurd (h2 refl)
-raise-odd-enters m s l (suc levels) address write instruction b r s1 l1 r1 r2 h0 h1 h2 h3 h4 h5 = cc (sub-one (suc levels))
+trigger-address-error-way-3 m s l zero address write instruction b r r1 s1 l1 r2 r3 r4 h0 h1 h2 h3 h4 h5 h6 h7 = absurd (h2 refl)
+trigger-address-error-way-3 m s l (suc levels) address write instruction b r r1 s1 l1 r2 r3 r4 h0 h1 h2 h3 h4 h5 h6 h7 = cc (sub-one (suc levels))
 
-pub enter-bus-whole : (m : Core) (s l : List ℕ) (levels address : ℕ) (write instruction : Bool) (size cause : ℕ) (r : Frame) (r1 : Core) (n : ℕ) (s1 l1 : List ℕ) (r2 : Core) (s2 l2 : List ℕ) (r3 : Core) → r ≡ busFrame (m .cpu) address write instruction size cause → r1 ≡ putCpu m (enterBusError (m .cpu)) → n ≡ r .count → world r2 s1 l1 ≡ pushFields (trigger levels) (world r1 s l) r n → world r3 s2 l2 ≡ jumpVector (trigger levels) (world r2 s1 l1) 2 → world r3 s2 l2 ≡ entryBus (trigger levels) (world m s l) address write instruction size cause
-unfolding entryBus stacked
-enter-bus-whole m s l levels address write instruction size cause r r1 n s1 l1 r2 s2 l2 r3 h0 h1 h2 h3 h4 = cc
+pub exception-bus-error-way : (m : Core) (s l : List ℕ) (levels address : ℕ) (write instruction : Bool) (size cause : ℕ) (r : Frame) (r1 : Cpu) (r2 : Core) (n : ℕ) (s1 l1 : List ℕ) (r3 : Core) (s2 l2 : List ℕ) (r4 : Core) → r ≡ busFrame (m .cpu) address write instruction size cause → r1 ≡ enterBusError (m .cpu) → r2 ≡ putCpu m r1 → n ≡ r .count → world r3 s1 l1 ≡ pushFields (trigger levels) (world r2 s l) r n → world r4 s2 l2 ≡ jumpVector (trigger levels) (world r3 s1 l1) 2 → world r4 s2 l2 ≡ exceptionBusError (trigger levels) (world m s l) address write instruction size cause
+unfolding exceptionBusError pushFrame
+exception-bus-error-way m s l levels address write instruction size cause r r1 r2 n s1 l1 r3 s2 l2 r4 h0 h1 h2 h3 h4 h5 = cc
 
-pub enter-odd-whole : (m : Core) (s l : List ℕ) (levels address : ℕ) (write instruction : Bool) (r : Frame) (r1 : Core) (n : ℕ) (s1 l1 : List ℕ) (r2 : Core) (s2 l2 : List ℕ) (r3 : Core) → r ≡ addressFrame (m .cpu) address write instruction → r1 ≡ putCpu m (enterSupervisor (m .cpu)) → n ≡ r .count → world r2 s1 l1 ≡ pushFields (trigger levels) (world r1 s l) r n → world r3 s2 l2 ≡ jumpVector (trigger levels) (world r2 s1 l1) 3 → world r3 s2 l2 ≡ entryAddress (trigger levels) (world m s l) address write instruction
-unfolding entryAddress stacked
-enter-odd-whole m s l levels address write instruction r r1 n s1 l1 r2 s2 l2 r3 h0 h1 h2 h3 h4 = cc
+pub exception-address-error-way : (m : Core) (s l : List ℕ) (levels address : ℕ) (write instruction : Bool) (r : Frame) (r1 : Cpu) (r2 : Core) (n : ℕ) (s1 l1 : List ℕ) (r3 : Core) (s2 l2 : List ℕ) (r4 : Core) → r ≡ addressFrame (m .cpu) address write instruction → r1 ≡ enterSupervisor (m .cpu) → r2 ≡ putCpu m r1 → n ≡ r .count → world r3 s1 l1 ≡ pushFields (trigger levels) (world r2 s l) r n → world r4 s2 l2 ≡ jumpVector (trigger levels) (world r3 s1 l1) 3 → world r4 s2 l2 ≡ exceptionAddressError (trigger levels) (world m s l) address write instruction
+unfolding exceptionAddressError pushFrame
+exception-address-error-way m s l levels address write instruction r r1 r2 n s1 l1 r3 s2 l2 r4 h0 h1 h2 h3 h4 h5 = cc
 
-pub push-all-none : (m : Core) (s l : List ℕ) (levels : ℕ) (f : Frame) (left : ℕ) → left ≡ 0 → world m s l ≡ pushFields (trigger levels) (world m s l) f left
+pub push-fields-way : (m : Core) (s l : List ℕ) (levels : ℕ) (f : Frame) (left : ℕ) → left ≡ 0 → world m s l ≡ pushFields (trigger levels) (world m s l) f left
 unfolding pushFields
-push-all-none m s l levels f left h0 = cc
+push-fields-way m s l levels f left h0 = cc
 
-pub push-all-more : (m : Core) (s l : List ℕ) (levels : ℕ) (f : Frame) (left : ℕ) (r : Field) (s1 l1 : List ℕ) (r1 : Core) (s2 l2 : List ℕ) (r2 : Core) → (left ≡ 0 → ⊥) → r ≡ fieldAt f (left - 1) → world r1 s1 l1 ≡ pushed (trigger levels) (world m s l) r → world r2 s2 l2 ≡ pushFields (trigger levels) (world r1 s1 l1) f (left - 1) → world r2 s2 l2 ≡ pushFields (trigger levels) (world m s l) f left
+pub push-fields-way-2 : (m : Core) (s l : List ℕ) (levels : ℕ) (f : Frame) (left : ℕ) (r : Field) (s1 l1 : List ℕ) (r1 : Core) (s2 l2 : List ℕ) (r2 : Core) → (left ≡ 0 → ⊥) → r ≡ fieldAt f (left - 1) → world r1 s1 l1 ≡ pushField (trigger levels) (world m s l) r → world r2 s2 l2 ≡ pushFields (trigger levels) (world r1 s1 l1) f (left - 1) → world r2 s2 l2 ≡ pushFields (trigger levels) (world m s l) f left
 unfolding pushFields
-push-all-more m s l levels f zero r s1 l1 r1 s2 l2 r2 h0 h1 h2 h3 = absurd (h0 refl)
-push-all-more m s l levels f (suc left) r s1 l1 r1 s2 l2 r2 h0 h1 h2 h3 = cc (sub-one (suc left))
+push-fields-way-2 m s l levels f zero r s1 l1 r1 s2 l2 r2 h0 h1 h2 h3 = absurd (h0 refl)
+push-fields-way-2 m s l levels f (suc left) r s1 l1 r1 s2 l2 r2 h0 h1 h2 h3 = cc (sub-one (suc left))
 
-pub push-counted : (m : Core) (s l : List ℕ) (levels : ℕ) (f : Field) (n : ℕ) (r : Core) (b : Bool) → n ≡ widthOf (f .long) → r ≡ putCpu m (lowerA7 (m .cpu) n) → b ≡ isCounted f → b ≡ true → world r s l ≡ pushed (trigger levels) (world m s l) f
-unfolding pushed stackField
-push-counted m s l levels f n r b h0 h1 h2 h3 = cc
+pub push-field-way : (m : Core) (s l : List ℕ) (levels : ℕ) (f : Field) (n : ℕ) (r : Cpu) (r1 : Core) (b : Bool) → n ≡ widthOf (f .long) → r ≡ lowerA7 (m .cpu) n → r1 ≡ putCpu m r → b ≡ isCounted f → b ≡ true → world r1 s l ≡ pushField (trigger levels) (world m s l) f
+unfolding pushField stackField
+push-field-way m s l levels f n r r1 b h0 h1 h2 h3 h4 = cc
 
-pub push-raw : (m : Core) (s l : List ℕ) (levels : ℕ) (f : Field) (n : ℕ) (r : Core) (b : Bool) (n1 : ℕ) (b1 : Bool) (n2 : ℕ) (s1 l1 : List ℕ) (r1 : Core) → n ≡ widthOf (f .long) → r ≡ putCpu m (lowerA7 (m .cpu) n) → b ≡ isCounted f → b ≡ false → n1 ≡ a7Of (r .cpu) → b1 ≡ isRaw f → b1 ≡ true → n2 ≡ addressOf (r .cpu) n1 → world r1 s1 l1 ≡ rawWrite (world r s l) n2 (f .long) (f .value) → world r1 s1 l1 ≡ pushed (trigger levels) (world m s l) f
-unfolding pushed stackField
-push-raw m s l levels f n r b n1 b1 n2 s1 l1 r1 h0 h1 h2 h3 h4 h5 h6 h7 h8 = cc
+pub push-field-way-2 : (m : Core) (s l : List ℕ) (levels : ℕ) (f : Field) (n : ℕ) (r : Cpu) (r1 : Core) (b : Bool) (n1 : ℕ) (b1 : Bool) (n2 : ℕ) (s1 l1 : List ℕ) (r2 : Core) → n ≡ widthOf (f .long) → r ≡ lowerA7 (m .cpu) n → r1 ≡ putCpu m r → b ≡ isCounted f → b ≡ false → n1 ≡ a7Of (r1 .cpu) → b1 ≡ isRaw f → b1 ≡ true → n2 ≡ addressOf (r1 .cpu) n1 → world r2 s1 l1 ≡ rawWrite (world r1 s l) n2 (f .long) (f .value) → world r2 s1 l1 ≡ pushField (trigger levels) (world m s l) f
+unfolding pushField stackField
+push-field-way-2 m s l levels f n r r1 b n1 b1 n2 s1 l1 r2 h0 h1 h2 h3 h4 h5 h6 h7 h8 h9 = cc
 
-pub push-guarded : (m : Core) (s l : List ℕ) (levels : ℕ) (f : Field) (n : ℕ) (r : Core) (b : Bool) (n1 : ℕ) (b1 : Bool) (s1 l1 : List ℕ) (r1 : Core) → n ≡ widthOf (f .long) → r ≡ putCpu m (lowerA7 (m .cpu) n) → b ≡ isCounted f → b ≡ false → n1 ≡ a7Of (r .cpu) → b1 ≡ isRaw f → b1 ≡ false → world r1 s1 l1 ≡ guardWrite (trigger levels) (world r s l) n1 (f .long) (f .value) → world r1 s1 l1 ≡ pushed (trigger levels) (world m s l) f
-unfolding pushed stackField
-push-guarded m s l levels f n r b n1 b1 s1 l1 r1 h0 h1 h2 h3 h4 h5 h6 h7 = cc
+pub push-field-way-3 : (m : Core) (s l : List ℕ) (levels : ℕ) (f : Field) (n : ℕ) (r : Cpu) (r1 : Core) (b : Bool) (n1 : ℕ) (b1 : Bool) (s1 l1 : List ℕ) (r2 : Core) → n ≡ widthOf (f .long) → r ≡ lowerA7 (m .cpu) n → r1 ≡ putCpu m r → b ≡ isCounted f → b ≡ false → n1 ≡ a7Of (r1 .cpu) → b1 ≡ isRaw f → b1 ≡ false → world r2 s1 l1 ≡ writeAt (trigger levels) (world r1 s l) n1 (f .long) (f .value) → world r2 s1 l1 ≡ pushField (trigger levels) (world m s l) f
+unfolding pushField stackField
+push-field-way-3 m s l levels f n r r1 b n1 b1 s1 l1 r2 h0 h1 h2 h3 h4 h5 h6 h7 h8 = cc
 
-pub write-at-faulted : (m : Core) (s l : List ℕ) (levels address : ℕ) (long : Bool) (value : ℕ) (b : Bool) → b ≡ isFaulted (m .cpu) → b ≡ true → world m s l ≡ guardWrite (trigger levels) (world m s l) address long value
-unfolding guardWrite
-write-at-faulted m s l levels address long value b h0 h1 = cc
+pub write-at-way : (m : Core) (s l : List ℕ) (levels address : ℕ) (long : Bool) (value : ℕ) (b : Bool) → b ≡ isFaulted (m .cpu) → b ≡ true → world m s l ≡ writeAt (trigger levels) (world m s l) address long value
+unfolding writeAt checkedWrite wrote
+write-at-way m s l levels address long value b h0 h1 = cc
 
-pub write-at-unfaulted : (m : Core) (s l : List ℕ) (levels address : ℕ) (long : Bool) (value : ℕ) (b : Bool) (s1 l1 : List ℕ) (r : Core) (n : ℕ) (s2 l2 : List ℕ) (r1 : Core) → b ≡ isFaulted (m .cpu) → b ≡ false → world r s1 l1 ≡ flush (world m s l) → n ≡ addressOf (r .cpu) address → world r1 s2 l2 ≡ checkedWrite (trigger levels) (world r s1 l1) n long value → world r1 s2 l2 ≡ guardWrite (trigger levels) (world m s l) address long value
-unfolding guardWrite
-write-at-unfaulted m s l levels address long value b s1 l1 r n s2 l2 r1 h0 h1 h2 h3 h4 = cc
+pub write-at-way-2 : (m : Core) (s l : List ℕ) (levels address : ℕ) (long : Bool) (value : ℕ) (b : Bool) (s1 l1 : List ℕ) (r : Core) (n : ℕ) (b1 : Bool) (s2 l2 : List ℕ) (r1 : Core) → b ≡ isFaulted (m .cpu) → b ≡ false → world r s1 l1 ≡ flush (world m s l) → n ≡ addressOf (r .cpu) address → b1 ≡ refusesOdd (r .cpu) n → b1 ≡ true → world r1 s2 l2 ≡ trigger levels (world r s1 l1) (addressError n true false) → world r1 s2 l2 ≡ writeAt (trigger levels) (world m s l) address long value
+unfolding writeAt checkedWrite wrote
+write-at-way-2 m s l levels address long value b s1 l1 r n b1 s2 l2 r1 h0 h1 h2 h3 h4 h5 h6 = cc
 
-pub write-now-odd : (m : Core) (s l : List ℕ) (levels address : ℕ) (long : Bool) (value : ℕ) (b : Bool) (s1 l1 : List ℕ) (r : Core) → b ≡ refusesOdd (m .cpu) address → b ≡ true → world r s1 l1 ≡ trigger levels (world m s l) (addressFault address true false) → world r s1 l1 ≡ checkedWrite (trigger levels) (world m s l) address long value
-unfolding checkedWrite wrote
-write-now-odd m s l levels address long value b s1 l1 r h0 h1 h2 = cc
+pub write-at-way-3 : (m : Core) (s l : List ℕ) (levels address : ℕ) (long : Bool) (value : ℕ) (b : Bool) (s1 l1 : List ℕ) (r : Core) (n : ℕ) (b1 : Bool) (r1 : Cpu) (r2 : Core) (s2 l2 : List ℕ) (r3 : Tried) → b ≡ isFaulted (m .cpu) → b ≡ false → world r s1 l1 ≡ flush (world m s l) → n ≡ addressOf (r .cpu) address → b1 ≡ refusesOdd (r .cpu) n → b1 ≡ false → r1 ≡ setWdata (r .cpu) value → r2 ≡ putCpu r r1 → tried (world (r3 .core) s2 l2) (r3 .ok) ≡ tryWrite (world r2 s1 l1) n long value → r3 .ok ≡ true → world (r3 .core) s2 l2 ≡ writeAt (trigger levels) (world m s l) address long value
+unfolding writeAt checkedWrite wrote
+write-at-way-3 m s l levels address long value b s1 l1 r n b1 r1 r2 s2 l2 r3 h0 h1 h2 h3 h4 h5 h6 h7 h8 h9 = cc
 
-pub write-now-served : (m : Core) (s l : List ℕ) (levels address : ℕ) (long : Bool) (value : ℕ) (b : Bool) (r : Core) (s1 l1 : List ℕ) (r1 : Tried) → b ≡ refusesOdd (m .cpu) address → b ≡ false → r ≡ putCpu m (setWdata (m .cpu) value) → tried (world (r1 .core) s1 l1) (r1 .ok) ≡ tryWrite (world r s l) address long value → r1 .ok ≡ true → world (r1 .core) s1 l1 ≡ checkedWrite (trigger levels) (world m s l) address long value
-unfolding checkedWrite wrote
-write-now-served m s l levels address long value b r s1 l1 r1 h0 h1 h2 h3 h4 = cc
+pub write-at-way-4 : (m : Core) (s l : List ℕ) (levels address : ℕ) (long : Bool) (value : ℕ) (b : Bool) (s1 l1 : List ℕ) (r : Core) (n : ℕ) (b1 : Bool) (r1 : Cpu) (r2 : Core) (s2 l2 : List ℕ) (r3 : Tried) (n1 : ℕ) (s3 l3 : List ℕ) (r4 : Core) → b ≡ isFaulted (m .cpu) → b ≡ false → world r s1 l1 ≡ flush (world m s l) → n ≡ addressOf (r .cpu) address → b1 ≡ refusesOdd (r .cpu) n → b1 ≡ false → r1 ≡ setWdata (r .cpu) value → r2 ≡ putCpu r r1 → tried (world (r3 .core) s2 l2) (r3 .ok) ≡ tryWrite (world r2 s1 l1) n long value → r3 .ok ≡ false → n1 ≡ widthOf long → world r4 s3 l3 ≡ trigger levels (world (r3 .core) s2 l2) (busError n true false n1) → world r4 s3 l3 ≡ writeAt (trigger levels) (world m s l) address long value
+unfolding writeAt checkedWrite wrote
+write-at-way-4 m s l levels address long value b s1 l1 r n b1 r1 r2 s2 l2 r3 n1 s3 l3 r4 h0 h1 h2 h3 h4 h5 h6 h7 h8 h9 h10 h11 = cc
 
-pub write-now-unserved : (m : Core) (s l : List ℕ) (levels address : ℕ) (long : Bool) (value : ℕ) (b : Bool) (r : Core) (s1 l1 : List ℕ) (r1 : Tried) (n : ℕ) (s2 l2 : List ℕ) (r2 : Core) → b ≡ refusesOdd (m .cpu) address → b ≡ false → r ≡ putCpu m (setWdata (m .cpu) value) → tried (world (r1 .core) s1 l1) (r1 .ok) ≡ tryWrite (world r s l) address long value → r1 .ok ≡ false → n ≡ widthOf long → world r2 s2 l2 ≡ trigger levels (world (r1 .core) s1 l1) (busFault address true false n) → world r2 s2 l2 ≡ checkedWrite (trigger levels) (world m s l) address long value
-unfolding checkedWrite wrote
-write-now-unserved m s l levels address long value b r s1 l1 r1 n s2 l2 r2 h0 h1 h2 h3 h4 h5 h6 = cc
+pub read-at-way : (m : Core) (s l : List ℕ) (levels address : ℕ) (long b : Bool) → b ≡ isFaulted (m .cpu) → b ≡ true → reply (world m s l) false 0 ≡ readAt (trigger levels) (world m s l) address long
+unfolding readAt checkedRead readOr
+read-at-way m s l levels address long b h0 h1 = cc
 
-pub read-at-faulted : (m : Core) (s l : List ℕ) (levels address : ℕ) (long b : Bool) → b ≡ isFaulted (m .cpu) → b ≡ true → reply (world m s l) false 0 ≡ guardRead (trigger levels) (world m s l) address long
-unfolding guardRead
-read-at-faulted m s l levels address long b h0 h1 = cc
+pub read-at-way-2 : (m : Core) (s l : List ℕ) (levels address : ℕ) (long b : Bool) (s1 l1 : List ℕ) (r : Core) (n : ℕ) (b1 : Bool) (s2 l2 : List ℕ) (r1 : Core) → b ≡ isFaulted (m .cpu) → b ≡ false → world r s1 l1 ≡ flush (world m s l) → n ≡ addressOf (r .cpu) address → b1 ≡ refusesOdd (r .cpu) n → b1 ≡ true → world r1 s2 l2 ≡ trigger levels (world r s1 l1) (addressError n false false) → reply (world r1 s2 l2) false 0 ≡ readAt (trigger levels) (world m s l) address long
+unfolding readAt checkedRead readOr
+read-at-way-2 m s l levels address long b s1 l1 r n b1 s2 l2 r1 h0 h1 h2 h3 h4 h5 h6 = cc
 
-pub read-at-unfaulted : (m : Core) (s l : List ℕ) (levels address : ℕ) (long b : Bool) (s1 l1 : List ℕ) (r : Core) (n : ℕ) (s2 l2 : List ℕ) (r1 : Reply) → b ≡ isFaulted (m .cpu) → b ≡ false → world r s1 l1 ≡ flush (world m s l) → n ≡ addressOf (r .cpu) address → reply (world (r1 .core) s2 l2) (r1 .ok) (r1 .value) ≡ checkedRead (trigger levels) (world r s1 l1) n long → reply (world (r1 .core) s2 l2) (r1 .ok) (r1 .value) ≡ guardRead (trigger levels) (world m s l) address long
-unfolding guardRead
-read-at-unfaulted m s l levels address long b s1 l1 r n s2 l2 r1 h0 h1 h2 h3 h4 = cc
+pub read-at-way-3 : (m : Core) (s l : List ℕ) (levels address : ℕ) (long b : Bool) (s1 l1 : List ℕ) (r : Core) (n : ℕ) (b1 : Bool) (s2 l2 : List ℕ) (r1 : Reply) → b ≡ isFaulted (m .cpu) → b ≡ false → world r s1 l1 ≡ flush (world m s l) → n ≡ addressOf (r .cpu) address → b1 ≡ refusesOdd (r .cpu) n → b1 ≡ false → reply (world (r1 .core) s2 l2) (r1 .ok) (r1 .value) ≡ tryRead (world r s1 l1) n long → r1 .ok ≡ true → reply (world (r1 .core) s2 l2) (r1 .ok) (r1 .value) ≡ readAt (trigger levels) (world m s l) address long
+unfolding readAt checkedRead readOr
+read-at-way-3 m s l levels address long b s1 l1 r n b1 s2 l2 r1 h0 h1 h2 h3 h4 h5 h6 h7 = cc
 
-pub read-now-odd : (m : Core) (s l : List ℕ) (levels address : ℕ) (long b : Bool) (s1 l1 : List ℕ) (r : Core) → b ≡ refusesOdd (m .cpu) address → b ≡ true → world r s1 l1 ≡ trigger levels (world m s l) (addressFault address false false) → reply (world r s1 l1) false 0 ≡ checkedRead (trigger levels) (world m s l) address long
-unfolding checkedRead readOr
-read-now-odd m s l levels address long b s1 l1 r h0 h1 h2 = cc
+pub read-at-way-4 : (m : Core) (s l : List ℕ) (levels address : ℕ) (long b : Bool) (s1 l1 : List ℕ) (r : Core) (n : ℕ) (b1 : Bool) (s2 l2 : List ℕ) (r1 : Reply) (n1 : ℕ) (s3 l3 : List ℕ) (r2 : Core) → b ≡ isFaulted (m .cpu) → b ≡ false → world r s1 l1 ≡ flush (world m s l) → n ≡ addressOf (r .cpu) address → b1 ≡ refusesOdd (r .cpu) n → b1 ≡ false → reply (world (r1 .core) s2 l2) (r1 .ok) (r1 .value) ≡ tryRead (world r s1 l1) n long → r1 .ok ≡ false → n1 ≡ widthOf long → world r2 s3 l3 ≡ trigger levels (world (r1 .core) s2 l2) (busError n false false n1) → reply (world r2 s3 l3) false 0 ≡ readAt (trigger levels) (world m s l) address long
+unfolding readAt checkedRead readOr
+read-at-way-4 m s l levels address long b s1 l1 r n b1 s2 l2 r1 n1 s3 l3 r2 h0 h1 h2 h3 h4 h5 h6 h7 h8 h9 = cc
 
-pub read-now-served : (m : Core) (s l : List ℕ) (levels address : ℕ) (long b : Bool) (s1 l1 : List ℕ) (r : Reply) → b ≡ refusesOdd (m .cpu) address → b ≡ false → reply (world (r .core) s1 l1) (r .ok) (r .value) ≡ tryRead (world m s l) address long → r .ok ≡ true → reply (world (r .core) s1 l1) (r .ok) (r .value) ≡ checkedRead (trigger levels) (world m s l) address long
-unfolding checkedRead readOr
-read-now-served m s l levels address long b s1 l1 r h0 h1 h2 h3 = cc
-
-pub read-now-unserved : (m : Core) (s l : List ℕ) (levels address : ℕ) (long b : Bool) (s1 l1 : List ℕ) (r : Reply) (n : ℕ) (s2 l2 : List ℕ) (r1 : Core) → b ≡ refusesOdd (m .cpu) address → b ≡ false → reply (world (r .core) s1 l1) (r .ok) (r .value) ≡ tryRead (world m s l) address long → r .ok ≡ false → n ≡ widthOf long → world r1 s2 l2 ≡ trigger levels (world (r .core) s1 l1) (busFault address false false n) → reply (world r1 s2 l2) false 0 ≡ checkedRead (trigger levels) (world m s l) address long
-unfolding checkedRead readOr
-read-now-unserved m s l levels address long b s1 l1 r n s2 l2 r1 h0 h1 h2 h3 h4 h5 = cc
-
-pub jump-whole : (m : Core) (s l : List ℕ) (levels vector : ℕ) (s1 l1 : List ℕ) (r : Core) (n : ℕ) (r1 : Core) (s2 l2 : List ℕ) (r2 : Reply) (r3 : Core) (s3 l3 : List ℕ) (r4 r5 : Core) (s4 l4 : List ℕ) (r6 : Core) → world r s1 l1 ≡ release (world m s l) → n ≡ vectorAddress (r .cpu) vector → r1 ≡ putCpu r (startVector (r .cpu) vector) → reply (world (r2 .core) s2 l2) (r2 .ok) (r2 .value) ≡ guardRead (trigger levels) (world r1 s1 l1) n true → r3 ≡ putCpu (r2 .core) (setPc ((r2 .core) .cpu) (r2 .value)) → world r4 s3 l3 ≡ prefetchFirst (trigger levels) (world r3 s2 l2) → r5 ≡ putCpu r4 (internalCycles (r4 .cpu) 2) → world r6 s4 l4 ≡ prefetchSecond (trigger levels) (world r5 s3 l3) → world r6 s4 l4 ≡ jumpVector (trigger levels) (world m s l) vector
+pub jump-vector-way : (m : Core) (s l : List ℕ) (levels vector : ℕ) (s1 l1 : List ℕ) (r : Core) (n : ℕ) (r1 : Cpu) (r2 : Core) (s2 l2 : List ℕ) (r3 : Reply) (r4 : Cpu) (r5 : Core) (s3 l3 : List ℕ) (r6 : Core) (r7 : Cpu) (r8 : Core) (s4 l4 : List ℕ) (r9 : Core) → world r s1 l1 ≡ release (world m s l) → n ≡ vectorAddress (r .cpu) vector → r1 ≡ startVector (r .cpu) vector → r2 ≡ putCpu r r1 → reply (world (r3 .core) s2 l2) (r3 .ok) (r3 .value) ≡ readAt (trigger levels) (world r2 s1 l1) n true → r4 ≡ setPc (r3 .core .cpu) (r3 .value) → r5 ≡ putCpu (r3 .core) r4 → world r6 s3 l3 ≡ prefetchFirst (trigger levels) (world r5 s2 l2) → r7 ≡ internalCycles (r6 .cpu) 2 → r8 ≡ putCpu r6 r7 → world r9 s4 l4 ≡ prefetchSecond (trigger levels) (world r8 s3 l3) → world r9 s4 l4 ≡ jumpVector (trigger levels) (world m s l) vector
 unfolding jumpVector jumpTo vectorRead refill
-jump-whole m s l levels vector s1 l1 r n r1 s2 l2 r2 r3 s3 l3 r4 r5 s4 l4 r6 h0 h1 h2 h3 h4 h5 h6 h7 = cc
+jump-vector-way m s l levels vector s1 l1 r n r1 r2 s2 l2 r3 r4 r5 s3 l3 r6 r7 r8 s4 l4 r9 h0 h1 h2 h3 h4 h5 h6 h7 h8 h9 h10 = cc
 
-pub fetch-at-served : (m : Core) (s l : List ℕ) (levels address : ℕ) (s1 l1 : List ℕ) (r : Core) (n : ℕ) (s2 l2 : List ℕ) (r1 : Reply) → world r s1 l1 ≡ flush (world m s l) → n ≡ addressOf (r .cpu) address → reply (world (r1 .core) s2 l2) (r1 .ok) (r1 .value) ≡ tryRead (world r s1 l1) n false → r1 .ok ≡ true → reply (world (r1 .core) s2 l2) (r1 .ok) (r1 .value) ≡ prefetchRead (trigger levels) (world m s l) address
+pub prefetch-read-way : (m : Core) (s l : List ℕ) (levels address : ℕ) (s1 l1 : List ℕ) (r : Core) (n : ℕ) (s2 l2 : List ℕ) (r1 : Reply) → world r s1 l1 ≡ flush (world m s l) → n ≡ addressOf (r .cpu) address → reply (world (r1 .core) s2 l2) (r1 .ok) (r1 .value) ≡ tryRead (world r s1 l1) n false → r1 .ok ≡ true → reply (world (r1 .core) s2 l2) (r1 .ok) (r1 .value) ≡ prefetchRead (trigger levels) (world m s l) address
 unfolding prefetchRead readOr
-fetch-at-served m s l levels address s1 l1 r n s2 l2 r1 h0 h1 h2 h3 = cc
+prefetch-read-way m s l levels address s1 l1 r n s2 l2 r1 h0 h1 h2 h3 = cc
 
-pub fetch-at-unserved : (m : Core) (s l : List ℕ) (levels address : ℕ) (s1 l1 : List ℕ) (r : Core) (n : ℕ) (s2 l2 : List ℕ) (r1 : Reply) (s3 l3 : List ℕ) (r2 : Core) → world r s1 l1 ≡ flush (world m s l) → n ≡ addressOf (r .cpu) address → reply (world (r1 .core) s2 l2) (r1 .ok) (r1 .value) ≡ tryRead (world r s1 l1) n false → r1 .ok ≡ false → world r2 s3 l3 ≡ trigger levels (world (r1 .core) s2 l2) (busFault n false true 2) → reply (world r2 s3 l3) false 0 ≡ prefetchRead (trigger levels) (world m s l) address
+pub prefetch-read-way-2 : (m : Core) (s l : List ℕ) (levels address : ℕ) (s1 l1 : List ℕ) (r : Core) (n : ℕ) (s2 l2 : List ℕ) (r1 : Reply) (s3 l3 : List ℕ) (r2 : Core) → world r s1 l1 ≡ flush (world m s l) → n ≡ addressOf (r .cpu) address → reply (world (r1 .core) s2 l2) (r1 .ok) (r1 .value) ≡ tryRead (world r s1 l1) n false → r1 .ok ≡ false → world r2 s3 l3 ≡ trigger levels (world (r1 .core) s2 l2) (busError n false true 2) → reply (world r2 s3 l3) false 0 ≡ prefetchRead (trigger levels) (world m s l) address
 unfolding prefetchRead readOr
-fetch-at-unserved m s l levels address s1 l1 r n s2 l2 r1 s3 l3 r2 h0 h1 h2 h3 h4 = cc
+prefetch-read-way-2 m s l levels address s1 l1 r n s2 l2 r1 s3 l3 r2 h0 h1 h2 h3 h4 = cc
 
-pub fetch-one-odd-pc : (m : Core) (s l : List ℕ) (levels : ℕ) (b : Bool) (r : Core) (b1 : Bool) → b ≡ prefetchEnabled (m .cpu) → b ≡ true → r ≡ putCpu m (clearPrefetch (m .cpu)) → b1 ≡ oddPc (r .cpu) → b1 ≡ true → world r s l ≡ prefetchFirst (trigger levels) (world m s l)
+pub prefetch-first-way : (m : Core) (s l : List ℕ) (levels : ℕ) (b : Bool) (r : Cpu) (r1 : Core) (b1 : Bool) → b ≡ prefetchEnabled (m .cpu) → b ≡ true → r ≡ clearPrefetch (m .cpu) → r1 ≡ putCpu m r → b1 ≡ oddPc (r1 .cpu) → b1 ≡ true → world r1 s l ≡ prefetchFirst (trigger levels) (world m s l)
 unfolding prefetchFirst firstFrom keptFirst
-fetch-one-odd-pc m s l levels b r b1 h0 h1 h2 h3 h4 = cc
+prefetch-first-way m s l levels b r r1 b1 h0 h1 h2 h3 h4 h5 = cc
 
-pub fetch-one-served : (m : Core) (s l : List ℕ) (levels : ℕ) (b : Bool) (r : Core) (b1 : Bool) (n : ℕ) (s1 l1 : List ℕ) (r1 : Reply) (r2 : Core) → b ≡ prefetchEnabled (m .cpu) → b ≡ true → r ≡ putCpu m (clearPrefetch (m .cpu)) → b1 ≡ oddPc (r .cpu) → b1 ≡ false → n ≡ pcOf (r .cpu) → reply (world (r1 .core) s1 l1) (r1 .ok) (r1 .value) ≡ prefetchRead (trigger levels) (world r s l) n → r1 .ok ≡ true → r2 ≡ putCpu (r1 .core) (firstWord ((r1 .core) .cpu) ((r1 .value) % 65536)) → world r2 s1 l1 ≡ prefetchFirst (trigger levels) (world m s l)
+pub prefetch-first-way-2 : (m : Core) (s l : List ℕ) (levels : ℕ) (b : Bool) (r : Cpu) (r1 : Core) (b1 : Bool) (n : ℕ) (s1 l1 : List ℕ) (r2 : Reply) (n1 : ℕ) (r3 : Cpu) (r4 : Core) → b ≡ prefetchEnabled (m .cpu) → b ≡ true → r ≡ clearPrefetch (m .cpu) → r1 ≡ putCpu m r → b1 ≡ oddPc (r1 .cpu) → b1 ≡ false → n ≡ pcOf (r1 .cpu) → reply (world (r2 .core) s1 l1) (r2 .ok) (r2 .value) ≡ prefetchRead (trigger levels) (world r1 s l) n → r2 .ok ≡ true → n1 ≡ (r2 .value) % 0x10000 → r3 ≡ firstWord (r2 .core .cpu) n1 → r4 ≡ putCpu (r2 .core) r3 → world r4 s1 l1 ≡ prefetchFirst (trigger levels) (world m s l)
 unfolding prefetchFirst firstFrom keptFirst
-fetch-one-served m s l levels b r b1 n s1 l1 r1 r2 h0 h1 h2 h3 h4 h5 h6 h7 h8 = cc
+prefetch-first-way-2 m s l levels b r r1 b1 n s1 l1 r2 n1 r3 r4 h0 h1 h2 h3 h4 h5 h6 h7 h8 h9 h10 h11 = cc
 
-pub fetch-one-unserved : (m : Core) (s l : List ℕ) (levels : ℕ) (b : Bool) (r : Core) (b1 : Bool) (n : ℕ) (s1 l1 : List ℕ) (r1 : Reply) → b ≡ prefetchEnabled (m .cpu) → b ≡ true → r ≡ putCpu m (clearPrefetch (m .cpu)) → b1 ≡ oddPc (r .cpu) → b1 ≡ false → n ≡ pcOf (r .cpu) → reply (world (r1 .core) s1 l1) (r1 .ok) (r1 .value) ≡ prefetchRead (trigger levels) (world r s l) n → r1 .ok ≡ false → world (r1 .core) s1 l1 ≡ prefetchFirst (trigger levels) (world m s l)
+pub prefetch-first-way-3 : (m : Core) (s l : List ℕ) (levels : ℕ) (b : Bool) (r : Cpu) (r1 : Core) (b1 : Bool) (n : ℕ) (s1 l1 : List ℕ) (r2 : Reply) → b ≡ prefetchEnabled (m .cpu) → b ≡ true → r ≡ clearPrefetch (m .cpu) → r1 ≡ putCpu m r → b1 ≡ oddPc (r1 .cpu) → b1 ≡ false → n ≡ pcOf (r1 .cpu) → reply (world (r2 .core) s1 l1) (r2 .ok) (r2 .value) ≡ prefetchRead (trigger levels) (world r1 s l) n → r2 .ok ≡ false → world (r2 .core) s1 l1 ≡ prefetchFirst (trigger levels) (world m s l)
 unfolding prefetchFirst firstFrom keptFirst
-fetch-one-unserved m s l levels b r b1 n s1 l1 r1 h0 h1 h2 h3 h4 h5 h6 h7 = cc
+prefetch-first-way-3 m s l levels b r r1 b1 n s1 l1 r2 h0 h1 h2 h3 h4 h5 h6 h7 h8 = cc
 
-pub fetch-one-off : (m : Core) (s l : List ℕ) (levels : ℕ) (b : Bool) → b ≡ prefetchEnabled (m .cpu) → b ≡ false → world m s l ≡ prefetchFirst (trigger levels) (world m s l)
+pub prefetch-first-way-4 : (m : Core) (s l : List ℕ) (levels : ℕ) (b : Bool) → b ≡ prefetchEnabled (m .cpu) → b ≡ false → world m s l ≡ prefetchFirst (trigger levels) (world m s l)
 unfolding prefetchFirst firstFrom keptFirst
-fetch-one-off m s l levels b h0 h1 = cc
+prefetch-first-way-4 m s l levels b h0 h1 = cc
 
-pub fetch-two-odd-pc : (m : Core) (s l : List ℕ) (levels : ℕ) (b b1 b2 : Bool) → b ≡ prefetchEnabled (m .cpu) → b ≡ true → b1 ≡ oneFetched (m .cpu) → b1 ≡ true → b2 ≡ oddPc (m .cpu) → b2 ≡ true → world m s l ≡ prefetchSecond (trigger levels) (world m s l)
+pub prefetch-second-way : (m : Core) (s l : List ℕ) (levels : ℕ) (b b1 b2 : Bool) → b ≡ prefetchEnabled (m .cpu) → b ≡ true → b1 ≡ oneFetched (m .cpu) → b1 ≡ true → b2 ≡ oddPc (m .cpu) → b2 ≡ true → world m s l ≡ prefetchSecond (trigger levels) (world m s l)
 unfolding prefetchSecond secondFrom keptSecond
-fetch-two-odd-pc m s l levels b b1 b2 h0 h1 h2 h3 h4 h5 = cc
+prefetch-second-way m s l levels b b1 b2 h0 h1 h2 h3 h4 h5 = cc
 
-pub fetch-two-faulted : (m : Core) (s l : List ℕ) (levels : ℕ) (b b1 b2 b3 : Bool) → b ≡ prefetchEnabled (m .cpu) → b ≡ true → b1 ≡ oneFetched (m .cpu) → b1 ≡ true → b2 ≡ oddPc (m .cpu) → b2 ≡ false → b3 ≡ isFaulted (m .cpu) → b3 ≡ true → world m s l ≡ prefetchSecond (trigger levels) (world m s l)
+pub prefetch-second-way-2 : (m : Core) (s l : List ℕ) (levels : ℕ) (b b1 b2 b3 : Bool) → b ≡ prefetchEnabled (m .cpu) → b ≡ true → b1 ≡ oneFetched (m .cpu) → b1 ≡ true → b2 ≡ oddPc (m .cpu) → b2 ≡ false → b3 ≡ isFaulted (m .cpu) → b3 ≡ true → world m s l ≡ prefetchSecond (trigger levels) (world m s l)
 unfolding prefetchSecond secondFrom keptSecond
-fetch-two-faulted m s l levels b b1 b2 b3 h0 h1 h2 h3 h4 h5 h6 h7 = cc
+prefetch-second-way-2 m s l levels b b1 b2 b3 h0 h1 h2 h3 h4 h5 h6 h7 = cc
 
-pub fetch-two-served : (m : Core) (s l : List ℕ) (levels : ℕ) (b b1 b2 b3 : Bool) (n n1 : ℕ) (s1 l1 : List ℕ) (r : Reply) (r1 : Core) → b ≡ prefetchEnabled (m .cpu) → b ≡ true → b1 ≡ oneFetched (m .cpu) → b1 ≡ true → b2 ≡ oddPc (m .cpu) → b2 ≡ false → b3 ≡ isFaulted (m .cpu) → b3 ≡ false → n ≡ pcOf (m .cpu) → n1 ≡ (n + 2) % 2 ^ 32 → reply (world (r .core) s1 l1) (r .ok) (r .value) ≡ prefetchRead (trigger levels) (world m s l) n1 → r .ok ≡ true → r1 ≡ putCpu (r .core) (secondWord ((r .core) .cpu) ((r .value) % 65536)) → world r1 s1 l1 ≡ prefetchSecond (trigger levels) (world m s l)
+pub prefetch-second-way-3 : (m : Core) (s l : List ℕ) (levels : ℕ) (b b1 b2 b3 : Bool) (n n1 : ℕ) (s1 l1 : List ℕ) (r : Reply) (n2 : ℕ) (r1 : Cpu) (r2 : Core) → b ≡ prefetchEnabled (m .cpu) → b ≡ true → b1 ≡ oneFetched (m .cpu) → b1 ≡ true → b2 ≡ oddPc (m .cpu) → b2 ≡ false → b3 ≡ isFaulted (m .cpu) → b3 ≡ false → n ≡ pcOf (m .cpu) → n1 ≡ (n + 2) % 2 ^ 32 → reply (world (r .core) s1 l1) (r .ok) (r .value) ≡ prefetchRead (trigger levels) (world m s l) n1 → r .ok ≡ true → n2 ≡ (r .value) % 0x10000 → r1 ≡ secondWord (r .core .cpu) n2 → r2 ≡ putCpu (r .core) r1 → world r2 s1 l1 ≡ prefetchSecond (trigger levels) (world m s l)
 unfolding prefetchSecond secondFrom keptSecond
-fetch-two-served m s l levels b b1 b2 b3 n n1 s1 l1 r r1 h0 h1 h2 h3 h4 h5 h6 h7 h8 h9 h10 h11 h12 = cc
+prefetch-second-way-3 m s l levels b b1 b2 b3 n n1 s1 l1 r n2 r1 r2 h0 h1 h2 h3 h4 h5 h6 h7 h8 h9 h10 h11 h12 h13 h14 = cc
 
-pub fetch-two-unserved : (m : Core) (s l : List ℕ) (levels : ℕ) (b b1 b2 b3 : Bool) (n n1 : ℕ) (s1 l1 : List ℕ) (r : Reply) → b ≡ prefetchEnabled (m .cpu) → b ≡ true → b1 ≡ oneFetched (m .cpu) → b1 ≡ true → b2 ≡ oddPc (m .cpu) → b2 ≡ false → b3 ≡ isFaulted (m .cpu) → b3 ≡ false → n ≡ pcOf (m .cpu) → n1 ≡ (n + 2) % 2 ^ 32 → reply (world (r .core) s1 l1) (r .ok) (r .value) ≡ prefetchRead (trigger levels) (world m s l) n1 → r .ok ≡ false → world (r .core) s1 l1 ≡ prefetchSecond (trigger levels) (world m s l)
+pub prefetch-second-way-4 : (m : Core) (s l : List ℕ) (levels : ℕ) (b b1 b2 b3 : Bool) (n n1 : ℕ) (s1 l1 : List ℕ) (r : Reply) → b ≡ prefetchEnabled (m .cpu) → b ≡ true → b1 ≡ oneFetched (m .cpu) → b1 ≡ true → b2 ≡ oddPc (m .cpu) → b2 ≡ false → b3 ≡ isFaulted (m .cpu) → b3 ≡ false → n ≡ pcOf (m .cpu) → n1 ≡ (n + 2) % 2 ^ 32 → reply (world (r .core) s1 l1) (r .ok) (r .value) ≡ prefetchRead (trigger levels) (world m s l) n1 → r .ok ≡ false → world (r .core) s1 l1 ≡ prefetchSecond (trigger levels) (world m s l)
 unfolding prefetchSecond secondFrom keptSecond
-fetch-two-unserved m s l levels b b1 b2 b3 n n1 s1 l1 r h0 h1 h2 h3 h4 h5 h6 h7 h8 h9 h10 h11 = cc
+prefetch-second-way-4 m s l levels b b1 b2 b3 n n1 s1 l1 r h0 h1 h2 h3 h4 h5 h6 h7 h8 h9 h10 h11 = cc
 
-pub fetch-two-not-one : (m : Core) (s l : List ℕ) (levels : ℕ) (b b1 : Bool) → b ≡ prefetchEnabled (m .cpu) → b ≡ true → b1 ≡ oneFetched (m .cpu) → b1 ≡ false → world m s l ≡ prefetchSecond (trigger levels) (world m s l)
+pub prefetch-second-way-5 : (m : Core) (s l : List ℕ) (levels : ℕ) (b b1 : Bool) → b ≡ prefetchEnabled (m .cpu) → b ≡ true → b1 ≡ oneFetched (m .cpu) → b1 ≡ false → world m s l ≡ prefetchSecond (trigger levels) (world m s l)
 unfolding prefetchSecond secondFrom keptSecond
-fetch-two-not-one m s l levels b b1 h0 h1 h2 h3 = cc
+prefetch-second-way-5 m s l levels b b1 h0 h1 h2 h3 = cc
 
-pub fetch-two-off : (m : Core) (s l : List ℕ) (levels : ℕ) (b : Bool) → b ≡ prefetchEnabled (m .cpu) → b ≡ false → world m s l ≡ prefetchSecond (trigger levels) (world m s l)
+pub prefetch-second-way-6 : (m : Core) (s l : List ℕ) (levels : ℕ) (b : Bool) → b ≡ prefetchEnabled (m .cpu) → b ≡ false → world m s l ≡ prefetchSecond (trigger levels) (world m s l)
 unfolding prefetchSecond secondFrom keptSecond
-fetch-two-off m s l levels b h0 h1 = cc
+prefetch-second-way-6 m s l levels b h0 h1 = cc

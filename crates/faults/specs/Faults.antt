@@ -16,8 +16,8 @@ use Rattle.steps.specs.Steps.{refusesOdd, vectorAddress, beginBus, beginAddress
 
 -- what is raised: a bus error (address, write, instruction, size) or an address error (address, write, instruction)
 pub data Request : Type 0 where
-  busFault : ℕ → Bool → Bool → ℕ → Request
-  addressFault : ℕ → Bool → Bool → Request
+  busError : ℕ → Bool → Bool → ℕ → Request
+  addressError : ℕ → Bool → Bool → Request
 
 abbrev pub Raise : Type 0
 Raise = World → Request → World
@@ -25,30 +25,33 @@ Raise = World → Request → World
 abbrev pub cpuOf : World → Cpu
 cpuOf w = w .core .cpu
 
--- the record of a world is replaced
+-- the record of a world is replaced, or goes one step
 abbrev pub on : World → Cpu → World
 on w c = world (putCpu (w .core) c) (w .store) (w .log)
 
+abbrev pub step : (Cpu → Cpu) → World → World
+step f w = on w (f (cpuOf w))
+
 -- `prefetch_read`: sync first, then one program word; a fault is an instruction fault of 2 bytes
 unfoldable pub readOr : Raise → ℕ → Bool → ℕ → Attempt → Attempt
-readOr t a instruction z x = pick (x .ok) x (reply (t (x .after) (busFault a false instruction z)) false 0)
+readOr t a instruction z x = pick (x .ok) x (reply (t (x .after) (busError a false instruction z)) false 0)
 
 unfoldable pub prefetchRead : Raise → World → ℕ → Attempt
 prefetchRead t w a = readOr t (addressOf (cpuOf (flush w)) a) true 2 (tryRead (flush w) (addressOf (cpuOf (flush w)) a) false)
 
 -- `prefetch_first`: the queue is emptied; an odd PC leaves it so
 unfoldable pub keptFirst : Attempt → World
-keptFirst x = pick (x .ok) (on (x .after) (firstWord (cpuOf (x .after)) (x .value % 65536))) (x .after)
+keptFirst x = pick (x .ok) (step (λ c. firstWord c (x .value % 0x10000)) (x .after)) (x .after)
 
 unfoldable pub firstFrom : Raise → World → World
 firstFrom t w = pick (oddPc (cpuOf w)) w (keptFirst (prefetchRead t w (pcOf (cpuOf w))))
 
 unfoldable pub prefetchFirst : Raise → World → World
-prefetchFirst t w = pick (prefetchEnabled (cpuOf w)) (firstFrom t (on w (clearPrefetch (cpuOf w)))) w
+prefetchFirst t w = pick (prefetchEnabled (cpuOf w)) (firstFrom t (step clearPrefetch w)) w
 
 -- `prefetch_second`: after the first word, unless PC is odd or the record is faulted
 unfoldable pub keptSecond : Attempt → World
-keptSecond x = pick (x .ok) (on (x .after) (secondWord (cpuOf (x .after)) (x .value % 65536))) (x .after)
+keptSecond x = pick (x .ok) (step (λ c. secondWord c (x .value % 0x10000)) (x .after)) (x .after)
 
 unfoldable pub secondFrom : Raise → World → World
 secondFrom t w = pick (oddPc (cpuOf w)) w (pick (isFaulted (cpuOf w)) w (keptSecond (prefetchRead t w ((pcOf (cpuOf w) + 2) % 2 ^ 32))))
@@ -58,68 +61,68 @@ prefetchSecond t w = pick (prefetchEnabled (cpuOf w)) (pick (oneFetched (cpuOf w
 
 -- `read_16`, `read_32`: nothing while faulted; sync; the masked address; alignment on kinds 1, 2, 10; served, or a bus error
 unfoldable pub checkedRead : Raise → World → ℕ → Bool → Attempt
-checkedRead t w a long = pick (refusesOdd (cpuOf w) a) (reply (t w (addressFault a false false)) false 0) (readOr t a false (widthOf long) (tryRead w a long))
+checkedRead t w a long = pick (refusesOdd (cpuOf w) a) (reply (t w (addressError a false false)) false 0) (readOr t a false (widthOf long) (tryRead w a long))
 
-unfoldable pub guardRead : Raise → World → ℕ → Bool → Attempt
-guardRead t w a long = pick (isFaulted (cpuOf w)) (reply w false 0) (checkedRead t (flush w) (addressOf (cpuOf (flush w)) a) long)
+unfoldable pub readAt : Raise → World → ℕ → Bool → Attempt
+readAt t w a long = pick (isFaulted (cpuOf w)) (reply w false 0) (checkedRead t (flush w) (addressOf (cpuOf (flush w)) a) long)
 
 -- `write_16`, `write_32`: the same, with the data kept before the access is tried
 unfoldable pub wrote : Raise → ℕ → Bool → Attempt → World
-wrote t a long x = pick (x .ok) (x .after) (t (x .after) (busFault a true false (widthOf long)))
+wrote t a long x = pick (x .ok) (x .after) (t (x .after) (busError a true false (widthOf long)))
 
 unfoldable pub checkedWrite : Raise → World → ℕ → Bool → ℕ → World
 checkedWrite t w a long v =
-    pick (refusesOdd (cpuOf w) a) (t w (addressFault a true false)) (wrote t a long (tryWrite (on w (setWdata (cpuOf w) v)) a long v))
+    pick (refusesOdd (cpuOf w) a) (t w (addressError a true false)) (wrote t a long (tryWrite (step (λ c. setWdata c v) w) a long v))
 
-unfoldable pub guardWrite : Raise → World → ℕ → Bool → ℕ → World
-guardWrite t w a long v = pick (isFaulted (cpuOf w)) w (checkedWrite t (flush w) (addressOf (cpuOf (flush w)) a) long v)
+unfoldable pub writeAt : Raise → World → ℕ → Bool → ℕ → World
+writeAt t w a long v = pick (isFaulted (cpuOf w)) w (checkedWrite t (flush w) (addressOf (cpuOf (flush w)) a) long v)
 
 -- one field of a frame: A7 is lowered, then the field is only counted, written raw, or written guarded
 unfoldable pub stackField : Raise → World → Field → World
 stackField t w f =
     pick (isCounted f) w
     (pick (isRaw f) (rawWrite w (addressOf (cpuOf w) (a7Of (cpuOf w))) (f .long) (f .value))
-    (guardWrite t w (a7Of (cpuOf w)) (f .long) (f .value)))
+    (writeAt t w (a7Of (cpuOf w)) (f .long) (f .value)))
 
-unfoldable pub pushed : Raise → World → Field → World
-pushed t w f = stackField t (on w (lowerA7 (cpuOf w) (widthOf (f .long)))) f
+unfoldable pub pushField : Raise → World → Field → World
+pushField t w f = stackField t (step (λ c. lowerA7 c (widthOf (f .long))) w) f
 
 -- the first k fields of a frame, from the last of them down to the first
 unfoldable pub pushFields : Raise → World → Frame → ℕ → World
 pushFields t w f zero = w
-pushFields t w f (suc k) = pushFields t (pushed t w (fieldAt f k)) f k
+pushFields t w f (suc k) = pushFields t (pushField t w (fieldAt f k)) f k
 
 -- `push_exception_frame_68000`: A7 is lowered once, then PC low, the status and PC high are written
 unfoldable pub shortWrites : Raise → World → ℕ → ℕ → ℕ → World
-shortWrites t w sp pc sr = guardWrite t (guardWrite t (guardWrite t w ((sp + 4) % 2 ^ 32) false (pc % 65536)) sp false sr) ((sp + 2) % 2 ^ 32) false (pc / 65536)
+shortWrites t w sp pc sr = writeAt t (writeAt t (writeAt t w ((sp + 4) % 2 ^ 32) false (pc % 0x10000)) sp false sr) ((sp + 2) % 2 ^ 32) false (pc / 0x10000)
 
-unfoldable pub pushShort : Raise → World → ℕ → ℕ → World
-pushShort t w pc sr = shortWrites t (on w (lowerA7 (cpuOf w) 6)) (a7Of (cpuOf (on w (lowerA7 (cpuOf w) 6)))) pc sr
+unfoldable pub pushExceptionFrame68000 : Raise → World → ℕ → ℕ → World
+pushExceptionFrame68000 t w pc sr = shortWrites t (step (λ c. lowerA7 c 6) w) (a7Of (cpuOf (step (λ c. lowerA7 c 6) w))) pc sr
 
 -- `jump_vector`: release, the vector kept, its address read, the queue refilled with 2 clocks between
 unfoldable pub vectorRead : Raise → World → ℕ → Attempt
-vectorRead t w v = guardRead t (on w (startVector (cpuOf w) v)) (vectorAddress (cpuOf w) v) true
+vectorRead t w v = readAt t (step (λ c. startVector c v) w) (vectorAddress (cpuOf w) v) true
 
 unfoldable pub refill : Raise → World → World
 refill t w = prefetchSecond t (on (prefetchFirst t w) (internalCycles (cpuOf (prefetchFirst t w)) 2))
 
 unfoldable pub jumpTo : Raise → Attempt → World
-jumpTo t x = refill t (on (x .after) (setPc (cpuOf (x .after)) (x .value)))
+jumpTo t x = refill t (step (λ c. setPc c (x .value)) (x .after))
 
 unfoldable pub jumpVector : Raise → World → ℕ → World
 jumpVector t w v = jumpTo t (vectorRead t (release w) v)
 
 -- `exception_address_error` and `exception_bus_error`: the frame of the record as it was, on the supervisor stack, and the jump
-unfoldable pub stacked : Raise → World → Frame → World
-stacked t w f = pushFields t w f (f .count)
+unfoldable pub pushFrame : Raise → World → Frame → World
+pushFrame t w f = pushFields t w f (f .count)
 
-unfoldable pub entryAddress : Raise → World → ℕ → Bool → Bool → World
-entryAddress t w a write instruction =
-    jumpVector t (stacked t (on w (enterSupervisor (cpuOf w))) (addressFrame (cpuOf w) a write instruction)) 3
+unfoldable pub exceptionAddressError : Raise → World → ℕ → Bool → Bool → World
+exceptionAddressError t w a write instruction =
+    jumpVector t (pushFrame t (step enterSupervisor w) (addressFrame (cpuOf w) a write instruction)) 3
 
-unfoldable pub entryBus : Raise → World → ℕ → Bool → Bool → ℕ → ℕ → World
-entryBus t w a write instruction z cause =
-    jumpVector t (stacked t (on w (enterBusError (cpuOf w))) (busFrame (cpuOf w) a write instruction z cause)) 2
+unfoldable pub exceptionBusError : Raise → World → ℕ → Bool → Bool → ℕ → ℕ → World
+exceptionBusError t w a write instruction z cause =
+    jumpVector t (pushFrame t (step enterBusError w) (busFrame (cpuOf w) a write instruction z cause)) 2
 
 -- `trigger_bus_error`: nothing while faulted; a halt while an entry is under way; else status and registers as saved, the
 -- entry, and what the end of the instruction needs. `trigger_address_error` has no test of an entry under way.
@@ -128,7 +131,7 @@ abbrev pub closed : World → World
 closed w = on w (keepResume (setException (cpuOf w) false))
 
 abbrev pub ended : World → World
-ended w = on w (keepResume (cpuOf w))
+ended w = step keepResume w
 
 unfoldable pub raiseBus : World → World → World
 raiseBus w x = pick (isFaulted (cpuOf w)) w (pick (inException (cpuOf w)) (on w (halted (cpuOf w))) x)
@@ -137,12 +140,12 @@ unfoldable pub raiseAddress : World → World → World
 raiseAddress w x = pick (isFaulted (cpuOf w)) w x
 
 unfoldable pub trigger : ℕ → World → Request → World
-trigger zero w (busFault a write instruction z) = raiseBus w (on w (halted (cpuOf w)))
-trigger (suc n) w (busFault a write instruction z) =
-    raiseBus w (closed (entryBus (trigger n) (on w (beginBus (cpuOf w))) a write instruction z (causeNumberOf (cpuOf w))))
-trigger zero w (addressFault a write instruction) = raiseAddress w (on w (halted (cpuOf w)))
-trigger (suc n) w (addressFault a write instruction) =
-    raiseAddress w (ended (entryAddress (trigger n) (on w (beginAddress (cpuOf w))) a write instruction))
+trigger zero w (busError a write instruction z) = raiseBus w (on w (halted (cpuOf w)))
+trigger (suc n) w (busError a write instruction z) =
+    raiseBus w (closed (exceptionBusError (trigger n) (step beginBus w) a write instruction z (causeNumberOf (cpuOf w))))
+trigger zero w (addressError a write instruction) = raiseAddress w (on w (halted (cpuOf w)))
+trigger (suc n) w (addressError a write instruction) =
+    raiseAddress w (ended (exceptionAddressError (trigger n) (step beginAddress w) a write instruction))
 
 -- the levels that the code gives: more change nothing
 abbrev pub raised : Raise
@@ -150,4 +153,4 @@ raised = trigger 2
 
 -- an entry as data: a frame, and the jump to its vector
 unfoldable pub entered : World → Frame → ℕ → World
-entered w f v = jumpVector raised (stacked raised w f) v
+entered w f v = jumpVector raised (pushFrame raised w f) v

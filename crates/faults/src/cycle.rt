@@ -1,5 +1,5 @@
-// The functions that call each other. Only the two triggers lower `levels`. Their names are short since the proof of all of them
-// is one module named after them; the Rust's names stand on the functions of the crate's root.
+// The functions that call each other, by the Rust's names; each says in its contract the definition of the same name. Only the two
+// triggers lower `levels`. A read and a write are of a word or a long: `read_16`, `read_32`, `write_16`, `write_32` of the crate's root.
 use frames::Field;
 use frames::Frame;
 use memory::Core;
@@ -7,10 +7,9 @@ use memory::Reply;
 ghost use mathlib.Core.Path.{_≡_};
 ghost use mathlib.Core.Bool.{true, false};
 ghost use Rattle.memory.specs.World.{world, reply};
-ghost use Rattle.faults.specs.Faults.{trigger, busFault, addressFault, guardRead, checkedRead, guardWrite, checkedWrite, pushed, pushFields, jumpVector, prefetchRead, prefetchFirst, prefetchSecond, entryBus, entryAddress};
+ghost use Rattle.faults.specs.Faults.{trigger, busError, addressError, readAt, writeAt, pushField, pushFields, jumpVector, prefetchRead, prefetchFirst, prefetchSecond, exceptionBusError, exceptionAddressError};
 
-// `trigger_bus_error`.
-pub fn raise_bus(
+pub fn trigger_bus_error(
     m: Core,
     store: &mut [u8],
     log: &mut [u32],
@@ -20,20 +19,20 @@ pub fn raise_bus(
     instruction: bool,
     size: u32,
 ) -> Core
-    ensures { λ r. ⌜ world r (now (store .exit)) (now (log .exit)) ≡ trigger levels (world m (now (store .entry)) (now (log .entry))) (busFault address write instruction size) ⌝ }
+    ensures { λ r. ⌜ world r (now (store .exit)) (now (log .exit)) ≡ trigger levels (world m (now (store .entry)) (now (log .entry))) (busError address write instruction size) ⌝ }
 {
-    if steps::is_faulted(m) {
+    if cpu::fields::faulted(m.cpu) {
         return m;
     }
-    if steps::in_exception(m) {
-        return steps::halt(m);
+    if cpu::fields::in_exception(m.cpu) {
+        return memory::with_cpu(m, cpu::fields::halt(m.cpu));
     }
     if levels == 0 {
-        return steps::halt(m);
+        return memory::with_cpu(m, cpu::fields::halt(m.cpu));
     }
-    let cause = steps::cause(m);
-    let a = steps::begin_bus(m);
-    let b = enter_bus(
+    let cause = cpu::fields::pending_fault_cause(m.cpu);
+    let a = memory::with_cpu(m, steps::begin_bus(m.cpu));
+    let b = exception_bus_error(
         a,
         store,
         log,
@@ -44,11 +43,10 @@ pub fn raise_bus(
         size,
         cause,
     );
-    steps::close_bus(b)
+    memory::with_cpu(b, steps::close_bus(b.cpu))
 }
 
-// `trigger_address_error`.
-pub fn raise_odd(
+pub fn trigger_address_error(
     m: Core,
     store: &mut [u8],
     log: &mut [u32],
@@ -57,21 +55,20 @@ pub fn raise_odd(
     write: bool,
     instruction: bool,
 ) -> Core
-    ensures { λ r. ⌜ world r (now (store .exit)) (now (log .exit)) ≡ trigger levels (world m (now (store .entry)) (now (log .entry))) (addressFault address write instruction) ⌝ }
+    ensures { λ r. ⌜ world r (now (store .exit)) (now (log .exit)) ≡ trigger levels (world m (now (store .entry)) (now (log .entry))) (addressError address write instruction) ⌝ }
 {
-    if steps::is_faulted(m) {
+    if cpu::fields::faulted(m.cpu) {
         return m;
     }
     if levels == 0 {
-        return steps::halt(m);
+        return memory::with_cpu(m, cpu::fields::halt(m.cpu));
     }
-    let a = steps::begin_address(m);
-    let b = enter_odd(a, store, log, levels - 1, address, write, instruction);
-    steps::close_address(b)
+    let a = memory::with_cpu(m, steps::begin_address(m.cpu));
+    let b = exception_address_error(a, store, log, levels - 1, address, write, instruction);
+    memory::with_cpu(b, status::keep_resume(b.cpu))
 }
 
-// `exception_bus_error`.
-pub fn enter_bus(
+pub fn exception_bus_error(
     m: Core,
     store: &mut [u8],
     log: &mut [u32],
@@ -82,17 +79,16 @@ pub fn enter_bus(
     size: u32,
     cause: u8,
 ) -> Core
-    ensures { λ r. ⌜ world r (now (store .exit)) (now (log .exit)) ≡ entryBus (trigger levels) (world m (now (store .entry)) (now (log .entry))) address write instruction size cause ⌝ }
+    ensures { λ r. ⌜ world r (now (store .exit)) (now (log .exit)) ≡ exceptionBusError (trigger levels) (world m (now (store .entry)) (now (log .entry))) address write instruction size cause ⌝ }
 {
     let f = frames::bus_frame(m.cpu, address, write, instruction, size, cause);
-    let a = steps::bus_error_state(m);
+    let a = memory::with_cpu(m, steps::enter_bus_error(m.cpu));
     let n = frames::count(f);
-    let b = push_all(a, store, log, levels, f, n);
-    jump(b, store, log, levels, 2)
+    let b = push_fields(a, store, log, levels, f, n);
+    jump_vector(b, store, log, levels, 2)
 }
 
-// `exception_address_error`.
-pub fn enter_odd(
+pub fn exception_address_error(
     m: Core,
     store: &mut [u8],
     log: &mut [u32],
@@ -101,39 +97,46 @@ pub fn enter_odd(
     write: bool,
     instruction: bool,
 ) -> Core
-    ensures { λ r. ⌜ world r (now (store .exit)) (now (log .exit)) ≡ entryAddress (trigger levels) (world m (now (store .entry)) (now (log .entry))) address write instruction ⌝ }
+    ensures { λ r. ⌜ world r (now (store .exit)) (now (log .exit)) ≡ exceptionAddressError (trigger levels) (world m (now (store .entry)) (now (log .entry))) address write instruction ⌝ }
 {
     let f = frames::address_frame(m.cpu, address, write, instruction);
-    let a = steps::supervisor(m);
+    let a = memory::with_cpu(m, status::banks::enter_supervisor(m.cpu));
     let n = frames::count(f);
-    let b = push_all(a, store, log, levels, f, n);
-    jump(b, store, log, levels, 3)
+    let b = push_fields(a, store, log, levels, f, n);
+    jump_vector(b, store, log, levels, 3)
 }
 
 // The first `left` fields of a frame, from the last of them down to the first.
-pub fn push_all(m: Core, store: &mut [u8], log: &mut [u32], levels: u8, f: Frame, left: u8) -> Core
+pub fn push_fields(
+    m: Core,
+    store: &mut [u8],
+    log: &mut [u32],
+    levels: u8,
+    f: Frame,
+    left: u8,
+) -> Core
     ensures { λ r. ⌜ world r (now (store .exit)) (now (log .exit)) ≡ pushFields (trigger levels) (world m (now (store .entry)) (now (log .entry))) f left ⌝ }
 {
     if left == 0 {
         return m;
     }
     let x = frames::field_at(f, left - 1);
-    let a = push(m, store, log, levels, x);
-    push_all(a, store, log, levels, f, left - 1)
+    let a = push_field(m, store, log, levels, x);
+    push_fields(a, store, log, levels, f, left - 1)
 }
 
 // One field: A7 is lowered, then the field is only counted, written raw, or written guarded.
-pub fn push(m: Core, store: &mut [u8], log: &mut [u32], levels: u8, f: Field) -> Core
-    ensures { λ r. ⌜ world r (now (store .exit)) (now (log .exit)) ≡ pushed (trigger levels) (world m (now (store .entry)) (now (log .entry))) f ⌝ }
+pub fn push_field(m: Core, store: &mut [u8], log: &mut [u32], levels: u8, f: Field) -> Core
+    ensures { λ r. ⌜ world r (now (store .exit)) (now (log .exit)) ≡ pushField (trigger levels) (world m (now (store .entry)) (now (log .entry))) f ⌝ }
 {
     let n = memory::width(f.long);
-    let a = steps::lower(m, n);
+    let a = memory::with_cpu(m, cpu::fields::lower_a7(m.cpu, n));
     if steps::is_counted(f) {
         return a;
     }
-    let at = steps::top(a);
+    let at = cpu::fields::a7(a.cpu);
     if steps::is_raw(f) {
-        let p = steps::masked(a, at);
+        let p = cpu::fields::address(a.cpu, at);
         return memory::raw_write(a, store, log, p, f.long, f.value);
     }
     write_at(a, store, log, levels, at, f.long, f.value)
@@ -149,39 +152,24 @@ pub fn write_at(
     long: bool,
     value: u32,
 ) -> Core
-    ensures { λ r. ⌜ world r (now (store .exit)) (now (log .exit)) ≡ guardWrite (trigger levels) (world m (now (store .entry)) (now (log .entry))) address long value ⌝ }
+    ensures { λ r. ⌜ world r (now (store .exit)) (now (log .exit)) ≡ writeAt (trigger levels) (world m (now (store .entry)) (now (log .entry))) address long value ⌝ }
 {
-    if steps::is_faulted(m) {
+    if cpu::fields::faulted(m.cpu) {
         return m;
     }
     let a = memory::flush_sync(m, store, log);
-    let at = steps::masked(a, address);
-    write_now(a, store, log, levels, at, long, value)
-}
-
-// A guarded write at a masked address, after the sync.
-pub fn write_now(
-    m: Core,
-    store: &mut [u8],
-    log: &mut [u32],
-    levels: u8,
-    address: u32,
-    long: bool,
-    value: u32,
-) -> Core
-    ensures { λ r. ⌜ world r (now (store .exit)) (now (log .exit)) ≡ checkedWrite (trigger levels) (world m (now (store .entry)) (now (log .entry))) address long value ⌝ }
-{
-    if steps::refuses_odd(m, address) {
-        return raise_odd(m, store, log, levels, address, true, false);
+    let at = cpu::fields::address(a.cpu, address);
+    if steps::refuses_odd(a.cpu, at) {
+        return trigger_address_error(a, store, log, levels, at, true, false);
     }
-    let a = steps::with_wdata(m, value);
-    let r = memory::try_write(a, store, log, address, long, value);
+    let b = memory::with_cpu(a, cpu::fields::set_wdata(a.cpu, value));
+    let r = memory::try_write(b, store, log, at, long, value);
     let d = r.core;
     if r.ok {
         return d;
     }
     let n = memory::width(long);
-    raise_bus(d, store, log, levels, address, true, false, n)
+    trigger_bus_error(d, store, log, levels, at, true, false, n)
 }
 
 // `read_16`, `read_32`.
@@ -193,9 +181,9 @@ pub fn read_at(
     address: u32,
     long: bool,
 ) -> Reply
-    ensures { λ r. ⌜ reply (world (r .core) (now (store .exit)) (now (log .exit))) (r .ok) (r .value) ≡ guardRead (trigger levels) (world m (now (store .entry)) (now (log .entry))) address long ⌝ }
+    ensures { λ r. ⌜ reply (world (r .core) (now (store .exit)) (now (log .exit))) (r .ok) (r .value) ≡ readAt (trigger levels) (world m (now (store .entry)) (now (log .entry))) address long ⌝ }
 {
-    if steps::is_faulted(m) {
+    if cpu::fields::faulted(m.cpu) {
         return Reply {
             core: m,
             ok: false,
@@ -203,36 +191,22 @@ pub fn read_at(
         };
     }
     let a = memory::flush_sync(m, store, log);
-    let at = steps::masked(a, address);
-    read_now(a, store, log, levels, at, long)
-}
-
-// A guarded read at a masked address, after the sync.
-pub fn read_now(
-    m: Core,
-    store: &mut [u8],
-    log: &mut [u32],
-    levels: u8,
-    address: u32,
-    long: bool,
-) -> Reply
-    ensures { λ r. ⌜ reply (world (r .core) (now (store .exit)) (now (log .exit))) (r .ok) (r .value) ≡ checkedRead (trigger levels) (world m (now (store .entry)) (now (log .entry))) address long ⌝ }
-{
-    if steps::refuses_odd(m, address) {
-        let e = raise_odd(m, store, log, levels, address, false, false);
+    let at = cpu::fields::address(a.cpu, address);
+    if steps::refuses_odd(a.cpu, at) {
+        let e = trigger_address_error(a, store, log, levels, at, false, false);
         return Reply {
             core: e,
             ok: false,
             value: 0,
         };
     }
-    let r = memory::try_read(m, store, log, address, long);
+    let r = memory::try_read(a, store, log, at, long);
     if r.ok {
         return r;
     }
     let d = r.core;
     let n = memory::width(long);
-    let e = raise_bus(d, store, log, levels, address, false, false, n);
+    let e = trigger_bus_error(d, store, log, levels, at, false, false, n);
     Reply {
         core: e,
         ok: false,
@@ -240,33 +214,31 @@ pub fn read_now(
     }
 }
 
-// `jump_vector`.
-pub fn jump(m: Core, store: &mut [u8], log: &mut [u32], levels: u8, vector: u32) -> Core
+pub fn jump_vector(m: Core, store: &mut [u8], log: &mut [u32], levels: u8, vector: u32) -> Core
     ensures { λ r. ⌜ world r (now (store .exit)) (now (log .exit)) ≡ jumpVector (trigger levels) (world m (now (store .entry)) (now (log .entry))) vector ⌝ }
 {
     let a = memory::release_sample(m, store, log);
-    let at = steps::vector_address(a, vector);
-    let b = steps::start_vector(a, vector);
+    let at = steps::vector_address(a.cpu, vector);
+    let b = memory::with_cpu(a, cpu::fields::start_vector(a.cpu, vector));
     let r = read_at(b, store, log, levels, at, true);
     let d = r.core;
-    let e = steps::with_pc(d, r.value);
-    let g = fetch_one(e, store, log, levels);
-    let h = steps::internal_cycles(g, 2);
-    fetch_two(h, store, log, levels)
+    let e = memory::with_cpu(d, cpu::fields::set_pc(d.cpu, r.value));
+    let g = prefetch_first(e, store, log, levels);
+    let h = memory::with_cpu(g, cpu::clocks::internal_cycles(g.cpu, 2));
+    prefetch_second(h, store, log, levels)
 }
 
-// `prefetch_read`.
-pub fn fetch_at(m: Core, store: &mut [u8], log: &mut [u32], levels: u8, address: u32) -> Reply
+pub fn prefetch_read(m: Core, store: &mut [u8], log: &mut [u32], levels: u8, address: u32) -> Reply
     ensures { λ r. ⌜ reply (world (r .core) (now (store .exit)) (now (log .exit))) (r .ok) (r .value) ≡ prefetchRead (trigger levels) (world m (now (store .entry)) (now (log .entry))) address ⌝ }
 {
     let a = memory::flush_sync(m, store, log);
-    let at = steps::masked(a, address);
+    let at = cpu::fields::address(a.cpu, address);
     let r = memory::try_read(a, store, log, at, false);
     if r.ok {
         return r;
     }
     let d = r.core;
-    let e = raise_bus(d, store, log, levels, at, false, true, 2);
+    let e = trigger_bus_error(d, store, log, levels, at, false, true, 2);
     Reply {
         core: e,
         ok: false,
@@ -274,43 +246,44 @@ pub fn fetch_at(m: Core, store: &mut [u8], log: &mut [u32], levels: u8, address:
     }
 }
 
-// `prefetch_first`.
-pub fn fetch_one(m: Core, store: &mut [u8], log: &mut [u32], levels: u8) -> Core
+pub fn prefetch_first(m: Core, store: &mut [u8], log: &mut [u32], levels: u8) -> Core
     ensures { λ r. ⌜ world r (now (store .exit)) (now (log .exit)) ≡ prefetchFirst (trigger levels) (world m (now (store .entry)) (now (log .entry))) ⌝ }
 {
-    if steps::fetches(m) {
-        let a = steps::drop_queue(m);
-        if steps::odd_pc(a) {
+    if cpu::clocks::prefetch_enabled(m.cpu) {
+        let a = memory::with_cpu(m, cpu::clocks::clear_prefetch(m.cpu));
+        if cpu::fields::odd_pc(a.cpu) {
             return a;
         }
-        let p = steps::pc(a);
-        let r = fetch_at(a, store, log, levels, p);
+        let p = cpu::fields::pc(a.cpu);
+        let r = prefetch_read(a, store, log, levels, p);
         let d = r.core;
         if r.ok {
-            return steps::first_word(d, r.value);
+            return memory::with_cpu(d, cpu::clocks::first_word(d.cpu, steps::low_word(r.value)));
         }
         return d;
     }
     m
 }
 
-// `prefetch_second`.
-pub fn fetch_two(m: Core, store: &mut [u8], log: &mut [u32], levels: u8) -> Core
+pub fn prefetch_second(m: Core, store: &mut [u8], log: &mut [u32], levels: u8) -> Core
     ensures { λ r. ⌜ world r (now (store .exit)) (now (log .exit)) ≡ prefetchSecond (trigger levels) (world m (now (store .entry)) (now (log .entry))) ⌝ }
 {
-    if steps::fetches(m) {
-        if steps::one_fetched(m) {
-            if steps::odd_pc(m) {
+    if cpu::clocks::prefetch_enabled(m.cpu) {
+        if cpu::clocks::one_fetched(m.cpu) {
+            if cpu::fields::odd_pc(m.cpu) {
                 return m;
             }
-            if steps::is_faulted(m) {
+            if cpu::fields::faulted(m.cpu) {
                 return m;
             }
-            let p = std::num::wrapping_add_u32(steps::pc(m), 2);
-            let r = fetch_at(m, store, log, levels, p);
+            let p = std::num::wrapping_add_u32(cpu::fields::pc(m.cpu), 2);
+            let r = prefetch_read(m, store, log, levels, p);
             let d = r.core;
             if r.ok {
-                return steps::second_word(d, r.value);
+                return memory::with_cpu(
+                    d,
+                    cpu::clocks::second_word(d.cpu, steps::low_word(r.value)),
+                );
             }
             return d;
         }

@@ -12,58 +12,58 @@ ghost use mathlib.Core.Path.{_≡_};
 ghost use mathlib.Core.Bool.{true, false};
 ghost use Rattle.memory.specs.World.{world, reply};
 ghost use Rattle.frames.specs.Frames.{word, long};
-ghost use Rattle.faults.specs.Faults.{raised, trigger, busFault, addressFault, guardRead, guardWrite, pushed, stacked, pushShort, jumpVector, prefetchFirst, prefetchSecond, entryBus, entryAddress};
+ghost use Rattle.faults.specs.Faults.{raised, trigger, busError, addressError, readAt, writeAt, pushField, pushFrame, pushExceptionFrame68000, jumpVector, prefetchFirst, prefetchSecond, exceptionBusError, exceptionAddressError};
 
 // A guarded read of a word.
 pub fn read_16(m: Core, store: &mut [u8], log: &mut [u32], a: u32) -> Reply
-    ensures { λ r. ⌜ reply (world (r .core) (now (store .exit)) (now (log .exit))) (r .ok) (r .value) ≡ guardRead raised (world m (now (store .entry)) (now (log .entry))) a false ⌝ }
+    ensures { λ r. ⌜ reply (world (r .core) (now (store .exit)) (now (log .exit))) (r .ok) (r .value) ≡ readAt raised (world m (now (store .entry)) (now (log .entry))) a false ⌝ }
 {
     cycle::read_at(m, store, log, 2, a, false)
 }
 
 // A guarded read of a long.
 pub fn read_32(m: Core, store: &mut [u8], log: &mut [u32], a: u32) -> Reply
-    ensures { λ r. ⌜ reply (world (r .core) (now (store .exit)) (now (log .exit))) (r .ok) (r .value) ≡ guardRead raised (world m (now (store .entry)) (now (log .entry))) a true ⌝ }
+    ensures { λ r. ⌜ reply (world (r .core) (now (store .exit)) (now (log .exit))) (r .ok) (r .value) ≡ readAt raised (world m (now (store .entry)) (now (log .entry))) a true ⌝ }
 {
     cycle::read_at(m, store, log, 2, a, true)
 }
 
 // A guarded write of a word.
 pub fn write_16(m: Core, store: &mut [u8], log: &mut [u32], a: u32, v: u16) -> Core
-    ensures { λ r. ⌜ world r (now (store .exit)) (now (log .exit)) ≡ guardWrite raised (world m (now (store .entry)) (now (log .entry))) a false v ⌝ }
+    ensures { λ r. ⌜ world r (now (store .exit)) (now (log .exit)) ≡ writeAt raised (world m (now (store .entry)) (now (log .entry))) a false v ⌝ }
 {
     cycle::write_at(m, store, log, 2, a, false, v as u32)
 }
 
 // A guarded write of a long.
 pub fn write_32(m: Core, store: &mut [u8], log: &mut [u32], a: u32, v: u32) -> Core
-    ensures { λ r. ⌜ world r (now (store .exit)) (now (log .exit)) ≡ guardWrite raised (world m (now (store .entry)) (now (log .entry))) a true v ⌝ }
+    ensures { λ r. ⌜ world r (now (store .exit)) (now (log .exit)) ≡ writeAt raised (world m (now (store .entry)) (now (log .entry))) a true v ⌝ }
 {
     cycle::write_at(m, store, log, 2, a, true, v)
 }
 
 // A guarded push of a word.
 pub fn push_16(m: Core, store: &mut [u8], log: &mut [u32], v: u16) -> Core
-    ensures { λ r. ⌜ world r (now (store .exit)) (now (log .exit)) ≡ pushed raised (world m (now (store .entry)) (now (log .entry))) (word v) ⌝ }
+    ensures { λ r. ⌜ world r (now (store .exit)) (now (log .exit)) ≡ pushField raised (world m (now (store .entry)) (now (log .entry))) (word v) ⌝ }
 {
     let f = frames::word(v as u32);
-    cycle::push(m, store, log, 2, f)
+    cycle::push_field(m, store, log, 2, f)
 }
 
 // A guarded push of a long.
 pub fn push_32(m: Core, store: &mut [u8], log: &mut [u32], v: u32) -> Core
-    ensures { λ r. ⌜ world r (now (store .exit)) (now (log .exit)) ≡ pushed raised (world m (now (store .entry)) (now (log .entry))) (long v) ⌝ }
+    ensures { λ r. ⌜ world r (now (store .exit)) (now (log .exit)) ≡ pushField raised (world m (now (store .entry)) (now (log .entry))) (long v) ⌝ }
 {
     let f = frames::long(v);
-    cycle::push(m, store, log, 2, f)
+    cycle::push_field(m, store, log, 2, f)
 }
 
 // All fields of a frame.
 pub fn push_frame(m: Core, store: &mut [u8], log: &mut [u32], f: Frame) -> Core
-    ensures { λ r. ⌜ world r (now (store .exit)) (now (log .exit)) ≡ stacked raised (world m (now (store .entry)) (now (log .entry))) f ⌝ }
+    ensures { λ r. ⌜ world r (now (store .exit)) (now (log .exit)) ≡ pushFrame raised (world m (now (store .entry)) (now (log .entry))) f ⌝ }
 {
     let n = frames::count(f);
-    cycle::push_all(m, store, log, 2, f, n)
+    cycle::push_fields(m, store, log, 2, f, n)
 }
 
 // The frame of the 68000: A7 lowered once, then PC low, the status and PC high.
@@ -74,12 +74,12 @@ pub fn push_exception_frame_68000(
     pc: u32,
     sr: u16,
 ) -> Core
-    ensures { λ r. ⌜ world r (now (store .exit)) (now (log .exit)) ≡ pushShort raised (world m (now (store .entry)) (now (log .entry))) pc sr ⌝ }
+    ensures { λ r. ⌜ world r (now (store .exit)) (now (log .exit)) ≡ pushExceptionFrame68000 raised (world m (now (store .entry)) (now (log .entry))) pc sr ⌝ }
 {
-    let a = steps::lower(m, 6);
-    let sp = steps::top(a);
-    let high = pc / 65536;
-    let low = pc % 65536;
+    let a = memory::with_cpu(m, cpu::fields::lower_a7(m.cpu, 6));
+    let sp = cpu::fields::a7(a.cpu);
+    let high = pc / 0x10000;
+    let low = pc % 0x10000;
     let b = cycle::write_at(a, store, log, 2, steps::plus(sp, 4), false, low);
     let d = cycle::write_at(b, store, log, 2, sp, false, sr as u32);
     cycle::write_at(d, store, log, 2, steps::plus(sp, 2), false, high)
@@ -89,21 +89,21 @@ pub fn push_exception_frame_68000(
 pub fn jump_vector(m: Core, store: &mut [u8], log: &mut [u32], vector: u32) -> Core
     ensures { λ r. ⌜ world r (now (store .exit)) (now (log .exit)) ≡ jumpVector raised (world m (now (store .entry)) (now (log .entry))) vector ⌝ }
 {
-    cycle::jump(m, store, log, 2, vector)
+    cycle::jump_vector(m, store, log, 2, vector)
 }
 
 // The first word of the queue.
 pub fn prefetch_first(m: Core, store: &mut [u8], log: &mut [u32]) -> Core
     ensures { λ r. ⌜ world r (now (store .exit)) (now (log .exit)) ≡ prefetchFirst raised (world m (now (store .entry)) (now (log .entry))) ⌝ }
 {
-    cycle::fetch_one(m, store, log, 2)
+    cycle::prefetch_first(m, store, log, 2)
 }
 
 // The second word of the queue.
 pub fn prefetch_second(m: Core, store: &mut [u8], log: &mut [u32]) -> Core
     ensures { λ r. ⌜ world r (now (store .exit)) (now (log .exit)) ≡ prefetchSecond raised (world m (now (store .entry)) (now (log .entry))) ⌝ }
 {
-    cycle::fetch_two(m, store, log, 2)
+    cycle::prefetch_second(m, store, log, 2)
 }
 
 // A bus error that an access of the instruction raises.
@@ -116,9 +116,9 @@ pub fn trigger_bus_error(
     instruction: bool,
     size: u32,
 ) -> Core
-    ensures { λ r. ⌜ world r (now (store .exit)) (now (log .exit)) ≡ raised (world m (now (store .entry)) (now (log .entry))) (busFault address write instruction size) ⌝ }
+    ensures { λ r. ⌜ world r (now (store .exit)) (now (log .exit)) ≡ raised (world m (now (store .entry)) (now (log .entry))) (busError address write instruction size) ⌝ }
 {
-    cycle::raise_bus(m, store, log, 2, address, write, instruction, size)
+    cycle::trigger_bus_error(m, store, log, 2, address, write, instruction, size)
 }
 
 // An address error that an access of the instruction raises.
@@ -130,9 +130,9 @@ pub fn trigger_address_error(
     write: bool,
     instruction: bool,
 ) -> Core
-    ensures { λ r. ⌜ world r (now (store .exit)) (now (log .exit)) ≡ raised (world m (now (store .entry)) (now (log .entry))) (addressFault address write instruction) ⌝ }
+    ensures { λ r. ⌜ world r (now (store .exit)) (now (log .exit)) ≡ raised (world m (now (store .entry)) (now (log .entry))) (addressError address write instruction) ⌝ }
 {
-    cycle::raise_odd(m, store, log, 2, address, write, instruction)
+    cycle::trigger_address_error(m, store, log, 2, address, write, instruction)
 }
 
 // The entry of a bus error.
@@ -146,9 +146,9 @@ pub fn exception_bus_error(
     size: u32,
     cause: u8,
 ) -> Core
-    ensures { λ r. ⌜ world r (now (store .exit)) (now (log .exit)) ≡ entryBus raised (world m (now (store .entry)) (now (log .entry))) address write instruction size cause ⌝ }
+    ensures { λ r. ⌜ world r (now (store .exit)) (now (log .exit)) ≡ exceptionBusError raised (world m (now (store .entry)) (now (log .entry))) address write instruction size cause ⌝ }
 {
-    cycle::enter_bus(m, store, log, 2, address, write, instruction, size, cause)
+    cycle::exception_bus_error(m, store, log, 2, address, write, instruction, size, cause)
 }
 
 // The entry of an address error.
@@ -160,7 +160,7 @@ pub fn exception_address_error(
     write: bool,
     instruction: bool,
 ) -> Core
-    ensures { λ r. ⌜ world r (now (store .exit)) (now (log .exit)) ≡ entryAddress raised (world m (now (store .entry)) (now (log .entry))) address write instruction ⌝ }
+    ensures { λ r. ⌜ world r (now (store .exit)) (now (log .exit)) ≡ exceptionAddressError raised (world m (now (store .entry)) (now (log .entry))) address write instruction ⌝ }
 {
-    cycle::enter_odd(m, store, log, 2, address, write, instruction)
+    cycle::exception_address_error(m, store, log, 2, address, write, instruction)
 }

@@ -31,7 +31,7 @@ unfoldable pub size020 : ℕ → ℕ
 size020 z = pick (eqb z 1) 16 (pick (eqb z 2) 32 (pick (eqb z 3) 48 0))
 
 unfoldable pub ssw020 : ℕ → Bool → Bool → ℕ → ℕ
-ssw020 fc write instruction z = pick instruction (fc + 20480) (fc + 256 + pick write 0 64 + size020 z)
+ssw020 fc write instruction z = pick instruction (fc + 0x5000) (fc + 256 + pick write 0 64 + size020 z)
 
 -- a cause is none, or one of the eight by its number
 unfoldable pub isCause : ℕ → Bool
@@ -51,12 +51,12 @@ wb3s fc write z = pick write (128 + size040 z + fc) 0
 -- 68060: `fslw_060`. The bit of the cause; none and a bus error of the access itself are told by the direction
 unfoldable pub causeBit : ℕ → Bool → ℕ
 causeBit cause write =
-    pick (eqb cause 1) 4096 (pick (eqb cause 2) 2048 (pick (eqb cause 3) 1024 (pick (eqb cause 4) 512
+    pick (eqb cause 1) 0x1000 (pick (eqb cause 2) 2048 (pick (eqb cause 3) 1024 (pick (eqb cause 4) 512
     (pick (eqb cause 5) 128 (pick (eqb cause 6) 256 (pick (eqb cause 7) 64 (pick write 16 32)))))))
 
 unfoldable pub size060 : ℕ → ℕ
-size060 z = pick (eqb z 1) 2097152 (pick (eqb z 2) 4194304 0)
+size060 z = pick (eqb z 1) 0x200000 (pick (eqb z 2) 0x400000 0)
 
 unfoldable pub fslw060 : Bool → Bool → ℕ → ℕ → ℕ → ℕ
 fslw060 write instruction z fc cause =
-    pick write 8388608 16777216 + size060 z + fc % 8 * 65536 + pick instruction 32768 0 + causeBit cause write
+    pick write 0x800000 0x1000000 + size060 z + fc % 8 * 0x10000 + pick instruction 0x8000 0 + causeBit cause write

@@ -52,7 +52,7 @@ frame8 sr ppc format =
 
 -- format 2 of an address error, 12 bytes: the address with A0 cleared
 unfoldable pub frame2 : ℕ → ℕ → ℕ → Frame
-frame2 sr ppc address = framed (rawWord sr ∷ rawLong ppc ∷ rawWord 8204 ∷ rawLong address ∷ [])
+frame2 sr ppc address = framed (rawWord sr ∷ rawLong ppc ∷ rawWord 0x200C ∷ rawLong address ∷ [])
 
 -- format 0 of an address error, 8 bytes
 unfoldable pub frame0 : ℕ → ℕ → Frame
@@ -60,21 +60,21 @@ frame0 sr ppc = framed (rawWord sr ∷ rawLong ppc ∷ rawWord 12 ∷ [])
 
 -- format 4, 16 bytes: fault address and fault status long word
 unfoldable pub frame4 : ℕ → ℕ → ℕ → ℕ → Frame
-frame4 sr ppc address fslw = framed (word sr ∷ long ppc ∷ word 16392 ∷ long address ∷ long fslw ∷ [])
+frame4 sr ppc address fslw = framed (word sr ∷ long ppc ∷ word 0x4008 ∷ long address ∷ long fslw ∷ [])
 
 -- format 7, 60 bytes: effective address, status word, the three write-back statuses, fault address, address and data of the
 -- third write-back; the rest is 0
 unfoldable pub frame7 : ℕ → ℕ → ℕ → ℕ → ℕ → ℕ → ℕ → Frame
 frame7 sr ppc address ssw wb wba wbd =
     framed
-    (word sr ∷ long ppc ∷ word 28680 ∷ long address ∷ word ssw ∷ word wb ∷ word 0 ∷ word 0 ∷ long address ∷ long wba ∷ long wbd
+    (word sr ∷ long ppc ∷ word 0x7008 ∷ long address ∷ word ssw ∷ word wb ∷ word 0 ∷ word 0 ∷ long address ∷ long wba ∷ long wbd
     ∷ long 0 ∷ long 0 ∷ long 0 ∷ long 0 ∷ long 0 ∷ long 0 ∷ long 0 ∷ [])
 
 -- format 11, 92 bytes: special status word, data fault address, data output buffer, stage B address; the rest is 0
 unfoldable pub frame11 : ℕ → ℕ → ℕ → ℕ → ℕ → ℕ → Frame
 frame11 sr ppc ssw fault output stage =
     framed
-    (word sr ∷ long ppc ∷ word 45064 ∷ word 0 ∷ word ssw ∷ word 0 ∷ word 0 ∷ long fault ∷ long 0 ∷ long output ∷ long 0 ∷ long 0
+    (word sr ∷ long ppc ∷ word 0xB008 ∷ word 0 ∷ word ssw ∷ word 0 ∷ word 0 ∷ long fault ∷ long 0 ∷ long output ∷ long 0 ∷ long 0
     ∷ long stage ∷ long 0 ∷ long 0 ∷ word 0 ∷ word 0 ∷ word 0 ∷ word 0
     ∷ long 0 ∷ long 0 ∷ long 0 ∷ long 0 ∷ long 0 ∷ long 0 ∷ long 0 ∷ long 0 ∷ long 0 ∷ [])
 
@@ -85,15 +85,15 @@ writeData c write = pick write (wdataOf c) 0
 -- what `exception_address_error` stacks: kind 1; 2, 10; 7 to 9; 0, 3 to 6, 11
 unfoldable pub addressFrame : Cpu → ℕ → Bool → Bool → Frame
 addressFrame c a write instruction =
-    pick (eqb (kindOf c) 1) (frame68000 (statusOf c) (ppcOf c) (irOf c % 65536) a (statusWord (stateCode c instruction) write instruction))
-    (pick (isPre68020 (kindOf c)) (frame8 (statusOf c) (ppcOf c) 32780)
+    pick (eqb (kindOf c) 1) (frame68000 (statusOf c) (ppcOf c) (irOf c % 0x10000) a (statusWord (stateCode c instruction) write instruction))
+    (pick (isPre68020 (kindOf c)) (frame8 (statusOf c) (ppcOf c) 0x800C)
     (pick (is040 (kindOf c)) (frame2 (statusOf c) (ppcOf c) (a - a % 2)) (frame0 (statusOf c) (ppcOf c))))
 
 -- what `exception_bus_error` stacks: kind 1; 2, 10; 11; 7 to 9; 0, 3 to 6
 unfoldable pub busFrame : Cpu → ℕ → Bool → Bool → ℕ → ℕ → Frame
 busFrame c a write instruction z cause =
-    pick (eqb (kindOf c) 1) (frame68000 (statusOf c) (ppcOf c) (irOf c % 65536) a (statusWord (faultCode c instruction) write instruction))
-    (pick (isPre68020 (kindOf c)) (frame8 (statusOf c) (ppcOf c) 32776)
+    pick (eqb (kindOf c) 1) (frame68000 (statusOf c) (ppcOf c) (irOf c % 0x10000) a (statusWord (faultCode c instruction) write instruction))
+    (pick (isPre68020 (kindOf c)) (frame8 (statusOf c) (ppcOf c) 0x8008)
     (pick (is060 (kindOf c)) (frame4 (statusOf c) (ppcOf c) a (fslw060 write instruction z (faultCode c instruction) cause))
     (pick (is040 (kindOf c)) (frame7 (statusOf c) (ppcOf c) a (ssw040 (faultCode c instruction) write z cause) (wb3s (faultCode c instruction) write z) (pick write a 0) (writeData c write))
     (frame11 (statusOf c) (ppcOf c) (ssw020 (faultCode c instruction) write instruction z) (pick instruction 0 a) (writeData c write) (pick instruction a 0)))))

@@ -92,7 +92,7 @@ pub(crate) fn ssw_020(fc: u32, write: bool, instruction: bool, size: u32) -> u32
     ensures { λ r. ⌜ r ≡ ssw020 fc write instruction size ⌝ }
 {
     if instruction {
-        return fc + 20480;
+        return fc + 0x5000;
     }
     fc + 256 + number_unless(write, 64) + size_020(size)
 }
@@ -132,10 +132,10 @@ pub(crate) fn wb3_status(fc: u32, write: bool, size: u32) -> u32
 }
 
 fn cause_bit(cause: u8, write: bool) -> u32
-    ensures { λ r. ⌜ (r ≡ causeBit cause write) × (r < 8192) ⌝ }
+    ensures { λ r. ⌜ (r ≡ causeBit cause write) × (r < 0x2000) ⌝ }
 {
     if cause == 1 {
-        return 4096;
+        return 0x1000;
     }
     if cause == 2 {
         return 2048;
@@ -162,24 +162,24 @@ fn cause_bit(cause: u8, write: bool) -> u32
 }
 
 fn size_060(size: u32) -> u32
-    ensures { λ r. ⌜ (r ≡ size060 size) × (r < 8388608) ⌝ }
+    ensures { λ r. ⌜ (r ≡ size060 size) × (r < 0x800000) ⌝ }
 {
     if size == 1 {
-        return 2097152;
+        return 0x200000;
     }
     if size == 2 {
-        return 4194304;
+        return 0x400000;
     }
     0
 }
 
 fn direction_060(write: bool) -> u32
-    ensures { λ r. ⌜ (r ≡ pick write 8388608 16777216) × (r < 33554432) ⌝ }
+    ensures { λ r. ⌜ (r ≡ pick write 0x800000 0x1000000) × (r < 33554432) ⌝ }
 {
     if write {
-        return 8388608;
+        return 0x800000;
     }
-    16777216
+    0x1000000
 }
 
 // `fslw_060`.
@@ -188,7 +188,7 @@ pub(crate) fn fslw_060(write: bool, instruction: bool, size: u32, fc: u32, cause
 {
     direction_060(write)
         + size_060(size)
-        + fc % 8 * 65536
-        + number_if(instruction, 32768)
+        + fc % 8 * 0x10000
+        + number_if(instruction, 0x8000)
         + cause_bit(cause, write)
 }

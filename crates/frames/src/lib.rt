@@ -573,9 +573,9 @@ fn status_of(c: Cpu) -> u32
 }
 
 fn ir_word(c: Cpu) -> u32
-    ensures { λ r. ⌜ r ≡ irOf c % 65536 ⌝ }
+    ensures { λ r. ⌜ r ≡ irOf c % 0x10000 ⌝ }
 {
-    cpu::fields::ir(c) % 65536
+    cpu::fields::ir(c) % 0x10000
 }
 
 // The data of a faulted write.
@@ -624,7 +624,7 @@ pub fn address_frame(c: Cpu, address: u32, write: bool, instruction: bool) -> Fr
         return frame_68000(sr, ppc, ir, address, status);
     }
     if types::is_pre_68020(k) {
-        return frame_8(sr, ppc, 32780);
+        return frame_8(sr, ppc, 0x800C);
     }
     if types::is_040(k) {
         let cleared = even(address);
@@ -654,7 +654,7 @@ pub fn bus_frame(
         return frame_68000(sr, ppc, ir, address, status);
     }
     if types::is_pre_68020(k) {
-        return frame_8(sr, ppc, 32776);
+        return frame_8(sr, ppc, 0x8008);
     }
     if types::is_060(k) {
         let fslw = codes::fslw_060(write, instruction, size, fc, cause);

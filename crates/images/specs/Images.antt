@@ -26,7 +26,7 @@ use Rattle.frames.specs.declared.Field.{Field}
 use Rattle.frames.specs.declared.Frame.{Frame}
 use Rattle.frames.specs.Frames.{fieldAt}
 use Rattle.steps.specs.Steps.{refusesOdd, isCounted, isRaw}
-use Rattle.faults.specs.Faults.{Raise, cpuOf, on, stackField, pushed, pushFields, stacked}
+use Rattle.faults.specs.Faults.{Raise, cpuOf, on, stackField, pushField, pushFields, pushFrame}
 use Rattle.images.specs.Pushes.{calm, served-same, place-same, Kept, Left, laidField, field-left}
 
 -- the bytes of the first k fields of a frame, counted ones too: the offset of field k from the new A7
@@ -149,8 +149,8 @@ lowered-flow c n = refl
 -- one push: A7 is lowered by the width and the field laid there
 pub push-framed : (t : Raise) (w : World) (f : Field) (a : ℕ) → Sound (cpuOf w) → maskAddress (kindOf (cpuOf w)) (minus32 (a7Of (cpuOf w)) (widthOf (f .long))) ≡ a
     → (isCounted f ≡ false → served w a (f .long) ≡ true) → (isCounted f ≡ false → isRaw f ≡ false → pick (isPre68020 (kindOf (cpuOf w))) (eqb (a % 2) 1) false ≡ false)
-    → Framed w (pushed t w f) (widthOf (f .long)) (laidField (w .store) (placeOf (w .core .bus) a) f)
-unfolding pushed putCpu a7Of addressOf kindOf isFaulted refusesOdd checksAlignment served
+    → Framed w (pushField t w f) (widthOf (f .long)) (laidField (w .store) (placeOf (w .core .bus) a) f)
+unfolding pushField putCpu a7Of addressOf kindOf isFaulted refusesOdd checksAlignment served
 push-framed t w f a h m s o =
     let n : ℕ = widthOf (f .long) in
     let c : Cpu = lowerA7 (cpuOf w) n in
@@ -190,7 +190,7 @@ fields-framed t f (suc k) w b len kd q h eb el ek eq l =
     let a : ℕ = fieldAddress kd q f k in
     let p = push-framed t w g a h (address-of w f k kd q n ek eq)
     (λ x. served-of w b len a (g .long) eb el (l .serves k (omega arith) x)) (λ x y. rw ek (l .even k (omega arith) x y)) in
-    let x : World = pushed t w g in
+    let x : World = pushField t w g in
     let s : List ℕ = laidField (w .store) (placeOf (w .core .bus) a) g in
     let es : length s ≡ len = laid-field-length (w .store) (placeOf (w .core .bus) a) g ∙ el in
     let r = fields-framed t f k x b len kd q (p .sound) (p .bus ∙ eb) (ap length (p .store) ∙ es) (kind-of (cpuOf x) (cpuOf w) (p .flow) ∙ ek)
@@ -225,7 +225,7 @@ bits : (kd a n : ℕ) → n < 2 ^ 32 → maskAddress kd a + n < 2 ^ addressBits 
 unfolding maskAddress addressBits
 bits kd a n = go (ltb kd 3)
   where
-    go : (t : Bool) → n < 2 ^ 32 → pick t (a % 16777216) a + n < 2 ^ pick t 24 32 → a < 2 ^ 32 → pick t ((a + n) % 2 ^ 32 % 16777216) ((a + n) % 2 ^ 32) ≡ pick t (a % 16777216) a + n
+    go : (t : Bool) → n < 2 ^ 32 → pick t (a % 0x1000000) a + n < 2 ^ pick t 24 32 → a < 2 ^ 32 → pick t ((a + n) % 2 ^ 32 % 0x1000000) ((a + n) % 2 ^ 32) ≡ pick t (a % 0x1000000) a + n
     go true l h z = omega arith
     go false l h z = omega arith
 
@@ -247,20 +247,20 @@ mask-below : (kd q : ℕ) → q < 2 ^ 32 → maskAddress kd q < 2 ^ addressBits 
 unfolding maskAddress addressBits
 mask-below kd q = go (ltb kd 3)
   where
-    go : (t : Bool) → q < 2 ^ 32 → pick t (q % 16777216) q < 2 ^ pick t 24 32
+    go : (t : Bool) → q < 2 ^ 32 → pick t (q % 0x1000000) q < 2 ^ pick t 24 32
     go true l = omega arith
     go false l = omega arith
 
 -- the most bytes of a store that number 5 does not refuse
 abbrev pub mostStore : ℕ
-mostStore = 65536
+mostStore = 0x10000
 
 -- a field at most 92 bytes above the new A7 that wraps lies more than 65,536 bytes below it, so that no store holds both
 no-wrap : (kd q n base len : ℕ) → q < 2 ^ 32 → n ≤ 92 → len ≤ mostStore → maskAddress kd q ≤ base + len → base ≤ maskAddress kd ((q + n) % 2 ^ 32) → maskAddress kd q + n < 2 ^ addressBits kd
 unfolding maskAddress addressBits
 no-wrap kd q n base len = go (ltb kd 3)
   where
-    go : (t : Bool) → q < 2 ^ 32 → n ≤ 92 → len ≤ mostStore → pick t (q % 16777216) q ≤ base + len → base ≤ pick t ((q + n) % 2 ^ 32 % 16777216) ((q + n) % 2 ^ 32) → pick t (q % 16777216) q + n < 2 ^ pick t 24 32
+    go : (t : Bool) → q < 2 ^ 32 → n ≤ 92 → len ≤ mostStore → pick t (q % 0x1000000) q ≤ base + len → base ≤ pick t ((q + n) % 2 ^ 32 % 0x1000000) ((q + n) % 2 ^ 32) → pick t (q % 0x1000000) q + n < 2 ^ pick t 24 32
     go true l m u x y = omega arith
     go false l m u x y = omega arith
 
@@ -269,7 +269,7 @@ wraps : (kd q n : ℕ) → q < 2 ^ 32 → n ≤ 92 → 2 ^ addressBits kd ≤ ma
 unfolding maskAddress addressBits
 wraps kd q n = go (ltb kd 3)
   where
-    go : (t : Bool) → q < 2 ^ 32 → n ≤ 92 → 2 ^ pick t 24 32 ≤ pick t (q % 16777216) q + n → pick t ((q + n) % 2 ^ 32 % 16777216) ((q + n) % 2 ^ 32) + 2 ^ 24 ≤ pick t (q % 16777216) q + n
+    go : (t : Bool) → q < 2 ^ 32 → n ≤ 92 → 2 ^ pick t 24 32 ≤ pick t (q % 0x1000000) q + n → pick t ((q + n) % 2 ^ 32 % 0x1000000) ((q + n) % 2 ^ 32) + 2 ^ 24 ≤ pick t (q % 0x1000000) q + n
     go true l m h = omega arith
     go false l m h = omega arith
 
@@ -372,8 +372,8 @@ pub record Image (w x : World) (f : Frame) : Type 0 where
 
 -- a frame whose accesses are all served leaves its image, whatever faults would raise
 pub stacked-framed : (t : Raise) (w : World) (f : Frame) → Sound (cpuOf w) → Allowed (w .core .bus) (length (w .store)) (kindOf (cpuOf w)) (newA7 w f) f (f .count)
-    → Framed w (stacked t w f) (frameBytes f (f .count)) (laid (w .core .bus) (kindOf (cpuOf w)) (newA7 w f) (w .store) f (f .count))
-unfolding stacked
+    → Framed w (pushFrame t w f) (frameBytes f (f .count)) (laid (w .core .bus) (kindOf (cpuOf w)) (newA7 w f) (w .store) f (f .count))
+unfolding pushFrame
 stacked-framed t w f s l = fields-framed t f (f .count) w (w .core .bus) (length (w .store)) (kindOf (cpuOf w)) (newA7 w f) s refl refl refl refl l
 
 laid-length : (b : Bus) (kd q : ℕ) (s : List ℕ) (f : Frame) (k : ℕ) → length (laid b kd q s f k) ≡ length s
@@ -389,12 +389,12 @@ clash : true ≡ false → ⊥
 clash e = let z : _≡_ {A = ℕ} 0 1 = cc in omega arith
 
 -- what is served is the same after the frame as before it
-pub stacked-serves : (w : World) (f : Frame) → Ready w f → (t : Raise) (a : ℕ) (g : Bool) → served (stacked t w f) a g ≡ served w a g
+pub stacked-serves : (w : World) (f : Frame) → Ready w f → (t : Raise) (a : ℕ) (g : Bool) → served (pushFrame t w f) a g ≡ served w a g
 unfolding served
 stacked-serves w f h t a g =
     let r = stacked-framed t w f (h .sound) (h .allowed) in
-    let y : length (stacked t w f .store) ≡ length (w .store) = ap length (r .store) ∙ laid-length (w .core .bus) (kindOf (cpuOf w)) (newA7 w f) (w .store) f (f .count) in
-    rw y (served-same (stacked t w f .core .bus) (w .core .bus) (length (w .store)) a (widthOf g) (r .bus))
+    let y : length (pushFrame t w f .store) ≡ length (w .store) = ap length (r .store) ∙ laid-length (w .core .bus) (kindOf (cpuOf w)) (newA7 w f) (w .store) f (f .count) in
+    rw y (served-same (pushFrame t w f .core .bus) (w .core .bus) (length (w .store)) a (widthOf g) (r .bus))
 
 module _ (w : World) (f : Frame) (s : Shape f) (h : Ready w f) where
   a7-below : newA7 w f < 2 ^ 32
@@ -435,7 +435,7 @@ module _ (w : World) (f : Frame) (s : Shape f) (h : Ready w f) where
   spot-at i l c = rw (at-offset i l c) (place-above (w .core .bus) (bottom w f + frameBytes f i) (clear-at i l c .low))
 
   -- a byte that no written field holds stays
-  byte-kept : (t : Raise) (a : ℕ) → ((i : ℕ) → i < f .count → isCounted (fieldAt f i) ≡ false → Outside (bottom w f + frameBytes f i) (widthOf (fieldAt f i .long)) a) → SameByte w (stacked t w f) a
+  byte-kept : (t : Raise) (a : ℕ) → ((i : ℕ) → i < f .count → isCounted (fieldAt f i) ≡ false → Outside (bottom w f + frameBytes f i) (widthOf (fieldAt f i .long)) a) → SameByte w (pushFrame t w f) a
   byte-kept t a o p e =
       ap (λ (s : List ℕ). getD s p 0) (stacked-framed t w f (h .sound) (h .allowed) .store)
       ∙ laid-keeps (w .core .bus) (kindOf (cpuOf w)) (newA7 w f) f (f .count) (w .store) p (λ i l c. rw (spot-at i l c) (past i (clear-at i l c .low) (o i l c)))
@@ -446,30 +446,30 @@ module _ (w : World) (f : Frame) (s : Shape f) (h : Ready w f) where
 
   -- a written field is read back at its offset
   read-field : (t : Raise) (i : ℕ) → i < f .count → isCounted (fieldAt f i) ≡ false
-      → readValue (stacked t w f) (bottom w f + frameBytes f i) (fieldAt f i .long) ≡ kept (fieldAt f i .long) (fieldAt f i .value)
+      → readValue (pushFrame t w f) (bottom w f + frameBytes f i) (fieldAt f i .long) ≡ kept (fieldAt f i .long) (fieldAt f i .value)
   unfolding readValue fetched served
   read-field t i l c =
       let r = stacked-framed t w f (h .sound) (h .allowed) in
       let b : Bus = w .core .bus in
       let g : Bool = fieldAt f i .long in
       let a : ℕ = bottom w f + frameBytes f i in
-      let y : length (stacked t w f .store) ≡ length (w .store) = ap length (r .store) ∙ laid-length b (kindOf (cpuOf w)) (newA7 w f) (w .store) f (f .count) in
-      let v : servedOf (stacked t w f .core .bus) (length (stacked t w f .store)) a (widthOf g) ≡ true = rw y (served-same (stacked t w f .core .bus) b (length (w .store)) a (widthOf g) (r .bus) ∙ (rw (at-offset i l c) at (h .allowed .serves i l c))) in
-      let p : placeOf (stacked t w f .core .bus) a ≡ placeOf b (fieldAddress (kindOf (cpuOf w)) (newA7 w f) f i) = rw (at-offset i l c) (place-same (stacked t w f .core .bus) b a (r .bus)) in
+      let y : length (pushFrame t w f .store) ≡ length (w .store) = ap length (r .store) ∙ laid-length b (kindOf (cpuOf w)) (newA7 w f) (w .store) f (f .count) in
+      let v : servedOf (pushFrame t w f .core .bus) (length (pushFrame t w f .store)) a (widthOf g) ≡ true = rw y (served-same (pushFrame t w f .core .bus) b (length (w .store)) a (widthOf g) (r .bus) ∙ (rw (at-offset i l c) at (h .allowed .serves i l c))) in
+      let p : placeOf (pushFrame t w f .core .bus) a ≡ placeOf b (fieldAddress (kindOf (cpuOf w)) (newA7 w f) f i) = rw (at-offset i l c) (place-same (pushFrame t w f .core .bus) b a (r .bus)) in
       let z = clear-at i l c in
       rw (v, p, r .store)
       (laid-back b (kindOf (cpuOf w)) (newA7 w f) f (f .count) (w .store) i l c (rw (spot-at i l c) (omega (arith, z .low, z .high)))
       (λ j m d. let u = clear-at j (omega arith) d .low in rw (spot-at i l c, spot-at j (omega arith) d) (inl (omega (arith, z .low, bytes-below f j i m)))))
 
   -- a served read that shares no byte with the frame gives the same after it as before it
-  pub read-apart : (t : Raise) (a : ℕ) (g : Bool) → served w a g ≡ true → Apart (bottom w f) (frameBytes f (f .count)) a (widthOf g) → readValue (stacked t w f) a g ≡ readValue w a g
+  pub read-apart : (t : Raise) (a : ℕ) (g : Bool) → served w a g ≡ true → Apart (bottom w f) (frameBytes f (f .count)) a (widthOf g) → readValue (pushFrame t w f) a g ≡ readValue w a g
   unfolding readValue fetched served
   read-apart t a g v d =
       let r = stacked-framed t w f (h .sound) (h .allowed) in
       let b : Bus = w .core .bus in
       let low : b .base ≤ a = served-means b (length (w .store)) a (widthOf g) v .low in
-      let e : servedOf (stacked t w f .core .bus) (length (stacked t w f .store)) a (widthOf g) ≡ true = stacked-serves w f h t a g ∙ v in
-      rw (e, v, r .store, place-same (stacked t w f .core .bus) b a (r .bus))
+      let e : servedOf (pushFrame t w f .core .bus) (length (pushFrame t w f .store)) a (widthOf g) ≡ true = stacked-serves w f h t a g ∙ v in
+      rw (e, v, r .store, place-same (pushFrame t w f .core .bus) b a (r .bus))
       (laid-other b (kindOf (cpuOf w)) (newA7 w f) f (f .count) (w .store) g (placeOf b a)
       (λ i l c. rw (spot-at i l c, place-above b a low) (go i low (clear-at i l c .low) (bytes-below f i (f .count) l) d)))
     where
@@ -479,12 +479,12 @@ module _ (w : World) (f : Frame) (s : Shape f) (h : Ready w f) where
       go i l m n (inr x) = inr (omega arith)
 
   -- the image of a frame whose accesses are all served, whatever a fault would raise
-  pub stacked-image : (t : Raise) → Image w (stacked t w f) f
+  pub stacked-image : (t : Raise) → Image w (pushFrame t w f) f
   stacked-image t =
       let r = stacked-framed t w f (h .sound) (h .allowed) in
       record {
         a7 = r .a7;
-        kind = kind-of (cpuOf (stacked t w f)) (cpuOf w) (r .flow);
+        kind = kind-of (cpuOf (pushFrame t w f)) (cpuOf w) (r .flow);
         bus = r .bus;
         size = ap length (r .store) ∙ laid-length (w .core .bus) (kindOf (cpuOf w)) (newA7 w f) (w .store) f (f .count);
         fields = read-field t;
@@ -526,7 +526,7 @@ image-gaps w x f s h i l c j m = go (ltb (bottom w f + frameBytes f i) (2 ^ addr
         (inl (omega (arith, n, wraps (kindOf (cpuOf w)) (newA7 w f) (frameBytes f i) q (omega (arith, n)) (ltb-false _ _ e))))
 
 -- after it the record still runs
-pub stacked-runs : (t : Raise) (w : World) (f : Frame) → Ready w f → isFaulted (cpuOf (stacked t w f)) ≡ false
+pub stacked-runs : (t : Raise) (w : World) (f : Frame) → Ready w f → isFaulted (cpuOf (pushFrame t w f)) ≡ false
 stacked-runs t w f h = stacked-framed t w f (h .sound) (h .allowed) .sound .running
 
 -- registers, kind, windows and store are the same

@@ -21,7 +21,7 @@ use Rattle.memory.specs.World.{World, world, Attempt, reply, noted, putCpu, wid
 use Rattle.frames.specs.declared.Frame.{Frame}
 use Rattle.frames.specs.Frames.{busFrame, addressFrame}
 use Rattle.steps.specs.Steps.{refusesOdd, vectorAddress, beginBus, beginAddress, enterBusError}
-use Rattle.faults.specs.Faults.{Raise, busFault, addressFault, cpuOf, on, readOr, prefetchRead, keptFirst, firstFrom, prefetchFirst, keptSecond, secondFrom, prefetchSecond, checkedRead, guardRead, vectorRead, refill, jumpTo, jumpVector, stacked, entryBus, entryAddress, closed, ended, raiseBus, raiseAddress, trigger}
+use Rattle.faults.specs.Faults.{Raise, busError, addressError, cpuOf, on, readOr, prefetchRead, keptFirst, firstFrom, prefetchFirst, keptSecond, secondFrom, prefetchSecond, checkedRead, readAt, vectorRead, refill, jumpTo, jumpVector, pushFrame, exceptionBusError, exceptionAddressError, closed, ended, raiseBus, raiseAddress, trigger}
 use Rattle.images.specs.Pushes.{calm, served-same, place-same, Kept, kept-trans, Left, flush-left}
 use Rattle.images.specs.Images.{frameBytes, Shape, Ready, Image, Still, still-trans, read-same, image-still, stacked-image, stacked-runs, stacked-framed, stacked-serves, read-apart, newA7, bottom}
 use Rattle.images.specs.Lengths.{lengthOf, errorLength, busFormat, addressFormat, bus-length, address-length}
@@ -53,8 +53,8 @@ tried-is t w a i z g h = rw h
 
 -- a guarded read that nothing refuses: what it leaves, and its value
 pub guard-read : (t : Raise) (w : World) (a : ℕ) (g : Bool) → isFaulted (cpuOf w) ≡ false → refusesOdd (cpuOf w) (addressOf (cpuOf w) a) ≡ false → served w (addressOf (cpuOf w) a) g ≡ true
-    → Idle w (guardRead t w a g .after) × (guardRead t w a g .value ≡ readValue w (addressOf (cpuOf w) a) g)
-unfolding guardRead checkedRead addressOf refusesOdd checksAlignment
+    → Idle w (readAt t w a g .after) × (readAt t w a g .value ≡ readValue w (addressOf (cpuOf w) a) g)
+unfolding readAt checkedRead addressOf refusesOdd checksAlignment
 guard-read t w a g h o s =
     let y : World = flush w in
     let k : Idle w y = flush-left w in
@@ -85,16 +85,16 @@ kept-first : (w : World) (x : Attempt) → Idle w (x .after) → Idle w (keptFir
 unfolding keptFirst firstWord
 kept-first w x h = go (x .ok)
   where
-    go : (o : Bool) → Idle w (pick o (on (x .after) (firstWord (cpuOf (x .after)) (x .value % 65536))) (x .after))
-    go true = on-idle w (x .after) (firstWord (cpuOf (x .after)) (x .value % 65536)) h refl refl refl
+    go : (o : Bool) → Idle w (pick o (on (x .after) (firstWord (cpuOf (x .after)) (x .value % 0x10000))) (x .after))
+    go true = on-idle w (x .after) (firstWord (cpuOf (x .after)) (x .value % 0x10000)) h refl refl refl
     go false = h
 
 kept-second : (w : World) (x : Attempt) → Idle w (x .after) → Idle w (keptSecond x)
 unfolding keptSecond secondWord
 kept-second w x h = go (x .ok)
   where
-    go : (o : Bool) → Idle w (pick o (on (x .after) (secondWord (cpuOf (x .after)) (x .value % 65536))) (x .after))
-    go true = on-idle w (x .after) (secondWord (cpuOf (x .after)) (x .value % 65536)) h refl refl refl
+    go : (o : Bool) → Idle w (pick o (on (x .after) (secondWord (cpuOf (x .after)) (x .value % 0x10000))) (x .after))
+    go true = on-idle w (x .after) (secondWord (cpuOf (x .after)) (x .value % 0x10000)) h refl refl refl
     go false = h
 
 -- the program word at a is served, unless PC is odd
@@ -270,12 +270,12 @@ unfolding addressOf vectorAddress vbrOf
 flow-vector w x v e = ap (λ (y : Flow). maskAddress (y .«cpu_type») ((v % 1073741824 * 4 + y .vbr) % 2 ^ 32)) e
 
 -- the reads of the jump by what is served before the frame: the handler's address is read after it
-pub reachable-after : (t : Raise) (w : World) (f : Frame) (v pc : ℕ) → Ready w f → handler (stacked t w f) v ≡ pc → refusesOdd (cpuOf w) (vectorPlace w v) ≡ false → served w (vectorPlace w v) true ≡ true
+pub reachable-after : (t : Raise) (w : World) (f : Frame) (v pc : ℕ) → Ready w f → handler (pushFrame t w f) v ≡ pc → refusesOdd (cpuOf w) (vectorPlace w v) ≡ false → served w (vectorPlace w v) true ≡ true
     → (prefetchEnabled (cpuOf w) ≡ true → eqb (pc % 2) 1 ≡ false → (served w (addressOf (cpuOf w) pc) false ≡ true) × (served w (addressOf (cpuOf w) ((pc + 2) % 2 ^ 32)) false ≡ true))
-    → Reachable (stacked t w f) v
+    → Reachable (pushFrame t w f) v
 unfolding refusesOdd checksAlignment prefetchEnabled addressOf
 reachable-after t w f v pc h e o s p =
-    let x : World = stacked t w f in
+    let x : World = pushFrame t w f in
     let r = stacked-framed t w f (h .sound) (h .allowed) in
     let m : vectorPlace x v ≡ vectorPlace w v = flow-vector w x v (r .flow) in
     let k : cpuOf x .flow .«cpu_type» ≡ cpuOf w .flow .«cpu_type» = ap (λ (y : Flow). y .«cpu_type») (r .flow) in
@@ -289,40 +289,40 @@ reachable-after t w f v pc h e o s p =
     }
 
 -- where the frame does not lie over the vector, the handler's address is the one that stood there before it
-pub handler-before : (t : Raise) (w : World) (f : Frame) (v : ℕ) → Shape f → Ready w f → served w (vectorPlace w v) true ≡ true → Apart (bottom w f) (lengthOf f) (vectorPlace w v) 4 → handler (stacked t w f) v ≡ handler w v
+pub handler-before : (t : Raise) (w : World) (f : Frame) (v : ℕ) → Shape f → Ready w f → served w (vectorPlace w v) true ≡ true → Apart (bottom w f) (lengthOf f) (vectorPlace w v) 4 → handler (pushFrame t w f) v ≡ handler w v
 handler-before t w f v k h s d =
-    ap (λ (a : ℕ). readValue (stacked t w f) a true) (flow-vector w (stacked t w f) v (stacked-framed t w f (h .sound) (h .allowed) .flow)) ∙ read-apart w f k h t (vectorPlace w v) true s d
+    ap (λ (a : ℕ). readValue (pushFrame t w f) a true) (flow-vector w (pushFrame t w f) v (stacked-framed t w f (h .sound) (h .allowed) .flow)) ∙ read-apart w f k h t (vectorPlace w v) true s d
 
 -- an entry whose accesses are all served, frame and jump, leaves the image of its frame
-pub entry-image : (t : Raise) (w : World) (f : Frame) (v : ℕ) → Shape f → Ready w f → Reachable (stacked t w f) v → Image w (jumpVector t (stacked t w f) v) f
-entry-image t w f v s h r = image-still w (stacked t w f) (jumpVector t (stacked t w f) v) f (stacked-image w f s h t) (jump-still t (stacked t w f) v r)
+pub entry-image : (t : Raise) (w : World) (f : Frame) (v : ℕ) → Shape f → Ready w f → Reachable (pushFrame t w f) v → Image w (jumpVector t (pushFrame t w f) v) f
+entry-image t w f v s h r = image-still w (pushFrame t w f) (jumpVector t (pushFrame t w f) v) f (stacked-image w f s h t) (jump-still t (pushFrame t w f) v r)
 
 module _ (t : Raise) (w : World) (a : ℕ) (write instruction : Bool) where
   -- a bus error entry whose accesses are all served leaves the image of its frame on the supervisor stack
   pub bus-image : (z cause : ℕ) → Ready (on w (enterBusError (cpuOf w))) (busFrame (cpuOf w) a write instruction z cause)
-      → Reachable (stacked t (on w (enterBusError (cpuOf w))) (busFrame (cpuOf w) a write instruction z cause)) 2
-      → Image (on w (enterBusError (cpuOf w))) (entryBus t w a write instruction z cause) (busFrame (cpuOf w) a write instruction z cause)
-  unfolding entryBus
+      → Reachable (pushFrame t (on w (enterBusError (cpuOf w))) (busFrame (cpuOf w) a write instruction z cause)) 2
+      → Image (on w (enterBusError (cpuOf w))) (exceptionBusError t w a write instruction z cause) (busFrame (cpuOf w) a write instruction z cause)
+  unfolding exceptionBusError
   bus-image z cause h r = entry-image t (on w (enterBusError (cpuOf w))) (busFrame (cpuOf w) a write instruction z cause) 2 (bus-shape (cpuOf w) a write instruction z cause) h r
 
   -- and lowers the supervisor's A7 by the length of the table, 14 on kind 1
   pub bus-a7 : (z cause : ℕ) → kindOf (cpuOf w) < 12 → Ready (on w (enterBusError (cpuOf w))) (busFrame (cpuOf w) a write instruction z cause)
-      → Reachable (stacked t (on w (enterBusError (cpuOf w))) (busFrame (cpuOf w) a write instruction z cause)) 2
-      → a7Of (cpuOf (entryBus t w a write instruction z cause)) ≡ minus32 (a7Of (enterBusError (cpuOf w))) (errorLength (kindOf (cpuOf w)) (busFormat (kindOf (cpuOf w))))
+      → Reachable (pushFrame t (on w (enterBusError (cpuOf w))) (busFrame (cpuOf w) a write instruction z cause)) 2
+      → a7Of (cpuOf (exceptionBusError t w a write instruction z cause)) ≡ minus32 (a7Of (enterBusError (cpuOf w))) (errorLength (kindOf (cpuOf w)) (busFormat (kindOf (cpuOf w))))
   unfolding putCpu
   bus-a7 z cause k h r = bus-image z cause h r .a7 ∙ ap (λ (n : ℕ). minus32 (a7Of (enterBusError (cpuOf w))) n) (bus-length (cpuOf w) a write instruction z cause k)
 
   -- an address error entry whose accesses are all served leaves the image of its frame on the supervisor stack
   pub address-image : Ready (on w (enterSupervisor (cpuOf w))) (addressFrame (cpuOf w) a write instruction)
-      → Reachable (stacked t (on w (enterSupervisor (cpuOf w))) (addressFrame (cpuOf w) a write instruction)) 3
-      → Image (on w (enterSupervisor (cpuOf w))) (entryAddress t w a write instruction) (addressFrame (cpuOf w) a write instruction)
-  unfolding entryAddress
+      → Reachable (pushFrame t (on w (enterSupervisor (cpuOf w))) (addressFrame (cpuOf w) a write instruction)) 3
+      → Image (on w (enterSupervisor (cpuOf w))) (exceptionAddressError t w a write instruction) (addressFrame (cpuOf w) a write instruction)
+  unfolding exceptionAddressError
   address-image h r = entry-image t (on w (enterSupervisor (cpuOf w))) (addressFrame (cpuOf w) a write instruction) 3 (address-shape (cpuOf w) a write instruction) h r
 
   -- and lowers the supervisor's A7 by the length of the table, 14 on kind 1
   pub address-a7 : kindOf (cpuOf w) < 12 → Ready (on w (enterSupervisor (cpuOf w))) (addressFrame (cpuOf w) a write instruction)
-      → Reachable (stacked t (on w (enterSupervisor (cpuOf w))) (addressFrame (cpuOf w) a write instruction)) 3
-      → a7Of (cpuOf (entryAddress t w a write instruction)) ≡ minus32 (a7Of (enterSupervisor (cpuOf w))) (errorLength (kindOf (cpuOf w)) (addressFormat (kindOf (cpuOf w))))
+      → Reachable (pushFrame t (on w (enterSupervisor (cpuOf w))) (addressFrame (cpuOf w) a write instruction)) 3
+      → a7Of (cpuOf (exceptionAddressError t w a write instruction)) ≡ minus32 (a7Of (enterSupervisor (cpuOf w))) (errorLength (kindOf (cpuOf w)) (addressFormat (kindOf (cpuOf w))))
   unfolding putCpu
   address-a7 k h r = address-image h r .a7 ∙ ap (λ (n : ℕ). minus32 (a7Of (enterSupervisor (cpuOf w))) n) (address-length (cpuOf w) a write instruction k)
 
@@ -345,21 +345,21 @@ module _ (n : ℕ) (w : World) (a : ℕ) (write instruction : Bool) (h : isFault
 
   -- a bus error that is raised while none is under way, its accesses all served, leaves the image of its frame
   pub bus-raised : (z : ℕ) → inException (cpuOf w) ≡ false → Ready (on w (enterBusError busBegun)) (busFrame busBegun a write instruction z (causeNumberOf (cpuOf w)))
-      → Reachable (stacked (trigger n) (on w (enterBusError busBegun)) (busFrame busBegun a write instruction z (causeNumberOf (cpuOf w)))) 2
-      → Image (on w (enterBusError busBegun)) (trigger (suc n) w (busFault a write instruction z)) (busFrame busBegun a write instruction z (causeNumberOf (cpuOf w)))
+      → Reachable (pushFrame (trigger n) (on w (enterBusError busBegun)) (busFrame busBegun a write instruction z (causeNumberOf (cpuOf w)))) 2
+      → Image (on w (enterBusError busBegun)) (trigger (suc n) w (busError a write instruction z)) (busFrame busBegun a write instruction z (causeNumberOf (cpuOf w)))
   unfolding trigger raiseBus putCpu
   bus-raised z e r l =
       rw (h, e)
-      (image-still (on w (enterBusError busBegun)) (entryBus (trigger n) (on w busBegun) a write instruction z (causeNumberOf (cpuOf w))) (closed (entryBus (trigger n) (on w busBegun) a write instruction z (causeNumberOf (cpuOf w)))) (busFrame busBegun a write instruction z (causeNumberOf (cpuOf w)))
+      (image-still (on w (enterBusError busBegun)) (exceptionBusError (trigger n) (on w busBegun) a write instruction z (causeNumberOf (cpuOf w))) (closed (exceptionBusError (trigger n) (on w busBegun) a write instruction z (causeNumberOf (cpuOf w)))) (busFrame busBegun a write instruction z (causeNumberOf (cpuOf w)))
       (bus-image (trigger n) (on w busBegun) a write instruction z (causeNumberOf (cpuOf w)) r l)
-      (closed-still (entryBus (trigger n) (on w busBegun) a write instruction z (causeNumberOf (cpuOf w)))))
+      (closed-still (exceptionBusError (trigger n) (on w busBegun) a write instruction z (causeNumberOf (cpuOf w)))))
 
   -- an address error that is raised, its accesses all served, leaves the image of its frame
   pub address-raised : Ready (on w (enterSupervisor addressBegun)) (addressFrame addressBegun a write instruction)
-      → Reachable (stacked (trigger n) (on w (enterSupervisor addressBegun)) (addressFrame addressBegun a write instruction)) 3
-      → Image (on w (enterSupervisor addressBegun)) (trigger (suc n) w (addressFault a write instruction)) (addressFrame addressBegun a write instruction)
+      → Reachable (pushFrame (trigger n) (on w (enterSupervisor addressBegun)) (addressFrame addressBegun a write instruction)) 3
+      → Image (on w (enterSupervisor addressBegun)) (trigger (suc n) w (addressError a write instruction)) (addressFrame addressBegun a write instruction)
   unfolding trigger raiseAddress putCpu
   address-raised r l =
       rw h
-      (image-still (on w (enterSupervisor addressBegun)) (entryAddress (trigger n) (on w addressBegun) a write instruction) (ended (entryAddress (trigger n) (on w addressBegun) a write instruction)) (addressFrame addressBegun a write instruction)
-      (address-image (trigger n) (on w addressBegun) a write instruction r l) (ended-still (entryAddress (trigger n) (on w addressBegun) a write instruction)))
+      (image-still (on w (enterSupervisor addressBegun)) (exceptionAddressError (trigger n) (on w addressBegun) a write instruction) (ended (exceptionAddressError (trigger n) (on w addressBegun) a write instruction)) (addressFrame addressBegun a write instruction)
+      (address-image (trigger n) (on w addressBegun) a write instruction r l) (ended-still (exceptionAddressError (trigger n) (on w addressBegun) a write instruction)))

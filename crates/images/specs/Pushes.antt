@@ -21,7 +21,7 @@ use Rattle.memory.specs.ByteLaws.{put}
 use Rattle.memory.specs.AccessLaws.{kept, write-store}
 use Rattle.frames.specs.declared.Field.{Field}
 use Rattle.steps.specs.Steps.{refusesOdd, isCounted, isRaw}
-use Rattle.faults.specs.Faults.{Raise, cpuOf, on, wrote, checkedWrite, guardWrite, stackField}
+use Rattle.faults.specs.Faults.{Raise, cpuOf, on, wrote, checkedWrite, writeAt, stackField}
 
 -- a bus with its events not counted: base, windows and responses
 unfoldable pub calm : Bus → Bus
@@ -104,8 +104,8 @@ checked-left t w a g v h s =
 
 -- a guarded write that nothing refuses leaves its bytes
 pub guard-left : (t : Raise) (w : World) (a : ℕ) (g : Bool) (v : ℕ) → isFaulted (cpuOf w) ≡ false → refusesOdd (cpuOf w) (addressOf (cpuOf w) a) ≡ false
-    → served w (addressOf (cpuOf w) a) g ≡ true → Left w (guardWrite t w a g v) (with-value w (addressOf (cpuOf w) a) g v)
-unfolding guardWrite addressOf refusesOdd checksAlignment served
+    → served w (addressOf (cpuOf w) a) g ≡ true → Left w (writeAt t w a g v) (with-value w (addressOf (cpuOf w) a) g v)
+unfolding writeAt addressOf refusesOdd checksAlignment served
 guard-left t w a g v h o s =
     let y : World = flush w in
     let k : Kept w y = flush-left w .same in
@@ -126,7 +126,7 @@ unfolding stackField laidField
 field-left t w f a m h s o = go (isCounted f) (isRaw f) s o
   where
     go : (c r : Bool) → (c ≡ false → served w a (f .long) ≡ true) → (c ≡ false → r ≡ false → refusesOdd (cpuOf w) a ≡ false)
-        → Left w (pick c w (pick r (rawWrite w (addressOf (cpuOf w) (a7Of (cpuOf w))) (f .long) (f .value)) (guardWrite t w (a7Of (cpuOf w)) (f .long) (f .value))))
+        → Left w (pick c w (pick r (rawWrite w (addressOf (cpuOf w) (a7Of (cpuOf w))) (f .long) (f .value)) (writeAt t w (a7Of (cpuOf w)) (f .long) (f .value))))
         (pick c (w .store) (with-value w a (f .long) (f .value)))
     go true r s o = record { same = record { flow = refl; regs = refl; precise = refl; bus = refl }; store = refl }
     go false true s o = rw m (raw-left w a (f .long) (f .value) (s refl))

@@ -75,40 +75,40 @@ EntersInEachOrder response vector = Enters response vector 1 × Enters response 
 -- response 0x1FF: vector 255; 0xFFFFFFFE: 254; 0xFFFFFFFF at level 4: 28. The first two are so at any level
 abbrev pub P5 : Type 0
 P5 =
-    ((level : ℕ) → iackVector 511 level ≡ 255) × ((level : ℕ) → iackVector 4294967294 level ≡ 254) × (iackVector auto 4 ≡ 28)
-    × EntersInEachOrder 511 255 × EntersInEachOrder 4294967294 254 × EntersInEachOrder auto 28
+    ((level : ℕ) → iackVector 511 level ≡ 255) × ((level : ℕ) → iackVector 0xFFFFFFFE level ≡ 254) × (iackVector auto 4 ≡ 28)
+    × EntersInEachOrder 511 255 × EntersInEachOrder 0xFFFFFFFE 254 × EntersInEachOrder auto 28
 
 -- whatever the 65,536 bytes of the store, a call leaves a word, or a long, at an address
 abbrev pub Leaves : Cpu → Call → ℕ → Bool → ℕ → Type 0
-Leaves c call a long v = (s : List ℕ) → length s ≡ 65536 → readValue (perform (holding s auto 192 c) call .after) a long ≡ v
+Leaves c call a long v = (s : List ℕ) → length s ≡ 0x10000 → readValue (perform (holding s auto 192 c) call .after) a long ≡ v
 
 -- kind 4 status word: supervisor instruction fault 0x5006; supervisor long data read 0x0145. By its definition, and 10 bytes
 -- above the new A7 of 0x7FA4 after a bus error entry at address 0x1234
 abbrev pub P6 : Type 0
 P6 =
-    (ssw020 (functionCode true true) false true 2 ≡ 20486) × Leaves (start 4) (ExceptionBusError 4660 false true 2 Absent) 32686 false 20486
-    × (ssw020 (functionCode true false) false false 4 ≡ 325) × Leaves (start 4) (ExceptionBusError 4660 false false 4 Absent) 32686 false 325
+    (ssw020 (functionCode true true) false true 2 ≡ 20486) × Leaves (start 4) (ExceptionBusError 0x1234 false true 2 Absent) 32686 false 20486
+    × (ssw020 (functionCode true false) false false 4 ≡ 325) × Leaves (start 4) (ExceptionBusError 0x1234 false false 4 Absent) 32686 false 325
 
 -- in user state: status 0x0700, and the pointer of the interrupt stack is 0x8000 too
 abbrev pub user : ℕ → Cpu
-user kind = setSaved (startAt kind 1792) 4 32768
+user kind = setSaved (startAt kind 0x700) 4 0x8000
 
 -- kind 9, user word write, no cause: 0x0041, third write-back status 0x00C1. By their definitions, and 12 and 14 bytes above the
 -- new A7 of 0x7FC4
 abbrev pub P7 : Type 0
 P7 =
-    (ssw040 (functionCode false false) true 2 0 ≡ 65) × Leaves (user 9) (ExceptionBusError 4660 true false 2 Absent) 32720 false 65
-    × (wb3s (functionCode false false) true 2 ≡ 193) × Leaves (user 9) (ExceptionBusError 4660 true false 2 Absent) 32722 false 193
+    (ssw040 (functionCode false false) true 2 0 ≡ 65) × Leaves (user 9) (ExceptionBusError 0x1234 true false 2 Absent) 32720 false 65
+    × (wb3s (functionCode false false) true 2 ≡ 193) × Leaves (user 9) (ExceptionBusError 0x1234 true false 2 Absent) 32722 false 193
 
 -- kind 11, supervisor byte read, page fault: 0x01250200. By its definition, and as the last long of the frame
 abbrev pub P8 : Type 0
-P8 = (fslw060 false false 1 (functionCode true false) 4 ≡ 19202560) × Leaves (start 11) (ExceptionBusError 4660 false false 1 PageFault) 32764 true 19202560
+P8 = (fslw060 false false 1 (functionCode true false) 4 ≡ 19202560) × Leaves (start 11) (ExceptionBusError 0x1234 false false 1 PageFault) 32764 true 19202560
 
 -- pending 0xFFFFFFFF plus 4 clocks: 3. An entry on kind 2 adds 4, and its first event is their sync
 abbrev pub P9 : Type 0
 P9 =
-    (clocksOf (internalCycles (setClocks (start 2) 4294967295) 4) ≡ 3)
-    × (logged (perform (fresh (setClocks (start 2) 4294967295)) (Trap 15)) 3 ≡ 5 ∷ 0 ∷ 3 ∷ [])
+    (clocksOf (internalCycles (setClocks (start 2) 0xFFFFFFFF) 4) ≡ 3)
+    × (logged (perform (fresh (setClocks (start 2) 0xFFFFFFFF)) (Trap 15)) 3 ≡ 5 ∷ 0 ∷ 3 ∷ [])
 
 -- kind 4, fresh store, A7 = 2, trap 0: the second push faults; A7 0xFFFFFFFA, PC 0, `stopped` 1, `run_mode` 1. In the log: the
 -- first push at 0, the second at 0xFFFFFFFC not served, the release; the third push and the vector are not tried
@@ -119,12 +119,12 @@ abbrev pub P10 : Type 0
 P10 =
     (seen halts ≡ record { answer = Cycles 34 3; a7 = 4294967290; pc = 0; store = laid zeros 0 (0 ∷ 128 ∷ []) })
     × (cpuAfter halts .flow .stopped ≡ 1) × (cpuAfter halts .flow .«run_mode» ≡ 1)
-    × (logged halts 9 ≡ 3 ∷ 0 ∷ 128 ∷ 20 ∷ 4294967292 ∷ 4096 ∷ 7 ∷ 0 ∷ 0 ∷ [])
+    × (logged halts 9 ≡ 3 ∷ 0 ∷ 128 ∷ 20 ∷ 4294967292 ∷ 0x1000 ∷ 7 ∷ 0 ∷ 0 ∷ [])
 
 -- kind 4, status 0x3700, master 0x6000, interrupt 0x5000, level 7: 37 00 00 00 10 00 00 7C at 0x5FF8, the saved master pointer,
 -- and 37 00 00 00 10 00 10 7C at 0x4FF8, the new A7
 abbrev thrown : Performance
-thrown = perform (fresh (setSaved (setA7 (setIrq (startAt 4 14080) 7) 24576) 4 20480)) CheckAndServiceInterrupts
+thrown = perform (fresh (setSaved (setA7 (setIrq (startAt 4 14080) 7) 24576) 4 0x5000)) CheckAndServiceInterrupts
 
 abbrev pub P11 : Type 0
 P11 =

@@ -24,7 +24,7 @@ setSaved c bank v = withRegs c (record { dar = c .regs .dar; «dar_save» = c .r
 
 -- the record of an instance: a fresh one has the status 0x2700
 unfoldable pub start : ℕ → Cpu
-start kind = setA7 (setPpc (setPc (freshCpu kind) 4096) 4094) 32768
+start kind = setA7 (setPpc (setPc (freshCpu kind) 0x1000) 4094) 0x8000
 
 -- with another status, the stack pointers as they are
 unfoldable pub startAt : ℕ → ℕ → Cpu
@@ -32,11 +32,11 @@ startAt kind status = setSrNointNosp (start kind) status
 
 -- in supervisor state at an interrupt mask, with a level pending
 unfoldable pub pending : ℕ → ℕ → ℕ → Cpu
-pending kind mask level = setIrq (startAt kind (8192 + mask * 256)) level
+pending kind mask level = setIrq (startAt kind (0x2000 + mask * 256)) level
 
 -- the response that asks for the autovector: 0xFFFFFFFF
 abbrev pub auto : ℕ
-auto = 4294967295
+auto = 0xFFFFFFFF
 
 -- a store at 0 with no windows, one response at every level, and a log of so many words
 unfoldable pub holding : List ℕ → ℕ → ℕ → Cpu → World
@@ -44,7 +44,7 @@ holding s response words c = world (record { cpu = c; bus = record { base = 0; w
 
 -- a fresh store: 65,536 zero bytes. antt computes on it as it is: no smaller one stands in
 abbrev pub zeros : List ℕ
-zeros = replicate 65536 0
+zeros = replicate 0x10000 0
 
 unfoldable pub lent : ℕ → ℕ → Cpu → World
 lent response words c = holding zeros response words c

@@ -10,12 +10,12 @@ use Rattle.status.specs.Banks.{enterSupervisor, setSmFlag}
 use Rattle.cpu.specs.Clocks.{internalCycles}
 use Rattle.requests.specs.Interrupts.{pendingLevel, takesInterrupt, clearLevel, chargeInterrupt}
 use Rattle.memory.specs.World.{World, Attempt, reply, tried, flush, acknowledged}
-use Rattle.faults.specs.Faults.{cpuOf, on, raised, guardWrite, stacked, jumpVector}
+use Rattle.faults.specs.Faults.{cpuOf, on, step, raised, writeAt, pushFrame, jumpVector}
 use Rattle.exceptions.specs.Frames.{formatWord, offsetWord, shortFrame}
 
 -- `iack_vector`: 0xFFFFFFFF is the autovector of the level, any other response its low 8 bits
 unfoldable pub iackVector : ℕ → ℕ → ℕ
-iackVector response level = pick (eqb response 4294967295) (24 + level % 8) (response % 256)
+iackVector response level = pick (eqb response 0xFFFFFFFF) (24 + level % 8) (response % 256)
 
 -- the acknowledge cycle: the world after it, and the vector as its value
 unfoldable pub vectorFrom : ℕ → Attempt → Attempt
@@ -26,7 +26,7 @@ acknowledgeLevel w level = vectorFrom level (acknowledged w level)
 
 -- what the sync of waiting clocks and the acknowledge leave: on kinds 1 and 2 the clocks are sent first
 unfoldable pub syncedAcknowledge : World → ℕ → ℕ → Attempt
-syncedAcknowledge w clocks level = acknowledgeLevel (flush (on w (internalCycles (cpuOf w) clocks))) level
+syncedAcknowledge w clocks level = acknowledgeLevel (flush (step (λ c. internalCycles c clocks) w)) level
 
 -- the start of every interrupt: supervisor state, trace off, the mask at the level
 unfoldable pub enterLevel : Cpu → ℕ → Cpu
@@ -36,11 +36,11 @@ enterLevel c level = setIntMask (enterSupervisor c) level
 unfoldable pub rest68000 : ℕ → ℕ → ℕ → Attempt → Attempt
 rest68000 sp pc sr x =
     reply
-    (guardWrite raised (guardWrite raised (on (x .after) (internalCycles (cpuOf (x .after)) 4)) sp false sr) ((sp + 2) % 2 ^ 32) false (pc / 65536))
+    (writeAt raised (writeAt raised (step (λ c. internalCycles c 4) (x .after)) sp false sr) ((sp + 2) % 2 ^ 32) false (pc / 0x10000))
     true (x .value)
 
 unfoldable pub from68000 : World → ℕ → ℕ → ℕ → ℕ → Attempt
-from68000 w sp pc sr level = rest68000 sp pc sr (syncedAcknowledge (guardWrite raised w ((sp + 4) % 2 ^ 32) false (pc % 65536)) 4 level)
+from68000 w sp pc sr level = rest68000 sp pc sr (syncedAcknowledge (writeAt raised w ((sp + 4) % 2 ^ 32) false (pc % 0x10000)) 4 level)
 
 unfoldable pub frame68000Interrupt : World → ℕ → ℕ → ℕ → Attempt
 frame68000Interrupt w pc sr level = from68000 (on w (lowerA7 (internalCycles (cpuOf w) 6) 6)) (a7Of (lowerA7 (internalCycles (cpuOf w) 6) 6)) pc sr level
@@ -48,14 +48,14 @@ frame68000Interrupt w pc sr level = from68000 (on w (lowerA7 (internalCycles (cp
 -- kind 2: 12 clocks and the acknowledge, then PC low, the status, PC high and the format word; A7 is lowered once
 unfoldable pub writes68010 : World → ℕ → ℕ → ℕ → ℕ → World
 writes68010 w sp pc sr format =
-    guardWrite raised
-    (guardWrite raised (guardWrite raised (guardWrite raised w ((sp + 4) % 2 ^ 32) false (pc % 65536)) sp false sr) ((sp + 2) % 2 ^ 32) false (pc / 65536))
+    writeAt raised
+    (writeAt raised (writeAt raised (writeAt raised w ((sp + 4) % 2 ^ 32) false (pc % 0x10000)) sp false sr) ((sp + 2) % 2 ^ 32) false (pc / 0x10000))
     ((sp + 6) % 2 ^ 32) false format
 
 unfoldable pub rest68010 : ℕ → ℕ → Attempt → Attempt
 rest68010 pc sr x =
     reply
-    (writes68010 (on (x .after) (lowerA7 (cpuOf (x .after)) 8)) (a7Of (lowerA7 (cpuOf (x .after)) 8)) pc sr (offsetWord (x .value)))
+    (writes68010 (step (λ c. lowerA7 c 8) (x .after)) (a7Of (lowerA7 (cpuOf (x .after)) 8)) pc sr (offsetWord (x .value)))
     true (x .value)
 
 unfoldable pub frame68010Interrupt : World → ℕ → ℕ → ℕ → Attempt
@@ -63,7 +63,7 @@ frame68010Interrupt w pc sr level = rest68010 pc sr (syncedAcknowledge w 12 leve
 
 -- other kinds: the acknowledge, then format 0
 unfoldable pub restOther : ℕ → ℕ → Attempt → Attempt
-restOther pc sr x = reply (stacked raised (x .after) (shortFrame sr pc (offsetWord (x .value)))) true (x .value)
+restOther pc sr x = reply (pushFrame raised (x .after) (shortFrame sr pc (offsetWord (x .value)))) true (x .value)
 
 unfoldable pub frameOther : World → ℕ → ℕ → ℕ → Attempt
 frameOther w pc sr level = restOther pc sr (acknowledgeLevel w level)
@@ -75,36 +75,36 @@ firstFrame w pc sr level =
 
 -- a status with S set
 unfoldable pub withS : ℕ → ℕ
-withS sr = sr - sr / 8192 % 2 * 8192 + 8192
+withS sr = sr - sr / 0x2000 % 2 * 0x2000 + 0x2000
 
 -- after the first frame, where M is set: on kinds 3 to 9 M is cleared with the stack and a format 1 frame follows on the
 -- interrupt stack, its status with S set; on kind 11 M is cleared and the stack stays
 unfoldable pub throwaway : World → ℕ → ℕ → ℕ → World
-throwaway w pc sr v = stacked raised (on w (setSmFlag (cpuOf w) 4)) (shortFrame (withS sr) pc (formatWord 1 v))
+throwaway w pc sr v = pushFrame raised (step (λ c. setSmFlag c 4) w) (shortFrame (withS sr) pc (formatWord 1 v))
 
 unfoldable pub secondFrame : World → ℕ → ℕ → ℕ → World
 secondFrame w pc sr v =
     pick (mIsSet (cpuOf w))
     (pick (isEc020Plus (kindOf (cpuOf w))) (throwaway w pc sr v)
-    (pick (is060 (kindOf (cpuOf w))) (on w (clearM (cpuOf w))) w)) w
+    (pick (is060 (kindOf (cpuOf w))) (step clearM w) w)) w
 
 -- the jump; then `stopped` is 0 and the cycles are charged
 unfoldable pub closed : Cpu → Cpu
 closed c = chargeInterrupt (clearStopped c)
 
 unfoldable pub ended : World → World
-ended w = on w (closed (cpuOf w))
+ended w = step closed w
 
 unfoldable pub dispatched : ℕ → ℕ → Attempt → World
 dispatched pc sr x = ended (jumpVector raised (secondFrame (x .after) pc sr (x .value)) (x .value))
 
 unfoldable pub serviceInterrupt : World → ℕ → World
 serviceInterrupt w level =
-    dispatched (pcOf (cpuOf w)) (statusOf (cpuOf w)) (firstFrame (on w (enterLevel (cpuOf w) level)) (pcOf (cpuOf w)) (statusOf (cpuOf w)) level)
+    dispatched (pcOf (cpuOf w)) (statusOf (cpuOf w)) (firstFrame (step (λ c. enterLevel c level) w) (pcOf (cpuOf w)) (statusOf (cpuOf w)) level)
 
 -- `check_and_service_interrupts`: taken exactly if the level is 7 or above the mask; then no level is pending
 unfoldable pub serviced : World → World
-serviced w = on w (clearLevel (cpuOf w))
+serviced w = step clearLevel w
 
 unfoldable pub checkAndService : World → Attempt
 checkAndService w =

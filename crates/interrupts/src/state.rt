@@ -17,7 +17,7 @@ ghost use Rattle.interrupts.specs.Interrupts.{iackVector, enterLevel, wi
 pub fn iack_vector(response: u32, level: u8) -> u32
     ensures { λ r. ⌜ r ≡ iackVector response level ⌝ }
 {
-    if response == 4294967295 {
+    if response == 0xFFFFFFFF {
         return 24 + (level % 8) as u32;
     }
     response % 256
@@ -25,23 +25,23 @@ pub fn iack_vector(response: u32, level: u8) -> u32
 
 // The low word of a long.
 pub fn low_word(v: u32) -> u16
-    ensures { λ r. ⌜ r ≡ v % 65536 ⌝ }
+    ensures { λ r. ⌜ r ≡ v % 0x10000 ⌝ }
 {
-    (v % 65536) as u16
+    (v % 0x10000) as u16
 }
 
 // The high word of a long.
 pub fn high_word(v: u32) -> u16
-    ensures { λ r. ⌜ r ≡ v / 65536 ⌝ }
+    ensures { λ r. ⌜ r ≡ v / 0x10000 ⌝ }
 {
-    (v / 65536) as u16
+    (v / 0x10000) as u16
 }
 
 // The offset of a vector, as a word.
 pub fn offset_u16(v: u32) -> u16
     ensures { λ r. ⌜ r ≡ offsetWord v ⌝ }
 {
-    (v % 16384 * 4) as u16
+    (v % 0x4000 * 4) as u16
 }
 
 // A word as a number to push.
@@ -56,7 +56,7 @@ pub fn with_s(sr: u16) -> u32
     ensures { λ r. ⌜ r ≡ withS sr ⌝ }
 {
     let n = sr as u32;
-    n - n / 8192 % 2 * 8192 + 8192
+    n - n / 0x2000 % 2 * 0x2000 + 0x2000
 }
 
 // the status

@@ -88,7 +88,7 @@ module _ (w : World) (a : ℕ) (g : Bool) where
 
 -- what a write stores: all of a long, the low 16 bits of a word
 abbrev pub kept : Bool → ℕ → ℕ
-kept g v = pick g v (v % 65536)
+kept g v = pick g v (v % 0x10000)
 
 -- what a write leaves of the store s
 abbrev pub left : World → ℕ → Bool → ℕ → List ℕ → List ℕ
@@ -169,7 +169,7 @@ module _ (w : World) (a : ℕ) (g : Bool) (v : ℕ) where
     where
       go : (t g : Bool) → AllBytes (pick t (put g (w .store) (placeOf (w .core .bus) a) (kept g v)) (w .store))
       go true true = put-small true (w .store) (placeOf (w .core .bus) a) v h k
-      go true false = put-small false (w .store) (placeOf (w .core .bus) a) (v % 65536) (omega arith) k
+      go true false = put-small false (w .store) (placeOf (w .core .bus) a) (v % 0x10000) (omega arith) k
       go false g = k
 
   -- what is served is the same after a write as before it

@@ -22,11 +22,11 @@ get g s p = pick g (getLong s p) (getWord s p)
 
 -- the values of a width
 abbrev pub Fits : Bool → ℕ → Type 0
-Fits g v = v < pick g (2 ^ 32) 65536
+Fits g v = v < pick g (2 ^ 32) 0x10000
 
 -- the bytes of a value, the highest first
 abbrev pub bytesOf : Bool → ℕ → List ℕ
-bytesOf true v = v / 65536 / 256 ∷ v / 65536 % 256 ∷ v % 65536 / 256 ∷ v % 65536 % 256 ∷ []
+bytesOf true v = v / 0x10000 / 256 ∷ v / 0x10000 % 256 ∷ v % 0x10000 / 256 ∷ v % 0x10000 % 256 ∷ []
 bytesOf false v = v / 256 ∷ v % 256 ∷ []
 
 length-bytes : (g : Bool) (v : ℕ) → length (bytesOf g v) ≡ widthOf g

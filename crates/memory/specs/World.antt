@@ -59,7 +59,7 @@ served w a long = servedOf (w .core .bus) (length (w .store)) a (widthOf long)
 
 -- the bytes of a write, and the field of a read, at the place of its address
 unfoldable pub written : World → ℕ → Bool → ℕ → List ℕ
-written w a long v = pick long (putLong (w .store) (placeOf (w .core .bus) a) v) (putWord (w .store) (placeOf (w .core .bus) a) (v % 65536))
+written w a long v = pick long (putLong (w .store) (placeOf (w .core .bus) a) v) (putWord (w .store) (placeOf (w .core .bus) a) (v % 0x10000))
 
 unfoldable pub fetched : World → ℕ → Bool → ℕ
 fetched w a long = pick long (getLong (w .store) (placeOf (w .core .bus) a)) (getWord (w .store) (placeOf (w .core .bus) a))

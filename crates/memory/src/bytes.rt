@@ -16,8 +16,8 @@ pub(crate) fn put_long(store: &mut [u8], at: usize, v: u32)
     requires { ⌜ at + 4 ≤ length (now store) ⌝ }
     ensures { λ _. ⌜ now (store .exit) ≡ putLong (now (store .entry)) at v ⌝ }
 {
-    put_word(store, at, (v / 65536) as u16);
-    put_word(store, at + 2, (v % 65536) as u16);
+    put_word(store, at, (v / 0x10000) as u16);
+    put_word(store, at + 2, (v % 0x10000) as u16);
 }
 
 fn wide(x: u8) -> u32
@@ -28,7 +28,7 @@ fn wide(x: u8) -> u32
 
 pub(crate) fn get_word(store: &[u8], at: usize) -> u32
     requires { ⌜ at + 2 ≤ length (now store) ⌝ }
-    ensures { λ r. ⌜ (r ≡ getWord (now (store .entry)) at) × (r < 65536) ⌝ }
+    ensures { λ r. ⌜ (r ≡ getWord (now (store .entry)) at) × (r < 0x10000) ⌝ }
 {
     wide(store[at]) * 256 + wide(store[at + 1])
 }
@@ -37,5 +37,5 @@ pub(crate) fn get_long(store: &[u8], at: usize) -> u32
     requires { ⌜ at + 4 ≤ length (now store) ⌝ }
     ensures { λ r. ⌜ r ≡ getLong (now (store .entry)) at ⌝ }
 {
-    get_word(store, at) * 65536 + get_word(store, at + 2)
+    get_word(store, at) * 0x10000 + get_word(store, at + 2)
 }

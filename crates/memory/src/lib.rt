@@ -108,7 +108,7 @@ pub fn try_write(
             let d = note(m, store, log, 4, address, value);
             return Tried { core: d, ok: true };
         }
-        bytes::put_word(store, windows::place(b, address), (value % 65536) as u16);
+        bytes::put_word(store, windows::place(b, address), (value % 0x10000) as u16);
         let d = note(m, store, log, 3, address, value);
         return Tried { core: d, ok: true };
     }

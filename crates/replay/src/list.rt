@@ -30,13 +30,13 @@ fn plus(at: usize, n: usize) -> usize {
 
 // Two bytes, the high one first.
 pub(crate) fn word(b: &[u8], at: usize) -> u32
-    ensures { λ r. ⌜ r < 65536 ⌝ }
+    ensures { λ r. ⌜ r < 0x10000 ⌝ }
 {
     byte(b, at) * 256 + byte(b, plus(at, 1))
 }
 
 fn long(b: &[u8], at: usize) -> u32 {
-    word(b, at) * 65536 + word(b, plus(at, 2))
+    word(b, at) * 0x10000 + word(b, plus(at, 2))
 }
 
 // A byte below 251 is the number itself; 251 stands for all ones; 252, 253 and 254 come before one, two and four bytes.
@@ -106,7 +106,7 @@ pub(crate) fn words(b: &[u8], at: usize, w: &mut [u32; 136]) -> usize {
 }
 
 // The same of bytes.
-pub(crate) fn bytes(b: &[u8], at: usize, s: &mut [u8; 65536]) -> usize {
+pub(crate) fn bytes(b: &[u8], at: usize, s: &mut [u8; 0x10000]) -> usize {
     let n = number(b, at);
     let count = n.value;
     let mut p = n.next;
@@ -143,13 +143,13 @@ fn filler(i: u32, fill: u32) -> u32 {
     if fill == 0 {
         return 0;
     }
-    let n = (i % 65536) * 31 + fill % 256;
+    let n = (i % 0x10000) * 31 + fill % 256;
     n ^ (i / 256)
 }
 
-pub(crate) fn fill(s: &mut [u8; 65536], fill: u32) {
+pub(crate) fn fill(s: &mut [u8; 0x10000], fill: u32) {
     let mut i: u32 = 0;
-    while i < 65536 {
+    while i < 0x10000 {
         set_byte(s, i, filler(i, fill));
         i += 1;
     }

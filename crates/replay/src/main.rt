@@ -53,7 +53,7 @@ fn words(x: u32) -> usize {
 }
 
 // The call of a case.
-fn call_case(w: [u32; 136], store: &mut [u8; 65536], log: &mut [u32; 192]) -> RawAnswer {
+fn call_case(w: [u32; 136], store: &mut [u8; 0x10000], log: &mut [u32; 192]) -> RawAnswer {
     call(w, store, log, size(w[123]), words(w[134]))
 }
 
@@ -68,7 +68,7 @@ fn put_answer(w: &mut [u32; 136], r: RawAnswer, cycles: u32) {
 // Whether the call leaves what was recorded.
 fn is_same(b: &[u8]) -> bool {
     let mut w = [0u32; 136];
-    let mut store = [0u8; 65536];
+    let mut store = [0u8; 0x10000];
     let p = list::words(b, 0, &mut w);
     list::fill(&mut store, w[124]);
     let q = list::bytes(b, p, &mut store);
@@ -145,7 +145,7 @@ fn step(fd: i32, t: Tally) -> Tally {
         return ended(t);
     }
     let n = list::word(&head, 0) as usize;
-    let mut buffer = [0u8; 4096];
+    let mut buffer = [0u8; 0x1000];
     if !read_part(fd, &mut buffer, n) {
         let r = counted(t, false);
         return ended(r);

@@ -23,7 +23,7 @@ fn bit(b: bool) -> u32 {
 }
 
 fn low_word(n: u32) -> u16 {
-    (n % 65536) as u16
+    (n % 0x10000) as u16
 }
 
 fn low_byte(n: u32) -> u8 {
@@ -43,7 +43,7 @@ fn signed(n: u32) -> i32 {
     if n < 2147483648 {
         return n as i32;
     }
-    let m = (4294967295 - n) as i32;
+    let m = (0xFFFFFFFF - n) as i32;
     !m
 }
 

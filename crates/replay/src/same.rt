@@ -35,6 +35,6 @@ pub(crate) fn same_log(a: &[u32; 192], b: &[u32; 192]) -> bool {
     same_words(a, b)
 }
 
-pub(crate) fn same_store(a: &[u8; 65536], b: &[u8; 65536]) -> bool {
+pub(crate) fn same_store(a: &[u8; 0x10000], b: &[u8; 0x10000]) -> bool {
     same_bytes(a, b)
 }

@@ -7,15 +7,15 @@ use lib.Signed.{leZ}
 use Rattle.types.specs.Kinds.{pick, either}
 use Rattle.cpu.specs.declared.Flow.{Flow}
 use Rattle.cpu.specs.declared.Cpu.{Cpu}
-use Rattle.cpu.specs.Groups.{withFlags, withFlow}
+use Rattle.cpu.specs.Groups.{withFlow, withIntLevel}
 
 -- `set_irq`: the pending level, its low 3 bits
 unfoldable pub setIrq : Cpu → ℕ → Cpu
-setIrq c level = withFlags c (record { «t1_flag» = c .flags .«t1_flag»; «t0_flag» = c .flags .«t0_flag»; «s_flag» = c .flags .«s_flag»; «m_flag» = c .flags .«m_flag»; «x_flag» = c .flags .«x_flag»; «n_flag» = c .flags .«n_flag»; «not_z_flag» = c .flags .«not_z_flag»; «v_flag» = c .flags .«v_flag»; «c_flag» = c .flags .«c_flag»; «int_mask» = c .flags .«int_mask»; «int_level» = level % 8; «sr_save» = c .flags .«sr_save» })
+setIrq c level = withIntLevel c (level % 8)
 
 -- no level is pending
 unfoldable pub clearLevel : Cpu → Cpu
-clearLevel c = withFlags c (record { «t1_flag» = c .flags .«t1_flag»; «t0_flag» = c .flags .«t0_flag»; «s_flag» = c .flags .«s_flag»; «m_flag» = c .flags .«m_flag»; «x_flag» = c .flags .«x_flag»; «n_flag» = c .flags .«n_flag»; «not_z_flag» = c .flags .«not_z_flag»; «v_flag» = c .flags .«v_flag»; «c_flag» = c .flags .«c_flag»; «int_mask» = c .flags .«int_mask»; «int_level» = 0; «sr_save» = c .flags .«sr_save» })
+clearLevel c = withIntLevel c 0
 
 -- `check_interrupts`: by the raw fields
 unfoldable pub checkInterrupts : Cpu → Bool

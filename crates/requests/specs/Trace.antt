@@ -4,18 +4,18 @@ use mathlib.Core.Bool.{Bool, true, false}
 use lib.Dec.{eqb}
 use Rattle.types.specs.Kinds.{pick, isPre68020, is040}
 use Rattle.cpu.specs.declared.Cpu.{Cpu}
-use Rattle.cpu.specs.Groups.{withFlow}
+use Rattle.cpu.specs.Groups.{withChangeOfFlow}
 use Rattle.requests.specs.declared.trace.Traced.{Traced}
 
 -- T1 of the status before the instruction, or T0 with a change of flow
 unfoldable pub asksTrace : Cpu → Bool
 asksTrace c =
-    pick (eqb (c .flags .«sr_save» / 32768 % 2) 1) true
-    (pick (eqb (c .flags .«sr_save» / 16384 % 2) 1) (c .flow .«change_of_flow») false)
+    pick (eqb (c .flags .«sr_save» / 0x8000 % 2) 1) true
+    (pick (eqb (c .flags .«sr_save» / 0x4000 % 2) 1) (c .flow .«change_of_flow») false)
 
 -- whether the instruction changed the flow
 unfoldable pub setChangeOfFlow : Cpu → Bool → Cpu
-setChangeOfFlow c b = withFlow c (record { ppc = c .flow .ppc; pc = c .flow .pc; vbr = c .flow .vbr; ir = c .flow .ir; fpiar = c .flow .fpiar; «cpu_type» = c .flow .«cpu_type»; «run_mode» = c .flow .«run_mode»; stopped = c .flow .stopped; «exception_processing» = c .flow .«exception_processing»; «change_of_flow» = b; «loop_mode» = c .flow .«loop_mode»; «cycles_remaining» = c .flow .«cycles_remaining» })
+setChangeOfFlow c b = withChangeOfFlow c b
 
 -- `check_trace`: whether a trace exception is asked for; the change of flow is forgotten
 unfoldable pub checkTrace : Cpu → Traced

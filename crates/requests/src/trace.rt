@@ -22,10 +22,10 @@ pub fn check_trace(c: Cpu) -> Traced
 fn asks_trace(c: Cpu) -> bool
     ensures { λ r. ⌜ r ≡ asksTrace c ⌝ }
 {
-    if c.flags.sr_save / 32768 % 2 == 1 {
+    if c.flags.sr_save / 0x8000 % 2 == 1 {
         return true;
     }
-    if c.flags.sr_save / 16384 % 2 == 1 {
+    if c.flags.sr_save / 0x4000 % 2 == 1 {
         return c.flow.change_of_flow;
     }
     false

@@ -41,12 +41,12 @@ codes-back w =
     sum b0 b1 b2 b3 b4 w2 w3 w4 w5 e2 e3 e4 e5 = omega arith
 
 -- the status of flags that were taken from a status w, with S and M given
-composed : (f : Flags) (w s m : ℕ) → compose (decompose f w s m) ≡ w / 32768 % 2 * 32768 + w / 16384 % 2 * 16384 + s / 4 % 2 * 8192 + m / 2 % 2 * 4096 + w / 256 % 8 * 256 + w % 32
+composed : (f : Flags) (w s m : ℕ) → compose (decompose f w s m) ≡ w / 0x8000 % 2 * 0x8000 + w / 0x4000 % 2 * 0x4000 + s / 4 % 2 * 0x2000 + m / 2 % 2 * 0x1000 + w / 256 % 8 * 256 + w % 32
 unfolding compose decompose
 composed f w s m =
     rw (
-      bit-back (w / 32768) 32768 (lit< tt),
-      bit-back (w / 16384) 16384 (lit< tt),
+      bit-back (w / 0x8000) 0x8000 (lit< tt),
+      bit-back (w / 0x4000) 0x4000 (lit< tt),
       bit-back (w / 16) 256 (lit< tt),
       bit-back (w / 8) 128 (lit< tt),
       bit-back (w / 2) 128 (lit< tt),
@@ -62,13 +62,13 @@ pub status-back : (c : Cpu) (sr : ℕ) → statusOf (putBackSr c sr) ≡ maskSta
 unfolding statusOf putBackSr
 status-back c sr =
     let v : ℕ = maskStatus (kindOf c) sr in
-    composed (c .flags) v (sOf v) (mOf v) ∙ rw (bit-back (v / 8192) 4 (lit< tt), bit-back (v / 4096) 2 (lit< tt)) (masked-status-sum (kindOf c) sr)
+    composed (c .flags) v (sOf v) (mOf v) ∙ rw (bit-back (v / 0x2000) 4 (lit< tt), bit-back (v / 0x1000) 2 (lit< tt)) (masked-status-sum (kindOf c) sr)
 
 -- a status whose M is cleared where its S is clear
 unfoldable pub dropM : ℕ → ℕ
-dropM w = pick (eqb (w / 8192 % 2) 0) (w - w / 4096 % 2 * 4096) w
+dropM w = pick (eqb (w / 0x2000 % 2) 0) (w - w / 0x1000 % 2 * 0x1000) w
 
-m-dropped : (s m w x y z : ℕ) → s < 2 → m < 2 → x + m * 4096 + y + z ≡ w → x + pick (eqb (s * 4) 0) 0 (m * 2) / 2 % 2 * 4096 + y + z ≡ pick (eqb s 0) (w - m * 4096) w
+m-dropped : (s m w x y z : ℕ) → s < 2 → m < 2 → x + m * 0x1000 + y + z ≡ w → x + pick (eqb (s * 4) 0) 0 (m * 2) / 2 % 2 * 0x1000 + y + z ≡ pick (eqb s 0) (w - m * 0x1000) w
 m-dropped zero m w x y z l d e = omega arith
 m-dropped (suc zero) m w x y z l d e = omega arith
 m-dropped (suc (suc s)) m w x y z l d e = absurd (omega arith)
@@ -79,15 +79,15 @@ unfolding statusOf setSrNointNosp mUnderS dropM
 status-restored c sr =
     let v : ℕ = maskStatus (kindOf c) sr in
     composed (c .flags) v (sOf v) (mUnderS v)
-    ∙ rw (bit-back (v / 8192) 4 (lit< tt)) (m-dropped (v / 8192 % 2) (v / 4096 % 2) v _ _ _ (omega arith) (omega arith) (masked-status-sum (kindOf c) sr))
+    ∙ rw (bit-back (v / 0x2000) 4 (lit< tt)) (m-dropped (v / 0x2000 % 2) (v / 0x1000 % 2) v _ _ _ (omega arith) (omega arith) (masked-status-sum (kindOf c) sr))
 
 -- so in supervisor state it is the status under the mask
-pub status-restored-supervisor : (c : Cpu) (sr : ℕ) → sr / 8192 % 2 ≡ 1 → statusOf (setSrNointNosp c sr) ≡ maskStatus (kindOf c) sr
+pub status-restored-supervisor : (c : Cpu) (sr : ℕ) → sr / 0x2000 % 2 ≡ 1 → statusOf (setSrNointNosp c sr) ≡ maskStatus (kindOf c) sr
 unfolding dropM
 status-restored-supervisor c sr h = status-restored c sr ∙ rw (masked-status-parts (kindOf c) sr .s-bit, h)
 
 -- and in user state its M is clear
-pub status-restored-user : (c : Cpu) (sr : ℕ) → sr / 8192 % 2 ≡ 0 → statusOf (setSrNointNosp c sr) / 4096 % 2 ≡ 0
+pub status-restored-user : (c : Cpu) (sr : ℕ) → sr / 0x2000 % 2 ≡ 0 → statusOf (setSrNointNosp c sr) / 0x1000 % 2 ≡ 0
 unfolding dropM
 status-restored-user c sr h = rw (status-restored, masked-status-parts (kindOf c) sr .s-bit, h) (omega arith)
 
@@ -95,8 +95,8 @@ status-restored-user c sr h = rw (status-restored, masked-status-parts (kindOf c
 
 -- each flag is 0 or the bit that `get_sr` tests, and the opposite of Z is 0 or 1
 pub record Tidy (f : Flags) : Type 0 where
-  pub t1-bit : f .«t1_flag» / 32768 % 2 * 32768 ≡ f .«t1_flag»
-  pub t0-bit : f .«t0_flag» / 16384 % 2 * 16384 ≡ f .«t0_flag»
+  pub t1-bit : f .«t1_flag» / 0x8000 % 2 * 0x8000 ≡ f .«t1_flag»
+  pub t0-bit : f .«t0_flag» / 0x4000 % 2 * 0x4000 ≡ f .«t0_flag»
   pub s-bit : f .«s_flag» / 4 % 2 * 4 ≡ f .«s_flag»
   pub m-bit : f .«m_flag» / 2 % 2 * 2 ≡ f .«m_flag»
   pub level : f .«int_mask» / 256 % 8 * 256 ≡ f .«int_mask»
@@ -114,8 +114,8 @@ tidy-decompose : (f : Flags) (w s m : ℕ) → s / 4 % 2 * 4 ≡ s → m / 2 % 2
 unfolding decompose
 tidy-decompose f w s m p q =
     record {
-      t1-bit = at-weight (w / 32768) 32768 (lit< tt);
-      t0-bit = at-weight (w / 16384) 16384 (lit< tt);
+      t1-bit = at-weight (w / 0x8000) 0x8000 (lit< tt);
+      t0-bit = at-weight (w / 0x4000) 0x4000 (lit< tt);
       s-bit = p;
       m-bit = q;
       level = ap (λ (i : ℕ). i * 256) (level-back (w / 256 % 8) (omega arith));
@@ -131,15 +131,15 @@ pub tidy-back : (c : Cpu) (sr : ℕ) → Tidy (putBackSr c sr .flags)
 unfolding putBackSr
 tidy-back c sr =
     let v : ℕ = maskStatus (kindOf c) sr in
-    tidy-decompose (c .flags) v (sOf v) (mOf v) (at-weight (v / 8192) 4 (lit< tt)) (at-weight (v / 4096) 2 (lit< tt))
+    tidy-decompose (c .flags) v (sOf v) (mOf v) (at-weight (v / 0x2000) 4 (lit< tt)) (at-weight (v / 0x1000) 2 (lit< tt))
 
 -- flags that `set_sr_noint_nosp` has set are tidy
 pub tidy-restored : (c : Cpu) (sr : ℕ) → Tidy (setSrNointNosp c sr .flags)
 unfolding setSrNointNosp mUnderS
 tidy-restored c sr =
     let v : ℕ = maskStatus (kindOf c) sr in
-    tidy-decompose (c .flags) v (sOf v) (mUnderS v) (at-weight (v / 8192) 4 (lit< tt))
-    (pick-holds (λ (m : ℕ). m / 2 % 2 * 2 ≡ m) (eqb (sOf v) 0) 0 (mOf v) refl (at-weight (v / 4096) 2 (lit< tt)))
+    tidy-decompose (c .flags) v (sOf v) (mUnderS v) (at-weight (v / 0x2000) 4 (lit< tt))
+    (pick-holds (λ (m : ℕ). m / 2 % 2 * 2 ≡ m) (eqb (sOf v) 0) 0 (mOf v) refl (at-weight (v / 0x1000) 2 (lit< tt)))
 
 -- the flags of a fresh record are tidy
 pub tidy-fresh : Tidy freshFlags
@@ -148,12 +148,12 @@ tidy-fresh =
     record { t1-bit = refl; t0-bit = refl; s-bit = refl; m-bit = refl; level = refl; x-bit = refl; n-bit = refl; z-bit = lit≤ tt; v-bit = refl; c-bit = refl }
 
 -- and its status is 0x2700
-pub status-fresh : (k : ℕ) → statusOf (freshCpu k) ≡ 9984
+pub status-fresh : (k : ℕ) → statusOf (freshCpu k) ≡ 0x2700
 unfolding statusOf compose freshCpu freshFlags
 status-fresh k = refl
 
 -- the parts of the status of any flags
-composed-parts : (f : Flags) → Parts (compose f) (f .«t1_flag» / 32768 % 2) (f .«t0_flag» / 16384 % 2) (f .«s_flag» / 4 % 2) (f .«m_flag» / 2 % 2) (f .«int_mask» / 256 % 8) (f .«x_flag» / 256 % 2 * 16 + f .«n_flag» / 128 % 2 * 8 + f .«v_flag» / 128 % 2 * 2 + f .«c_flag» / 256 % 2 + pick (eqb (f .«not_z_flag») 0) 4 0)
+composed-parts : (f : Flags) → Parts (compose f) (f .«t1_flag» / 0x8000 % 2) (f .«t0_flag» / 0x4000 % 2) (f .«s_flag» / 4 % 2) (f .«m_flag» / 2 % 2) (f .«int_mask» / 256 % 8) (f .«x_flag» / 256 % 2 * 16 + f .«n_flag» / 128 % 2 * 8 + f .«v_flag» / 128 % 2 * 2 + f .«c_flag» / 256 % 2 + pick (eqb (f .«not_z_flag») 0) 4 0)
 unfolding compose
 composed-parts f =
     rw (add-assoc _ (f .«x_flag» / 256 % 2 * 16 + f .«n_flag» / 128 % 2 * 8 + f .«v_flag» / 128 % 2 * 2 + f .«c_flag» / 256 % 2) (pick (eqb (f .«not_z_flag») 0) 4 0))
@@ -186,8 +186,8 @@ own-flags f h =
     = codes-of _ _ _ _ _ _ (omega arith) (omega arith) (omega arith) (omega arith) (omega arith) (p .codes ∙ rw (z-weight (f .«not_z_flag») (h .z-bit))) in
     let z : 1 - compose f / 4 % 2 ≡ f .«not_z_flag» = rw (q .z-bit) (omega (arith, h .z-bit)) in
     λ i. record {
-      «t1_flag» = (ap (λ (b : ℕ). b * 32768) (p .t1-bit) ∙ h .t1-bit) i;
-      «t0_flag» = (ap (λ (b : ℕ). b * 16384) (p .t0-bit) ∙ h .t0-bit) i;
+      «t1_flag» = (ap (λ (b : ℕ). b * 0x8000) (p .t1-bit) ∙ h .t1-bit) i;
+      «t0_flag» = (ap (λ (b : ℕ). b * 0x4000) (p .t0-bit) ∙ h .t0-bit) i;
       «s_flag» = f .«s_flag»;
       «m_flag» = f .«m_flag»;
       «x_flag» = (ap (λ (b : ℕ). b * 256) (q .x-bit) ∙ h .x-bit) i;

@@ -6,13 +6,13 @@ use lib.ListN.{set}
 use Rattle.types.specs.Kinds.{pick, both, maskStatus}
 use Rattle.cpu.specs.declared.Flags.{Flags}
 use Rattle.cpu.specs.declared.Cpu.{Cpu}
-use Rattle.cpu.specs.Groups.{withFlow, withFlags, withFaultResume}
+use Rattle.cpu.specs.Groups.{withCFlag, withFaultResume, withFlags, withIntMask, withMFlag, withNFlag, withNotZFlag, withRunMode, withT0Flag, withT1Flag, withVFlag, withXFlag}
 use Rattle.cpu.specs.Fields.{kindOf}
 
 -- `get_sr`: each flag gives the bit that is tested in it; Z is set where `not_z_flag` is 0
 unfoldable pub compose : Flags → ℕ
 compose f =
-    f .«t1_flag» / 32768 % 2 * 32768 + f .«t0_flag» / 16384 % 2 * 16384 + f .«s_flag» / 4 % 2 * 8192 + f .«m_flag» / 2 % 2 * 4096 + f .«int_mask» / 256 % 8 * 256
+    f .«t1_flag» / 0x8000 % 2 * 0x8000 + f .«t0_flag» / 0x4000 % 2 * 0x4000 + f .«s_flag» / 4 % 2 * 0x2000 + f .«m_flag» / 2 % 2 * 0x1000 + f .«int_mask» / 256 % 8 * 256
     + (f .«x_flag» / 256 % 2 * 16 + f .«n_flag» / 128 % 2 * 8 + f .«v_flag» / 128 % 2 * 2 + f .«c_flag» / 256 % 2) + pick (eqb (f .«not_z_flag») 0) 4 0
 
 unfoldable pub statusOf : Cpu → ℕ
@@ -22,8 +22,8 @@ statusOf c = compose (c .flags)
 unfoldable pub decompose : Flags → ℕ → ℕ → ℕ → Flags
 decompose f w s m =
     record {
-      «t1_flag» = w / 32768 % 2 * 32768;
-      «t0_flag» = w / 16384 % 2 * 16384;
+      «t1_flag» = w / 0x8000 % 2 * 0x8000;
+      «t0_flag» = w / 0x4000 % 2 * 0x4000;
       «s_flag» = s;
       «m_flag» = m;
       «x_flag» = w / 16 % 2 * 256;
@@ -37,10 +37,10 @@ decompose f w s m =
     }
 
 abbrev pub sOf : ℕ → ℕ
-sOf w = w / 8192 % 2 * 4
+sOf w = w / 0x2000 % 2 * 4
 
 abbrev pub mOf : ℕ → ℕ
-mOf w = w / 4096 % 2 * 2
+mOf w = w / 0x1000 % 2 * 2
 
 -- M counts only where S is set
 unfoldable pub mUnderS : ℕ → ℕ
@@ -60,19 +60,19 @@ restoreSr c = setSrNointNosp c (c .flags .«sr_save»)
 
 -- `set_ccr_internal`: the five condition codes
 unfoldable pub setCcr : Cpu → ℕ → Cpu
-setCcr c ccr = withFlags c (record { «t1_flag» = c .flags .«t1_flag»; «t0_flag» = c .flags .«t0_flag»; «s_flag» = c .flags .«s_flag»; «m_flag» = c .flags .«m_flag»; «x_flag» = ccr / 16 % 2 * 256; «n_flag» = ccr / 8 % 2 * 128; «not_z_flag» = 1 - ccr / 4 % 2; «v_flag» = ccr / 2 % 2 * 128; «c_flag» = ccr % 2 * 256; «int_mask» = c .flags .«int_mask»; «int_level» = c .flags .«int_level»; «sr_save» = c .flags .«sr_save» })
+setCcr c ccr = withCFlag (withVFlag (withNotZFlag (withNFlag (withXFlag c (ccr / 16 % 2 * 256)) (ccr / 8 % 2 * 128)) (1 - ccr / 4 % 2)) (ccr / 2 % 2 * 128)) (ccr % 2 * 256)
 
 -- an entry clears both trace flags
 unfoldable pub clearTrace : Cpu → Cpu
-clearTrace c = withFlags c (record { «t1_flag» = 0; «t0_flag» = 0; «s_flag» = c .flags .«s_flag»; «m_flag» = c .flags .«m_flag»; «x_flag» = c .flags .«x_flag»; «n_flag» = c .flags .«n_flag»; «not_z_flag» = c .flags .«not_z_flag»; «v_flag» = c .flags .«v_flag»; «c_flag» = c .flags .«c_flag»; «int_mask» = c .flags .«int_mask»; «int_level» = c .flags .«int_level»; «sr_save» = c .flags .«sr_save» })
+clearTrace c = withT0Flag (withT1Flag c 0) 0
 
 -- the interrupt mask is the level
 unfoldable pub setIntMask : Cpu → ℕ → Cpu
-setIntMask c level = withFlags c (record { «t1_flag» = c .flags .«t1_flag»; «t0_flag» = c .flags .«t0_flag»; «s_flag» = c .flags .«s_flag»; «m_flag» = c .flags .«m_flag»; «x_flag» = c .flags .«x_flag»; «n_flag» = c .flags .«n_flag»; «not_z_flag» = c .flags .«not_z_flag»; «v_flag» = c .flags .«v_flag»; «c_flag» = c .flags .«c_flag»; «int_mask» = level % 8 * 256; «int_level» = c .flags .«int_level»; «sr_save» = c .flags .«sr_save» })
+setIntMask c level = withIntMask c (level % 8 * 256)
 
 -- M is cleared and the stack stays: kind 11
 unfoldable pub clearM : Cpu → Cpu
-clearM c = withFlags c (record { «t1_flag» = c .flags .«t1_flag»; «t0_flag» = c .flags .«t0_flag»; «s_flag» = c .flags .«s_flag»; «m_flag» = 0; «x_flag» = c .flags .«x_flag»; «n_flag» = c .flags .«n_flag»; «not_z_flag» = c .flags .«not_z_flag»; «v_flag» = c .flags .«v_flag»; «c_flag» = c .flags .«c_flag»; «int_mask» = c .flags .«int_mask»; «int_level» = c .flags .«int_level»; «sr_save» = c .flags .«sr_save» })
+clearM c = withMFlag c 0
 
 -- whether M is set
 unfoldable pub mIsSet : Cpu → Bool
@@ -81,4 +81,4 @@ mIsSet c = not (eqb (c .flags .«m_flag») 0)
 -- PC, the status and the registers are kept for the end of the faulted instruction, and the record is faulted
 unfoldable pub keepResume : Cpu → Cpu
 keepResume c =
-    withFaultResume (withFlow c (record { ppc = c .flow .ppc; pc = c .flow .pc; vbr = c .flow .vbr; ir = c .flow .ir; fpiar = c .flow .fpiar; «cpu_type» = c .flow .«cpu_type»; «run_mode» = 1; stopped = c .flow .stopped; «exception_processing» = c .flow .«exception_processing»; «change_of_flow» = c .flow .«change_of_flow»; «loop_mode» = c .flow .«loop_mode»; «cycles_remaining» = c .flow .«cycles_remaining» })) (record { some = true; pc = c .flow .pc; sr = statusOf c; dar = c .regs .dar })
+    withFaultResume (withRunMode c 1) (record { some = true; pc = c .flow .pc; sr = statusOf c; dar = c .regs .dar })

@@ -20,10 +20,10 @@ pub fn get_sr(c: Cpu) -> u16
 fn compose(f: Flags) -> u16
     ensures { λ r. ⌜ r ≡ compose f ⌝ }
 {
-    let system = f.t1_flag / 32768 % 2 * 32768
-        + f.t0_flag / 16384 % 2 * 16384
-        + f.s_flag / 4 % 2 * 8192
-        + f.m_flag / 2 % 2 * 4096
+    let system = f.t1_flag / 0x8000 % 2 * 0x8000
+        + f.t0_flag / 0x4000 % 2 * 0x4000
+        + f.s_flag / 4 % 2 * 0x2000
+        + f.m_flag / 2 % 2 * 0x1000
         + f.int_mask / 256 % 8 * 256;
     let codes = f.x_flag / 256 % 2 * 16
         + f.n_flag / 128 % 2 * 8
@@ -42,8 +42,8 @@ fn decompose(f: Flags, w: u16, s: u32, m: u32) -> Flags
 {
     let n = w as u32;
     Flags {
-        t1_flag: n / 32768 % 2 * 32768,
-        t0_flag: n / 16384 % 2 * 16384,
+        t1_flag: n / 0x8000 % 2 * 32768,
+        t0_flag: n / 0x4000 % 2 * 16384,
         s_flag: s,
         m_flag: m,
         x_flag: n / 16 % 2 * 256,
@@ -61,14 +61,14 @@ fn decompose(f: Flags, w: u16, s: u32, m: u32) -> Flags
 fn s_of(w: u16) -> u32
     ensures { λ r. ⌜ r ≡ sOf w ⌝ }
 {
-    (w as u32) / 8192 % 2 * 4
+    (w as u32) / 0x2000 % 2 * 4
 }
 
 // The M flag of a status: 0 or 2.
 fn m_of(w: u16) -> u32
     ensures { λ r. ⌜ r ≡ mOf w ⌝ }
 {
-    (w as u32) / 4096 % 2 * 2
+    (w as u32) / 0x1000 % 2 * 2
 }
 
 // M counts only where S is set.

@@ -41,7 +41,7 @@ addressBits k = pick (ltb k 3) 24 32
 
 -- `address_mask` applied: an address is below 2^32, so 32 bits leave it as it is
 unfoldable pub maskAddress : ℕ → ℕ → ℕ
-maskAddress k a = pick (ltb k 3) (a % 16777216) a
+maskAddress k a = pick (ltb k 3) (a % 0x1000000) a
 
 -- the status bits that a kind has besides T1, S, the mask and the five condition codes
 unfoldable pub hasT0 : ℕ → Bool
@@ -52,10 +52,10 @@ hasM k = pick (ltb k 3) false (pick (eqb k 10) false true)
 
 -- `sr_mask`: 0xA71F on kinds 0, 1, 2, 10; 0xB71F on kind 11; else 0xF71F
 unfoldable pub statusMask : ℕ → ℕ
-statusMask k = pick (hasM k) (pick (hasT0 k) 63263 46879) 42783
+statusMask k = pick (hasM k) (pick (hasT0 k) 0xF71F 0xB71F) 0xA71F
 
 -- a status under the kind's mask: T1, T0 where the kind has it, S, M where the kind has it, the mask, XNZVC
 unfoldable pub maskStatus : ℕ → ℕ → ℕ
 maskStatus k w =
-    w / 32768 % 2 * 32768 + pick (hasT0 k) (w / 16384 % 2 * 16384) 0 + w / 8192 % 2 * 8192
-    + pick (hasM k) (w / 4096 % 2 * 4096) 0 + w / 256 % 8 * 256 + w % 32
+    w / 0x8000 % 2 * 0x8000 + pick (hasT0 k) (w / 0x4000 % 2 * 0x4000) 0 + w / 0x2000 % 2 * 0x2000
+    + pick (hasM k) (w / 0x1000 % 2 * 0x1000) 0 + w / 256 % 8 * 256 + w % 32

@@ -37,15 +37,15 @@ field w j k s l =
     ∙ ap₂ (λ (x y : ℕ). x * 2 ^ k + y) (and-mask (w / 2 ^ k) j) (low-bits w k s l)
 
 -- the mask of the interrupt level and the condition codes, which every kind has
-low-mask : (w : ℕ) → bitAnd w 1823 ≡ w / 256 % 8 * 256 + w % 32
+low-mask : (w : ℕ) → bitAnd w 0x71F ≡ w / 256 % 8 * 256 + w % 32
 low-mask w = omega (arith, field w 3 8 31 (lit< tt), and-mask w 5)
 
 -- the three masks, by their tests: kinds 0 to 2, kind 10, kind 11
-by-mask : (p q r : Bool) (w : ℕ) → w / 32768 % 2 * 32768 + pick (pick p false (pick q false (pick r false true))) (w / 16384 % 2 * 16384) 0 + w / 8192 % 2 * 8192 + pick (pick p false (pick q false true)) (w / 4096 % 2 * 4096) 0 + w / 256 % 8 * 256 + w % 32 ≡ bitAnd w (pick (pick p false (pick q false true)) (pick (pick p false (pick q false (pick r false true))) 63263 46879) 42783)
-by-mask true q r w = omega (arith, field w 1 15 10015 (lit< tt), field w 1 13 1823 (lit< tt), low-mask w)
-by-mask false true r w = omega (arith, field w 1 15 10015 (lit< tt), field w 1 13 1823 (lit< tt), low-mask w)
-by-mask false false true w = omega (arith, field w 1 15 14111 (lit< tt), field w 1 13 5919 (lit< tt), field w 1 12 1823 (lit< tt), low-mask w)
-by-mask false false false w = omega (arith, field w 1 15 30495 (lit< tt), field w 1 14 14111 (lit< tt), field w 1 13 5919 (lit< tt), field w 1 12 1823 (lit< tt), low-mask w)
+by-mask : (p q r : Bool) (w : ℕ) → w / 0x8000 % 2 * 0x8000 + pick (pick p false (pick q false (pick r false true))) (w / 0x4000 % 2 * 0x4000) 0 + w / 0x2000 % 2 * 0x2000 + pick (pick p false (pick q false true)) (w / 0x1000 % 2 * 0x1000) 0 + w / 256 % 8 * 256 + w % 32 ≡ bitAnd w (pick (pick p false (pick q false true)) (pick (pick p false (pick q false (pick r false true))) 0xF71F 0xB71F) 0xA71F)
+by-mask true q r w = omega (arith, field w 1 15 0x271F (lit< tt), field w 1 13 0x71F (lit< tt), low-mask w)
+by-mask false true r w = omega (arith, field w 1 15 0x271F (lit< tt), field w 1 13 0x71F (lit< tt), low-mask w)
+by-mask false false true w = omega (arith, field w 1 15 0x371F (lit< tt), field w 1 13 0x171F (lit< tt), field w 1 12 0x71F (lit< tt), low-mask w)
+by-mask false false false w = omega (arith, field w 1 15 30495 (lit< tt), field w 1 14 0x371F (lit< tt), field w 1 13 0x171F (lit< tt), field w 1 12 0x71F (lit< tt), low-mask w)
 
 -- `maskStatus` is the Rust's `sr & sr_mask`
 pub masked-status-bits : (k w : ℕ) → maskStatus k w ≡ bitAnd w (statusMask k)
@@ -56,25 +56,25 @@ masked-status-bits k w = by-mask (ltb k 3) (eqb k 10) (eqb k 11) w
 pub masked-status-small : (k w : ℕ) → maskStatus k w ≤ w
 masked-status-small k w = rw masked-status-bits (and-le-l w (statusMask k))
 
-mask-fits : (k : ℕ) → statusMask k < 65536
+mask-fits : (k : ℕ) → statusMask k < 0x10000
 unfolding statusMask
-mask-fits k = pick-holds (λ (n : ℕ). n < 65536) (hasM k) _ _ (pick-holds (λ (n : ℕ). n < 65536) (hasT0 k) _ _ (lit< tt) (lit< tt)) (lit< tt)
+mask-fits k = pick-holds (λ (n : ℕ). n < 0x10000) (hasM k) _ _ (pick-holds (λ (n : ℕ). n < 0x10000) (hasT0 k) _ _ (lit< tt) (lit< tt)) (lit< tt)
 
 -- a masked status is one of 16 bits
-pub masked-status-fits : (k w : ℕ) → maskStatus k w < 65536
+pub masked-status-fits : (k w : ℕ) → maskStatus k w < 0x10000
 masked-status-fits k w = rw masked-status-bits (omega (arith, and-le-r w (statusMask k), mask-fits k))
 
 -- the parts of a status v: T1, T0, S, M, the interrupt level, the condition codes
 pub record Parts (v t1 t0 s m i x : ℕ) : Type 0 where
-  pub t1-bit : v / 32768 % 2 ≡ t1
-  pub t0-bit : v / 16384 % 2 ≡ t0
-  pub s-bit : v / 8192 % 2 ≡ s
-  pub m-bit : v / 4096 % 2 ≡ m
+  pub t1-bit : v / 0x8000 % 2 ≡ t1
+  pub t0-bit : v / 0x4000 % 2 ≡ t0
+  pub s-bit : v / 0x2000 % 2 ≡ s
+  pub m-bit : v / 0x1000 % 2 ≡ m
   pub level : v / 256 % 8 ≡ i
   pub codes : v % 32 ≡ x
 
 pub packed : (t1 t0 s m i x : ℕ) → t1 < 2 → t0 < 2 → s < 2 → m < 2 → i < 8 → x < 32
-    → Parts (t1 * 32768 + t0 * 16384 + s * 8192 + m * 4096 + i * 256 + x) t1 t0 s m i x
+    → Parts (t1 * 0x8000 + t0 * 0x4000 + s * 0x2000 + m * 0x1000 + i * 256 + x) t1 t0 s m i x
 packed t1 t0 s m i x l1 l2 l3 l4 l5 l6 =
     record { t1-bit = omega arith; t0-bit = omega arith; s-bit = omega arith; m-bit = omega arith; level = omega arith; codes = omega arith }
 
@@ -93,11 +93,11 @@ kept-twice false n weight = refl
 
 module _ (k w : ℕ) where
   -- each part of a masked status is that of the status, but T0 and M are 0 on a kind that has them not
-  pub masked-status-parts : Parts (maskStatus k w) (w / 32768 % 2) (pick (hasT0 k) (w / 16384 % 2) 0) (w / 8192 % 2) (pick (hasM k) (w / 4096 % 2) 0) (w / 256 % 8) (w % 32)
+  pub masked-status-parts : Parts (maskStatus k w) (w / 0x8000 % 2) (pick (hasT0 k) (w / 0x4000 % 2) 0) (w / 0x2000 % 2) (pick (hasM k) (w / 0x1000 % 2) 0) (w / 256 % 8) (w % 32)
   unfolding maskStatus
   masked-status-parts =
-      rw (weighed (hasT0 k) (w / 16384 % 2) 16384, weighed (hasM k) (w / 4096 % 2) 4096)
-      (packed _ _ _ _ _ _ (omega arith) (kept-bit (hasT0 k) (w / 16384)) (omega arith) (kept-bit (hasM k) (w / 4096)) (omega arith) (omega arith))
+      rw (weighed (hasT0 k) (w / 0x4000 % 2) 16384, weighed (hasM k) (w / 0x1000 % 2) 0x1000)
+      (packed _ _ _ _ _ _ (omega arith) (kept-bit (hasT0 k) (w / 0x4000)) (omega arith) (kept-bit (hasM k) (w / 0x1000)) (omega arith) (omega arith))
 
   -- masking twice is masking once
   pub masked-status-twice : maskStatus k (maskStatus k w) ≡ maskStatus k w
@@ -107,7 +107,7 @@ module _ (k w : ℕ) where
       rw (p .t1-bit, p .t0-bit, p .s-bit, p .m-bit, p .level, p .codes, kept-twice (hasT0 k), kept-twice (hasM k))
 
   -- a masked status is the sum of its parts: it has no other bit
-  pub masked-status-sum : maskStatus k w / 32768 % 2 * 32768 + maskStatus k w / 16384 % 2 * 16384 + maskStatus k w / 8192 % 2 * 8192 + maskStatus k w / 4096 % 2 * 4096 + maskStatus k w / 256 % 8 * 256 + maskStatus k w % 32 ≡ maskStatus k w
+  pub masked-status-sum : maskStatus k w / 0x8000 % 2 * 0x8000 + maskStatus k w / 0x4000 % 2 * 0x4000 + maskStatus k w / 0x2000 % 2 * 0x2000 + maskStatus k w / 0x1000 % 2 * 0x1000 + maskStatus k w / 256 % 8 * 256 + maskStatus k w % 32 ≡ maskStatus k w
   unfolding maskStatus
   masked-status-sum =
       let p : _ = masked-status-parts in
@@ -120,7 +120,7 @@ pub masked-address-twice : (k a : ℕ) → maskAddress k (maskAddress k a) ≡ m
 unfolding maskAddress
 masked-address-twice k a = go (ltb k 3)
   where
-    go : (t : Bool) → pick t (pick t (a % 16777216) a % 16777216) (pick t (a % 16777216) a) ≡ pick t (a % 16777216) a
+    go : (t : Bool) → pick t (pick t (a % 0x1000000) a % 0x1000000) (pick t (a % 0x1000000) a) ≡ pick t (a % 0x1000000) a
     go true = omega arith
     go false = refl
 
@@ -129,14 +129,14 @@ pub masked-address-bits : (k a : ℕ) → a < 2 ^ 32 → maskAddress k a ≡ a %
 unfolding maskAddress addressBits
 masked-address-bits k a l = go (ltb k 3)
   where
-    go : (t : Bool) → pick t (a % 16777216) a ≡ a % 2 ^ pick t 24 32
+    go : (t : Bool) → pick t (a % 0x1000000) a ≡ a % 2 ^ pick t 24 32
     go true = refl
     go false = omega arith
 
 -- the mask keeps an address even or odd
 pub masked-address-parity : (k a : ℕ) → a % 2 ≡ maskAddress k a % 2
 unfolding maskAddress
-masked-address-parity k a = pick-holds (λ (n : ℕ). a % 2 ≡ n % 2) (ltb k 3) (a % 16777216) a (omega arith) refl
+masked-address-parity k a = pick-holds (λ (n : ℕ). a % 2 ≡ n % 2) (ltb k 3) (a % 0x1000000) a (omega arith) refl
 
 -- ---- the causes
 

@@ -419,7 +419,7 @@ pub fn mask_address(kind: u8, a: u32) -> u32
     ensures { λ r. ⌜ r ≡ maskAddress kind a ⌝ }
 {
     if kind < 3 {
-        return a % 16777216;
+        return a % 0x1000000;
     }
     a
 }
@@ -479,9 +479,9 @@ fn kept(has: bool, bit: u16) -> u16
 pub fn mask_status(kind: u8, w: u16) -> u16
     ensures { λ r. ⌜ r ≡ maskStatus kind w ⌝ }
 {
-    let t0 = kept(has_t0(kind), w / 16384 % 2 * 16384);
-    let m = kept(has_m(kind), w / 4096 % 2 * 4096);
-    w / 32768 % 2 * 32768 + t0 + w / 8192 % 2 * 8192 + m + w / 256 % 8 * 256 + w % 32
+    let t0 = kept(has_t0(kind), w / 0x4000 % 2 * 0x4000);
+    let m = kept(has_m(kind), w / 0x1000 % 2 * 0x1000);
+    w / 0x8000 % 2 * 0x8000 + t0 + w / 0x2000 % 2 * 0x2000 + m + w / 256 % 8 * 256 + w % 32
 }
 
 // The number of a cause, as the record keeps it.

@@ -8,23 +8,23 @@ use Rattle.exceptions.proofs.exception_trace.Lts as lts
 use Rattle.exceptions.proofs.state.begin_trace.Reads as begin-trace-reads
 use Rattle.exceptions.proofs.take_group2_exception.Reads as take-group2-exception-reads
 
--- src/lib.rt:121:9
+-- src/lib.rt:117:9
 begin-trace-requires : tie.Need-begin-trace-requires
 begin-trace-requires c κs = search needs
 
--- src/lib.rt:122:5
+-- src/lib.rt:118:5
 take-group2-exception-requires : tie.Need-take-group2-exception-requires
 take-group2-exception-requires c κs = search needs
 
--- src/lib.rt:118:1
+-- src/lib.rt:114:1
 same-length : tie.Need-same-length
 same-length c = c .before .before .before .before .take-group2-exception .kept .1 .0
 
--- src/lib.rt:118:1
+-- src/lib.rt:114:1
 same-length-2 : tie.Need-same-length-2
 same-length-2 c = c .before .before .before .before .take-group2-exception .kept .1 .1 .0
 
--- src/lib.rt:118:1
+-- src/lib.rt:114:1
 returns : tie.Need-returns
 returns c = exception-trace-way _ _ _ _ _ _ _ (c .before .before .before .before .before .before .before .begin-trace .ensures) (c .before .before .before .before .take-group2-exception .ensures)
 

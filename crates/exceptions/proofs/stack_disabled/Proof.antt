@@ -12,39 +12,39 @@ use Rattle.exceptions.proofs.state.status.Reads as status-reads
 use Rattle.faults.proofs.push_frame.Reads as push-frame-reads
 use Rattle.steps.proofs.supervisor.Reads as supervisor-reads
 
--- src/lib.rt:195:9
+-- src/lib.rt:191:9
 supervisor-requires : tie.Need-supervisor-requires
 supervisor-requires c κs = search needs
 
--- src/lib.rt:196:9
+-- src/lib.rt:192:9
 status-requires : tie.Need-status-requires
 status-requires c κs = search needs
 
--- src/lib.rt:197:9
+-- src/lib.rt:193:9
 ppc-requires : tie.Need-ppc-requires
 ppc-requires c κs = search needs
 
--- src/lib.rt:198:9
+-- src/lib.rt:194:9
 format-word-requires : tie.Need-format-word-requires
 format-word-requires c κs = search needs
 
--- src/lib.rt:199:9
+-- src/lib.rt:195:9
 disabled-frame-requires : tie.Need-disabled-frame-requires
 disabled-frame-requires c κs = search needs
 
--- src/lib.rt:200:5
+-- src/lib.rt:196:5
 push-frame-requires : tie.Need-push-frame-requires
 push-frame-requires c κs = search needs
 
--- src/lib.rt:192:1
+-- src/lib.rt:188:1
 same-length : tie.Need-same-length
 same-length c = c .before .before .before .before .push-frame .kept .1 .0
 
--- src/lib.rt:192:1
+-- src/lib.rt:188:1
 same-length-2 : tie.Need-same-length-2
 same-length-2 c = c .before .before .before .before .push-frame .kept .1 .1 .0
 
--- src/lib.rt:192:1
+-- src/lib.rt:188:1
 returns : tie.Need-returns
 returns c = stack-disabled-way _ _ _ _ _ _ _ _ _ _ _ (c .before .before .before .before .before .before .before .before .before .before .before .supervisor .ensures) (c .before .before .before .before .before .before .before .before .before .before .status .ensures) (c .before .before .before .before .before .before .before .before .before .ppc .ensures) (c .before .before .before .before .before .before .before .before .format-word .ensures) (c .before .before .before .before .before .before .before .disabled-frame .ensures) (c .before .before .before .before .push-frame .ensures)
 

@@ -8,23 +8,23 @@ use Rattle.exceptions.proofs.trap.Lts as lts
 use Rattle.exceptions.proofs.state.trap_vector.Reads as trap-vector-reads
 use Rattle.exceptions.proofs.take_exception.Reads as take-exception-reads
 
--- src/lib.rt:92:9
+-- src/lib.rt:88:9
 trap-vector-requires : tie.Need-trap-vector-requires
 trap-vector-requires c κs = search needs
 
--- src/lib.rt:93:5
+-- src/lib.rt:89:5
 take-exception-requires : tie.Need-take-exception-requires
 take-exception-requires c κs = search needs
 
--- src/lib.rt:89:1
+-- src/lib.rt:85:1
 same-length : tie.Need-same-length
 same-length c = c .before .before .before .before .take-exception .kept .1 .0
 
--- src/lib.rt:89:1
+-- src/lib.rt:85:1
 same-length-2 : tie.Need-same-length-2
 same-length-2 c = c .before .before .before .before .take-exception .kept .1 .1 .0
 
--- src/lib.rt:89:1
+-- src/lib.rt:85:1
 returns : tie.Need-returns
 returns c = trap-way _ _ _ _ _ _ _ _ (c .before .before .before .before .before .before .before .trap-vector .ensures) (c .before .before .before .before .take-exception .ensures)
 

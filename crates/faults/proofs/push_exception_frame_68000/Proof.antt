@@ -5,18 +5,23 @@ use Rattle.faults.proofs.push_exception_frame_68000.Statement.{statemen
 use Rattle.faults.proofs.push_exception_frame_68000.Tie as tie
 use Rattle.faults.proofs.push_exception_frame_68000.Reads as reads
 use Rattle.faults.proofs.push_exception_frame_68000.Lts as lts
+use Rattle.cpu.proofs.fields.a7.Reads as a7-reads
+use Rattle.cpu.proofs.fields.lower_a7.Reads as lower-a7-reads
 use Rattle.faults.proofs.cycle.write_at.Reads as write-at-reads
-use Rattle.steps.proofs.lower.Reads as lower-reads
+use Rattle.memory.proofs.with_cpu.Reads as with-cpu-reads
 use Rattle.steps.proofs.plus.Reads as plus-reads
-use Rattle.steps.proofs.top.Reads as top-reads
+
+-- src/lib.rt:79:33
+lower-a7-requires : tie.Need-lower-a7-requires
+lower-a7-requires c κs = search needs
 
 -- src/lib.rt:79:9
-lower-requires : tie.Need-lower-requires
-lower-requires c κs = search needs
+with-cpu-requires : tie.Need-with-cpu-requires
+with-cpu-requires c κs = search needs
 
 -- src/lib.rt:80:9
-top-requires : tie.Need-top-requires
-top-requires c κs = search needs
+a7-requires : tie.Need-a7-requires
+a7-requires c κs = search needs
 
 -- src/lib.rt:83:47
 plus-requires : tie.Need-plus-requires
@@ -48,14 +53,15 @@ same-length-2 c = c .before .before .before .before .write-at3 .kept .1 .1 .0 �
 
 -- src/lib.rt:70:1
 returns : tie.Need-returns
-returns c = push-exception-frame-68000-way _ _ _ _ _ _ _ _ _ _ _ _ _ _ _ _ _ _ (c .before .before .before .before .before .before .before .before .before .before .before .before .before .before .before .before .before .before .before .before .before .before .before .before .lower .ensures) (c .before .before .before .before .before .before .before .before .before .before .before .before .before .before .before .before .before .before .before .before .before .before .before .top .ensures) (c .before .before .before .before .before .before .before .before .before .before .before .before .before .before .before .before .before .before .before .before .plus .ensures) (c .before .before .before .before .before .before .before .before .before .before .before .before .before .before .before .before .before .before .before .write-at .ensures) (c .before .before .before .before .before .before .before .before .before .before .before .before .write-at2 .ensures) (c .before .before .before .before .before .plus2 .ensures) (c .before .before .before .before .write-at3 .ensures)
+returns c = push-exception-frame-68000-way _ _ _ _ _ _ _ _ _ _ _ _ _ _ _ _ _ _ _ (c .before .before .before .before .before .before .before .before .before .before .before .before .before .before .before .before .before .before .before .before .before .before .before .before .before .lower-a7 .ensures) (c .before .before .before .before .before .before .before .before .before .before .before .before .before .before .before .before .before .before .before .before .before .before .before .before .with-cpu .ensures) (c .before .before .before .before .before .before .before .before .before .before .before .before .before .before .before .before .before .before .before .before .before .before .before .a7 .ensures) (c .before .before .before .before .before .before .before .before .before .before .before .before .before .before .before .before .before .before .before .before .plus .ensures) (c .before .before .before .before .before .before .before .before .before .before .before .before .before .before .before .before .before .before .before .write-at .ensures) (c .before .before .before .before .before .before .before .before .before .before .before .before .write-at2 .ensures) (c .before .before .before .before .before .plus2 .ensures) (c .before .before .before .before .write-at3 .ensures)
 
 pub push-exception-frame-68000-spec : {M : Type 1} → statement M
 push-exception-frame-68000-spec =
     tie.close
     (tie.spec
-    lower-requires
-    top-requires
+    lower-a7-requires
+    with-cpu-requires
+    a7-requires
     plus-requires
     write-at-requires
     write-at-requires-2

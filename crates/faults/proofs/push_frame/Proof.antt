@@ -5,7 +5,7 @@ use Rattle.faults.proofs.push_frame.Statement.{statement}
 use Rattle.faults.proofs.push_frame.Tie as tie
 use Rattle.faults.proofs.push_frame.Reads as reads
 use Rattle.faults.proofs.push_frame.Lts as lts
-use Rattle.faults.proofs.cycle.push_all.Reads as push-all-reads
+use Rattle.faults.proofs.cycle.push_fields.Reads as push-fields-reads
 use Rattle.frames.proofs.count.Reads as count-reads
 
 -- src/lib.rt:65:9
@@ -13,21 +13,21 @@ count-requires : tie.Need-count-requires
 count-requires c κs = search needs
 
 -- src/lib.rt:66:5
-push-all-requires : tie.Need-push-all-requires
-push-all-requires c κs = search needs
+push-fields-requires : tie.Need-push-fields-requires
+push-fields-requires c κs = search needs
 
 -- src/lib.rt:62:1
 same-length : tie.Need-same-length
-same-length c = c .before .before .before .before .push-all .kept .1 .0
+same-length c = c .before .before .before .before .push-fields .kept .1 .0
 
 -- src/lib.rt:62:1
 same-length-2 : tie.Need-same-length-2
-same-length-2 c = c .before .before .before .before .push-all .kept .1 .1 .0
+same-length-2 c = c .before .before .before .before .push-fields .kept .1 .1 .0
 
 -- src/lib.rt:62:1
 returns : tie.Need-returns
-returns c = push-frame-way _ _ _ _ _ _ _ _ (c .before .before .before .before .before .before .before .count .ensures .0) (c .before .before .before .before .push-all .ensures)
+returns c = push-frame-way _ _ _ _ _ _ _ _ (c .before .before .before .before .before .before .before .count .ensures .0) (c .before .before .before .before .push-fields .ensures)
 
 pub push-frame-spec : {M : Type 1} → statement M
 push-frame-spec =
-    tie.close (tie.spec count-requires push-all-requires same-length same-length-2 returns)
+    tie.close (tie.spec count-requires push-fields-requires same-length same-length-2 returns)

@@ -7,24 +7,18 @@ use Rattle.steps.proofs.begin_address.Reads as reads
 use Rattle.steps.proofs.begin_address.Lts as lts
 use Rattle.cpu.proofs.fields.restore_registers.Reads as restore-registers-reads
 use Rattle.status.proofs.restore_sr.Reads as restore-sr-reads
-use Rattle.memory.proofs.with_cpu.Reads as with-cpu-reads
 
--- src/lib.rt:209:9
+-- src/lib.rt:121:9
 restore-sr-requires : tie.Need-restore-sr-requires
 restore-sr-requires c κs = search needs
 
--- src/lib.rt:210:25
+-- src/lib.rt:122:5
 restore-registers-requires : tie.Need-restore-registers-requires
 restore-registers-requires c κs = search needs
 
--- src/lib.rt:210:5
-with-cpu-requires : tie.Need-with-cpu-requires
-with-cpu-requires c κs = search needs
-
--- src/lib.rt:205:1
+-- src/lib.rt:118:1
 returns : tie.Need-returns
-returns c = begin-address-way _ _ _ _ (c .before .before .restore-sr .ensures) (c .before .restore-registers .ensures) (c .with-cpu .ensures)
+returns c = begin-address-way _ _ _ (c .before .restore-sr .ensures) (c .restore-registers .ensures)
 
 pub begin-address-spec : {M : Type 1} → statement M
-begin-address-spec =
-    tie.close (tie.spec restore-sr-requires restore-registers-requires with-cpu-requires returns)
+begin-address-spec = tie.close (tie.spec restore-sr-requires restore-registers-requires returns)

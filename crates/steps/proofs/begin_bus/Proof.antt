@@ -9,31 +9,26 @@ use Rattle.cpu.proofs.fields.clear_cause.Reads as clear-cause-reads
 use Rattle.cpu.proofs.fields.restore_registers.Reads as restore-registers-reads
 use Rattle.cpu.proofs.fields.set_exception.Reads as set-exception-reads
 use Rattle.status.proofs.restore_sr.Reads as restore-sr-reads
-use Rattle.memory.proofs.with_cpu.Reads as with-cpu-reads
 
--- src/lib.rt:198:9
+-- src/lib.rt:111:9
 restore-sr-requires : tie.Need-restore-sr-requires
 restore-sr-requires c κs = search needs
 
--- src/lib.rt:199:9
+-- src/lib.rt:112:9
 restore-registers-requires : tie.Need-restore-registers-requires
 restore-registers-requires c κs = search needs
 
--- src/lib.rt:200:9
+-- src/lib.rt:113:9
 set-exception-requires : tie.Need-set-exception-requires
 set-exception-requires c κs = search needs
 
--- src/lib.rt:201:25
+-- src/lib.rt:114:5
 clear-cause-requires : tie.Need-clear-cause-requires
 clear-cause-requires c κs = search needs
 
--- src/lib.rt:201:5
-with-cpu-requires : tie.Need-with-cpu-requires
-with-cpu-requires c κs = search needs
-
--- src/lib.rt:194:1
+-- src/lib.rt:108:1
 returns : tie.Need-returns
-returns c = begin-bus-way _ _ _ _ _ _ (c .before .before .before .before .restore-sr .ensures) (c .before .before .before .restore-registers .ensures) (c .before .before .set-exception .ensures) (c .before .clear-cause .ensures) (c .with-cpu .ensures)
+returns c = begin-bus-way _ _ _ _ _ (c .before .before .before .restore-sr .ensures) (c .before .before .restore-registers .ensures) (c .before .set-exception .ensures) (c .clear-cause .ensures)
 
 pub begin-bus-spec : {M : Type 1} → statement M
 begin-bus-spec =
@@ -43,5 +38,4 @@ begin-bus-spec =
     restore-registers-requires
     set-exception-requires
     clear-cause-requires
-    with-cpu-requires
     returns)

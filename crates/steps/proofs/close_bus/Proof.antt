@@ -5,26 +5,20 @@ use Rattle.steps.proofs.close_bus.Statement.{statement}
 use Rattle.steps.proofs.close_bus.Tie as tie
 use Rattle.steps.proofs.close_bus.Reads as reads
 use Rattle.steps.proofs.close_bus.Lts as lts
-use Rattle.status.proofs.keep_resume.Reads as keep-resume-reads
 use Rattle.cpu.proofs.fields.set_exception.Reads as set-exception-reads
-use Rattle.memory.proofs.with_cpu.Reads as with-cpu-reads
+use Rattle.status.proofs.keep_resume.Reads as keep-resume-reads
 
--- src/lib.rt:218:9
+-- src/lib.rt:129:9
 set-exception-requires : tie.Need-set-exception-requires
 set-exception-requires c κs = search needs
 
--- src/lib.rt:219:25
+-- src/lib.rt:130:5
 keep-resume-requires : tie.Need-keep-resume-requires
 keep-resume-requires c κs = search needs
 
--- src/lib.rt:219:5
-with-cpu-requires : tie.Need-with-cpu-requires
-with-cpu-requires c κs = search needs
-
--- src/lib.rt:214:1
+-- src/lib.rt:126:1
 returns : tie.Need-returns
-returns c = close-bus-way _ _ _ _ (c .before .before .set-exception .ensures) (c .before .keep-resume .ensures) (c .with-cpu .ensures)
+returns c = close-bus-way _ _ _ (c .before .set-exception .ensures) (c .keep-resume .ensures)
 
 pub close-bus-spec : {M : Type 1} → statement M
-close-bus-spec =
-    tie.close (tie.spec set-exception-requires keep-resume-requires with-cpu-requires returns)
+close-bus-spec = tie.close (tie.spec set-exception-requires keep-resume-requires returns)

@@ -8,15 +8,15 @@ use Rattle.steps.proofs.halt.Lts as lts
 use Rattle.cpu.proofs.fields.halt.Reads as halt-reads
 use Rattle.memory.proofs.with_cpu.Reads as with-cpu-reads
 
--- src/lib.rt:125:25
+-- src/lib.rt:44:25
 halt-requires : tie.Need-halt-requires
 halt-requires c κs = search needs
 
--- src/lib.rt:125:5
+-- src/lib.rt:44:5
 with-cpu-requires : tie.Need-with-cpu-requires
 with-cpu-requires c κs = search needs
 
--- src/lib.rt:121:1
+-- src/lib.rt:40:1
 returns : tie.Need-returns
 returns c = halt-way _ _ _ (c .before .halt .ensures) (c .with-cpu .ensures)
 

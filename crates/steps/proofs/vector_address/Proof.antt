@@ -1,3 +1,4 @@
+use mathlib.Core.Path.{_≡_, refl, _∙_}
 use Rattle.steps.proofs.StepWays.{vector-address-way}
 use borrow.Author.Needs.{needs}
 use Rattle.steps.proofs.vector_address.Statement.{statement}
@@ -7,19 +8,19 @@ use Rattle.steps.proofs.vector_address.Lts as lts
 use Rattle.cpu.proofs.fields.vbr.Reads as vbr-reads
 use Rattle.std.proofs.num.wrapping_add_u32.Reads as wrapping-add-u32-reads
 
--- src/lib.rt:101:32
+-- src/lib.rt:96:32
 mul-wrapping-add-u32 : tie.Need-mul-wrapping-add-u32
 mul-wrapping-add-u32 c = search needs
 
--- src/lib.rt:101:52
+-- src/lib.rt:96:52
 vbr-requires : tie.Need-vbr-requires
 vbr-requires c κs = search needs
 
--- src/lib.rt:101:5
+-- src/lib.rt:96:5
 wrapping-add-u32-requires : tie.Need-wrapping-add-u32-requires
 wrapping-add-u32-requires c κs = search needs
 
--- src/lib.rt:98:1
+-- src/lib.rt:93:1
 returns : tie.Need-returns
 returns c = vector-address-way _ _ _ _ (c .before .vbr .ensures) (c .wrapping-add-u32 .ensures)
 
