@@ -8,23 +8,23 @@ use Rattle.refusals.specs.declared.Matter.{Matter}
 
 -- a record alone
 abbrev pub ofRecord : Matter
-ofRecord = record { lent = false; vector = 0; interrupt = false; floating = false }
+ofRecord = record { store = false; log = false; vector = 0; interrupt = false; floating = false }
 
 -- a store and a log too: 5, 6, 7
 abbrev pub ofLent : Matter
-ofLent = record { lent = true; vector = 0; interrupt = false; floating = false }
+ofLent = record { store = true; log = true; vector = 0; interrupt = false; floating = false }
 
 -- a vector too: 8
 abbrev pub ofVector : ℕ → Matter
-ofVector v = record { lent = true; vector = v; interrupt = false; floating = false }
+ofVector v = record { store = true; log = true; vector = v; interrupt = false; floating = false }
 
 -- the interrupt call: 3
 abbrev pub ofInterrupt : Matter
-ofInterrupt = record { lent = true; vector = 0; interrupt = true; floating = false }
+ofInterrupt = record { store = true; log = true; vector = 0; interrupt = true; floating = false }
 
 -- a floating-point entry: 9 on kinds other than 11
 abbrev pub ofFloating : Matter
-ofFloating = record { lent = true; vector = 0; interrupt = false; floating = true }
+ofFloating = record { store = true; log = true; vector = 0; interrupt = false; floating = true }
 
 unfoldable pub matterOf : Call → Matter
 matterOf (TakeException v) = ofVector v

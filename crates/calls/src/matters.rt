@@ -8,7 +8,8 @@ fn of_record() -> Matter
     ensures { λ r. ⌜ r ≡ ofRecord ⌝ }
 {
     Matter {
-        lent: false,
+        store: false,
+        log: false,
         vector: 0,
         interrupt: false,
         floating: false,
@@ -19,7 +20,8 @@ fn of_lent() -> Matter
     ensures { λ r. ⌜ r ≡ ofLent ⌝ }
 {
     Matter {
-        lent: true,
+        store: true,
+        log: true,
         vector: 0,
         interrupt: false,
         floating: false,
@@ -30,7 +32,8 @@ fn of_vector(v: u32) -> Matter
     ensures { λ r. ⌜ r ≡ ofVector v ⌝ }
 {
     Matter {
-        lent: true,
+        store: true,
+        log: true,
         vector: v,
         interrupt: false,
         floating: false,
@@ -41,7 +44,8 @@ fn of_interrupt() -> Matter
     ensures { λ r. ⌜ r ≡ ofInterrupt ⌝ }
 {
     Matter {
-        lent: true,
+        store: true,
+        log: true,
         vector: 0,
         interrupt: true,
         floating: false,
@@ -52,7 +56,8 @@ fn of_floating() -> Matter
     ensures { λ r. ⌜ r ≡ ofFloating ⌝ }
 {
     Matter {
-        lent: true,
+        store: true,
+        log: true,
         vector: 0,
         interrupt: false,
         floating: true,

@@ -108,7 +108,7 @@ most-61 PrefetchFirst = omega arith
 most-61 PrefetchSecond = omega arith
 
 -- and a log that is accepted has room for them: a call that is lent none makes none
-room : (c : Call) (len : ℕ) → (matterOf c .lent ≡ true → 192 ≤ len) → most c * 3 ≤ len
+room : (c : Call) (len : ℕ) → (matterOf c .log ≡ true → 192 ≤ len) → most c * 3 ≤ len
 unfolding most matterOf
 room (TakeException v) len f = let h = f refl in omega arith
 room (Trap n) len f = let h = f refl in omega arith
@@ -274,9 +274,9 @@ pub record Told (m : ℕ) (l : List ℕ) (x : Performance) : Type 0 where
 -- what a number that does not apply leaves
 module _ (w : World) (c : Call) (h : refusal w c ≡ 0) where
   -- 7: a log that is lent has 192 words
-  accepted-room : matterOf c .lent ≡ true → 192 ≤ length (w .log)
+  accepted-room : matterOf c .log ≡ true → 192 ≤ length (w .log)
   unfolding testsOf shortLog
-  accepted-room e = go (matterOf c .lent) e (refusal-none w c .0 h 7)
+  accepted-room e = go (matterOf c .log) e (refusal-none w c .0 h 7)
     where
       go : (b : Bool) → b ≡ true → both b (ltb (length (w .log)) 192) ≡ false → 192 ≤ length (w .log)
       go true e f = ltb-false (length (w .log)) 192 f

@@ -169,17 +169,17 @@ module _ (w : World) (c : Call) where
   condition-4 = both-is _ _ (self-is _) (ltb-is 7 _)
 
   -- 5: a store is lent, of more than 65,536 bytes or past 2^32
-  pub condition-5 : (holds w c 5 ≡ true) ↔ ((matterOf c .lent ≡ true) × ((65536 < length (w .store)) ⊎ (2 ^ 32 < w .core .bus .base + length (w .store))))
+  pub condition-5 : (holds w c 5 ≡ true) ↔ ((matterOf c .store ≡ true) × ((65536 < length (w .store)) ⊎ (2 ^ 32 < w .core .bus .base + length (w .store))))
   unfolding testsOf badStore
   condition-5 = both-is _ _ (self-is _) (either-is _ _ (ltb-is 0x10000 _) (ltb-is (2 ^ 32) _))
 
   -- 6: a store is lent, and there are more than 8 windows or one ends past 2^32
-  pub condition-6 : (holds w c 6 ≡ true) ↔ ((matterOf c .lent ≡ true) × ((8 < w .core .bus .windows) ⊎ Past (w .core .bus) (w .core .bus .windows)))
+  pub condition-6 : (holds w c 6 ≡ true) ↔ ((matterOf c .store ≡ true) × ((8 < w .core .bus .windows) ⊎ Past (w .core .bus) (w .core .bus .windows)))
   unfolding testsOf badWindows
   condition-6 = both-is _ _ (self-is _) (either-is _ _ (ltb-is 8 _) (any-is (w .core .bus) (w .core .bus .windows)))
 
   -- 7: a log is lent, of fewer than 192 words
-  pub condition-7 : (holds w c 7 ≡ true) ↔ ((matterOf c .lent ≡ true) × (length (w .log) < 192))
+  pub condition-7 : (holds w c 7 ≡ true) ↔ ((matterOf c .log ≡ true) × (length (w .log) < 192))
   unfolding testsOf shortLog
   condition-7 = both-is _ _ (self-is _) (ltb-is _ 192)
 

@@ -5,7 +5,7 @@ use cpu::Cpu;
 
 mod bytes; // big-endian words and longs in a slice
 mod log; // one event at its place of the log
-mod windows; // whether an access is served
+pub mod windows; // whether an access is served
 
 ghost use mathlib.Core.Path.{_≡_};
 ghost use Rattle.memory.specs.World.{world, tried, reply, tryWrite, tryRead, rawWrite, flush, release, acknowledged, noted, putCpu, widthOf, responseOf};

@@ -84,26 +84,26 @@ pub refusal-way-4 : (m : Core) (stored logged : ℕ) (x : Matter) (b1 b2 b3 b4 :
 unfolding refusalOf testsOf firstOf
 refusal-way-4 m stored logged x b1 b2 b3 b4 h0 h1 h2 h3 h4 h5 h6 h7 = cc
 
-pub refusal-way-5 : (m : Core) (stored logged : ℕ) (x : Matter) (b1 b2 b3 b4 b5 : Bool) → b1 ≡ badFlags (m .cpu) → b1 ≡ false → b2 ≡ oddBase (m .cpu) → b2 ≡ false → b3 ≡ badCycles (x .interrupt) (m .cpu) → b3 ≡ false → b4 ≡ badCode (m .cpu) → b4 ≡ false → b5 ≡ badStore (x .lent) (m .bus) stored → b5 ≡ true → 5 ≡ refusalOf m stored logged x
+pub refusal-way-5 : (m : Core) (stored logged : ℕ) (x : Matter) (b1 b2 b3 b4 b5 : Bool) → b1 ≡ badFlags (m .cpu) → b1 ≡ false → b2 ≡ oddBase (m .cpu) → b2 ≡ false → b3 ≡ badCycles (x .interrupt) (m .cpu) → b3 ≡ false → b4 ≡ badCode (m .cpu) → b4 ≡ false → b5 ≡ badStore (x .store) (m .bus) stored → b5 ≡ true → 5 ≡ refusalOf m stored logged x
 unfolding refusalOf testsOf firstOf
 refusal-way-5 m stored logged x b1 b2 b3 b4 b5 h0 h1 h2 h3 h4 h5 h6 h7 h8 h9 = cc
 
-pub refusal-way-6 : (m : Core) (stored logged : ℕ) (x : Matter) (b1 b2 b3 b4 b5 b6 : Bool) → b1 ≡ badFlags (m .cpu) → b1 ≡ false → b2 ≡ oddBase (m .cpu) → b2 ≡ false → b3 ≡ badCycles (x .interrupt) (m .cpu) → b3 ≡ false → b4 ≡ badCode (m .cpu) → b4 ≡ false → b5 ≡ badStore (x .lent) (m .bus) stored → b5 ≡ false → b6 ≡ badWindows (x .lent) (m .bus) → b6 ≡ true → 6 ≡ refusalOf m stored logged x
+pub refusal-way-6 : (m : Core) (stored logged : ℕ) (x : Matter) (b1 b2 b3 b4 b5 b6 : Bool) → b1 ≡ badFlags (m .cpu) → b1 ≡ false → b2 ≡ oddBase (m .cpu) → b2 ≡ false → b3 ≡ badCycles (x .interrupt) (m .cpu) → b3 ≡ false → b4 ≡ badCode (m .cpu) → b4 ≡ false → b5 ≡ badStore (x .store) (m .bus) stored → b5 ≡ false → b6 ≡ badWindows (x .store) (m .bus) → b6 ≡ true → 6 ≡ refusalOf m stored logged x
 unfolding refusalOf testsOf firstOf
 refusal-way-6 m stored logged x b1 b2 b3 b4 b5 b6 h0 h1 h2 h3 h4 h5 h6 h7 h8 h9 h10 h11 = cc
 
-pub refusal-way-7 : (m : Core) (stored logged : ℕ) (x : Matter) (b1 b2 b3 b4 b5 b6 b7 : Bool) → b1 ≡ badFlags (m .cpu) → b1 ≡ false → b2 ≡ oddBase (m .cpu) → b2 ≡ false → b3 ≡ badCycles (x .interrupt) (m .cpu) → b3 ≡ false → b4 ≡ badCode (m .cpu) → b4 ≡ false → b5 ≡ badStore (x .lent) (m .bus) stored → b5 ≡ false → b6 ≡ badWindows (x .lent) (m .bus) → b6 ≡ false → b7 ≡ shortLog (x .lent) logged → b7 ≡ true → 7 ≡ refusalOf m stored logged x
+pub refusal-way-7 : (m : Core) (stored logged : ℕ) (x : Matter) (b1 b2 b3 b4 b5 b6 b7 : Bool) → b1 ≡ badFlags (m .cpu) → b1 ≡ false → b2 ≡ oddBase (m .cpu) → b2 ≡ false → b3 ≡ badCycles (x .interrupt) (m .cpu) → b3 ≡ false → b4 ≡ badCode (m .cpu) → b4 ≡ false → b5 ≡ badStore (x .store) (m .bus) stored → b5 ≡ false → b6 ≡ badWindows (x .store) (m .bus) → b6 ≡ false → b7 ≡ shortLog (x .log) logged → b7 ≡ true → 7 ≡ refusalOf m stored logged x
 unfolding refusalOf testsOf firstOf
 refusal-way-7 m stored logged x b1 b2 b3 b4 b5 b6 b7 h0 h1 h2 h3 h4 h5 h6 h7 h8 h9 h10 h11 h12 h13 = cc
 
-pub refusal-way-8 : (m : Core) (stored logged : ℕ) (x : Matter) (b1 b2 b3 b4 b5 b6 b7 b8 : Bool) → b1 ≡ badFlags (m .cpu) → b1 ≡ false → b2 ≡ oddBase (m .cpu) → b2 ≡ false → b3 ≡ badCycles (x .interrupt) (m .cpu) → b3 ≡ false → b4 ≡ badCode (m .cpu) → b4 ≡ false → b5 ≡ badStore (x .lent) (m .bus) stored → b5 ≡ false → b6 ≡ badWindows (x .lent) (m .bus) → b6 ≡ false → b7 ≡ shortLog (x .lent) logged → b7 ≡ false → b8 ≡ badVector (x .vector) → b8 ≡ true → 8 ≡ refusalOf m stored logged x
+pub refusal-way-8 : (m : Core) (stored logged : ℕ) (x : Matter) (b1 b2 b3 b4 b5 b6 b7 b8 : Bool) → b1 ≡ badFlags (m .cpu) → b1 ≡ false → b2 ≡ oddBase (m .cpu) → b2 ≡ false → b3 ≡ badCycles (x .interrupt) (m .cpu) → b3 ≡ false → b4 ≡ badCode (m .cpu) → b4 ≡ false → b5 ≡ badStore (x .store) (m .bus) stored → b5 ≡ false → b6 ≡ badWindows (x .store) (m .bus) → b6 ≡ false → b7 ≡ shortLog (x .log) logged → b7 ≡ false → b8 ≡ badVector (x .vector) → b8 ≡ true → 8 ≡ refusalOf m stored logged x
 unfolding refusalOf testsOf firstOf
 refusal-way-8 m stored logged x b1 b2 b3 b4 b5 b6 b7 b8 h0 h1 h2 h3 h4 h5 h6 h7 h8 h9 h10 h11 h12 h13 h14 h15 = cc
 
-pub refusal-way-9 : (m : Core) (stored logged : ℕ) (x : Matter) (b1 b2 b3 b4 b5 b6 b7 b8 b9 : Bool) → b1 ≡ badFlags (m .cpu) → b1 ≡ false → b2 ≡ oddBase (m .cpu) → b2 ≡ false → b3 ≡ badCycles (x .interrupt) (m .cpu) → b3 ≡ false → b4 ≡ badCode (m .cpu) → b4 ≡ false → b5 ≡ badStore (x .lent) (m .bus) stored → b5 ≡ false → b6 ≡ badWindows (x .lent) (m .bus) → b6 ≡ false → b7 ≡ shortLog (x .lent) logged → b7 ≡ false → b8 ≡ badVector (x .vector) → b8 ≡ false → b9 ≡ badKind (x .floating) (m .cpu) → b9 ≡ true → 9 ≡ refusalOf m stored logged x
+pub refusal-way-9 : (m : Core) (stored logged : ℕ) (x : Matter) (b1 b2 b3 b4 b5 b6 b7 b8 b9 : Bool) → b1 ≡ badFlags (m .cpu) → b1 ≡ false → b2 ≡ oddBase (m .cpu) → b2 ≡ false → b3 ≡ badCycles (x .interrupt) (m .cpu) → b3 ≡ false → b4 ≡ badCode (m .cpu) → b4 ≡ false → b5 ≡ badStore (x .store) (m .bus) stored → b5 ≡ false → b6 ≡ badWindows (x .store) (m .bus) → b6 ≡ false → b7 ≡ shortLog (x .log) logged → b7 ≡ false → b8 ≡ badVector (x .vector) → b8 ≡ false → b9 ≡ badKind (x .floating) (m .cpu) → b9 ≡ true → 9 ≡ refusalOf m stored logged x
 unfolding refusalOf testsOf firstOf
 refusal-way-9 m stored logged x b1 b2 b3 b4 b5 b6 b7 b8 b9 h0 h1 h2 h3 h4 h5 h6 h7 h8 h9 h10 h11 h12 h13 h14 h15 h16 h17 = cc
 
-pub refusal-way-10 : (m : Core) (stored logged : ℕ) (x : Matter) (b1 b2 b3 b4 b5 b6 b7 b8 b9 : Bool) → b1 ≡ badFlags (m .cpu) → b1 ≡ false → b2 ≡ oddBase (m .cpu) → b2 ≡ false → b3 ≡ badCycles (x .interrupt) (m .cpu) → b3 ≡ false → b4 ≡ badCode (m .cpu) → b4 ≡ false → b5 ≡ badStore (x .lent) (m .bus) stored → b5 ≡ false → b6 ≡ badWindows (x .lent) (m .bus) → b6 ≡ false → b7 ≡ shortLog (x .lent) logged → b7 ≡ false → b8 ≡ badVector (x .vector) → b8 ≡ false → b9 ≡ badKind (x .floating) (m .cpu) → b9 ≡ false → 0 ≡ refusalOf m stored logged x
+pub refusal-way-10 : (m : Core) (stored logged : ℕ) (x : Matter) (b1 b2 b3 b4 b5 b6 b7 b8 b9 : Bool) → b1 ≡ badFlags (m .cpu) → b1 ≡ false → b2 ≡ oddBase (m .cpu) → b2 ≡ false → b3 ≡ badCycles (x .interrupt) (m .cpu) → b3 ≡ false → b4 ≡ badCode (m .cpu) → b4 ≡ false → b5 ≡ badStore (x .store) (m .bus) stored → b5 ≡ false → b6 ≡ badWindows (x .store) (m .bus) → b6 ≡ false → b7 ≡ shortLog (x .log) logged → b7 ≡ false → b8 ≡ badVector (x .vector) → b8 ≡ false → b9 ≡ badKind (x .floating) (m .cpu) → b9 ≡ false → 0 ≡ refusalOf m stored logged x
 unfolding refusalOf testsOf firstOf
 refusal-way-10 m stored logged x b1 b2 b3 b4 b5 b6 b7 b8 b9 h0 h1 h2 h3 h4 h5 h6 h7 h8 h9 h10 h11 h12 h13 h14 h15 h16 h17 = cc

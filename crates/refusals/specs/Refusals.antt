@@ -60,7 +60,7 @@ badKind floating c = either (ltb 11 (kindOf c)) (both floating (not (eqb (kindOf
 unfoldable pub testsOf : Core → ℕ → ℕ → Matter → List Bool
 testsOf m stored logged x =
     badFlags (m .cpu) ∷ oddBase (m .cpu) ∷ badCycles (x .interrupt) (m .cpu) ∷ badCode (m .cpu)
-    ∷ badStore (x .lent) (m .bus) stored ∷ badWindows (x .lent) (m .bus) ∷ shortLog (x .lent) logged
+    ∷ badStore (x .store) (m .bus) stored ∷ badWindows (x .store) (m .bus) ∷ shortLog (x .log) logged
     ∷ badVector (x .vector) ∷ badKind (x .floating) (m .cpu) ∷ []
 
 -- the number of the first test that holds, counted from n on, or 0

@@ -10,10 +10,11 @@ ghost use lib.Dec.{eqb, ltb};
 ghost use Rattle.types.specs.Kinds.{either, both};
 ghost use Rattle.refusals.specs.Refusals.{badFlags, oddBase, badCycles, badCode, badStore, pastTop, anyPast, badWindows, shortLog, badVector, badKind, refusalOf};
 
-// What a call is given besides the record: store and log; a vector, 0 where there is none; and whether it is the interrupt call or
+// What a call is given besides the record: a store, a log; a vector, 0 where there is none; and whether it is the interrupt call or
 // a floating-point entry.
 pub struct Matter {
-    pub lent: bool,
+    pub store: bool,
+    pub log: bool,
     pub vector: u32,
     pub interrupt: bool,
     pub floating: bool,
@@ -183,13 +184,13 @@ pub fn refusal(m: Core, stored: usize, logged: usize, x: Matter) -> u32
     if bad_code(c) {
         return 4;
     }
-    if bad_store(x.lent, b, stored) {
+    if bad_store(x.store, b, stored) {
         return 5;
     }
-    if bad_windows(x.lent, b) {
+    if bad_windows(x.store, b) {
         return 6;
     }
-    if short_log(x.lent, logged) {
+    if short_log(x.log, logged) {
         return 7;
     }
     if bad_vector(x.vector) {
