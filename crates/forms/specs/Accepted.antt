@@ -1,0 +1,114 @@
+-- What a call that no number refuses is known to be: flags, kind, vector, floating point.
+use Prim.Native.Nat.{ℕ, zero, suc, _+_, _%_, _^_, _≤_, _<_}
+use mathlib.Core.Path.{_≡_, refl, sym, ap, _∙_}
+use mathlib.Core.Logic.{_⊎_, inl, inr}
+use mathlib.Core.Bool.{Bool, true, false, not}
+use mathlib.Core.List.{List, [], _∷_}
+use native.Mathlib.Omega.{arith}
+use borrow.Author.Tests.{ltb-false, eqb-true}
+use lib.Dec.{eqb, ltb}
+use lib.ListN.{length, getD}
+use Rattle.types.specs.Kinds.{pick, either, both, is060}
+use Rattle.cpu.specs.declared.Cpu.{Cpu}
+use Rattle.cpu.specs.Fields.{kindOf}
+use Rattle.memory.specs.declared.Core.{Core}
+use Rattle.memory.specs.declared.Bus.{Bus}
+use Rattle.memory.specs.World.{World}
+use Rattle.faults.specs.Faults.{cpuOf}
+use Rattle.refusals.specs.declared.Matter.{Matter}
+use Rattle.refusals.specs.Refusals.{badFlags, oddBase, badCode, badVector, badKind, testsOf, firstOf, refusalOf, badStore, badWindows}
+use Rattle.calls.specs.declared.Call.{Call}
+use Rattle.calls.specs.Matters.{matterOf}
+use Rattle.calls.specs.Calls.{refusal}
+
+none : {A : Type 0} → true ≡ false → A
+none e = let z : _≡_ {A = ℕ} 0 1 = cc in absurd (omega arith)
+
+-- where no number is answered, no test holds
+pub first-none : (n : ℕ) (bs : List Bool) (i : ℕ) → firstOf (suc n) bs ≡ 0 → getD bs i false ≡ false
+unfolding firstOf
+first-none n [] i e = refl
+first-none n (true ∷ bs) i e = absurd (omega arith)
+first-none n (false ∷ bs) zero e = refl
+first-none n (false ∷ bs) (suc i) e = first-none (suc n) bs i e
+
+both-true : (a b : Bool) → not (both a b) ≡ false → (a ≡ true) × (b ≡ true)
+both-true true true e = (refl, refl)
+both-true true false e = none e
+both-true false b e = none e
+
+either-true : (a b : Bool) → either a b ≡ true → (a ≡ true) ⊎ (b ≡ true)
+either-true true b e = inl refl
+either-true false b e = inr e
+
+pub either-false : (a b : Bool) → either a b ≡ false → (a ≡ false) × (b ≡ false)
+either-false true b e = none e
+either-false false b e = (refl, e)
+
+value-of : (n a b : ℕ) → (eqb n a ≡ true) ⊎ (eqb n b ≡ true) → (n ≡ a) ⊎ (n ≡ b)
+value-of n a b (inl e) = inl (eqb-true n a e)
+value-of n a b (inr e) = inr (eqb-true n b e)
+
+module _ (w : World) (c : Call) (r : refusal w c ≡ 0) where
+  tests : (i : ℕ) → getD (testsOf (w .core) (length (w .store)) (length (w .log)) (matterOf c)) i false ≡ false
+  unfolding refusal refusalOf
+  tests i = first-none 0 (testsOf (w .core) (length (w .store)) (length (w .log)) (matterOf c)) i r
+
+  flags : badFlags (cpuOf w) ≡ false
+  unfolding testsOf
+  flags = tests 0
+
+  pub accepted-s : (cpuOf w .flags .«s_flag» ≡ 0) ⊎ (cpuOf w .flags .«s_flag» ≡ 4)
+  unfolding badFlags
+  accepted-s = value-of (cpuOf w .flags .«s_flag») 0 4 (either-true _ _ (both-true (either (eqb (cpuOf w .flags .«s_flag») 0) (eqb (cpuOf w .flags .«s_flag») 4)) (either (eqb (cpuOf w .flags .«m_flag») 0) (eqb (cpuOf w .flags .«m_flag») 2)) flags .0))
+
+  pub accepted-m : (cpuOf w .flags .«m_flag» ≡ 0) ⊎ (cpuOf w .flags .«m_flag» ≡ 2)
+  unfolding badFlags
+  accepted-m = value-of (cpuOf w .flags .«m_flag») 0 2 (either-true _ _ (both-true (either (eqb (cpuOf w .flags .«s_flag») 0) (eqb (cpuOf w .flags .«s_flag») 4)) (either (eqb (cpuOf w .flags .«m_flag») 0) (eqb (cpuOf w .flags .«m_flag») 2)) flags .1))
+
+  pub accepted-vector : matterOf c .vector < 256
+  unfolding testsOf badVector
+  accepted-vector = omega (arith, ltb-false 255 (matterOf c .vector) (tests 7))
+
+  kind-test : badKind (matterOf c .floating) (cpuOf w) ≡ false
+  unfolding testsOf
+  kind-test = tests 8
+
+  pub accepted-kind : kindOf (cpuOf w) < 12
+  unfolding badKind
+  accepted-kind = omega (arith, ltb-false 11 (kindOf (cpuOf w)) (either-false (ltb 11 (kindOf (cpuOf w))) (both (matterOf c .floating) (not (eqb (kindOf (cpuOf w)) 11))) kind-test .0))
+
+  pub accepted-floating : matterOf c .floating ≡ true → is060 (kindOf (cpuOf w)) ≡ true
+  unfolding badKind is060
+  accepted-floating e = go (matterOf c .floating) (eqb (kindOf (cpuOf w)) 11) e (either-false (ltb 11 (kindOf (cpuOf w))) (both (matterOf c .floating) (not (eqb (kindOf (cpuOf w)) 11))) kind-test .1)
+    where
+      go : (f b : Bool) → f ≡ true → both f (not b) ≡ false → b ≡ true
+      go true true x y = refl
+      go true false x y = none y
+      go false b x y = none (sym x)
+
+  -- number 5
+  pub accepted-store : matterOf c .store ≡ true → length (w .store) ≤ 65536
+  unfolding testsOf badStore
+  accepted-store e = omega (arith, ltb-false 65536 (length (w .store)) (either-false (ltb 65536 (length (w .store))) (ltb (2 ^ 32) (w .core .bus .base + length (w .store))) (go (matterOf c .store) _ e (tests 4)) .0))
+    where
+      go : (a b : Bool) → a ≡ true → both a b ≡ false → b ≡ false
+      go true b x y = y
+      go false b x y = none (sym x)
+
+  -- numbers 2, 4, 5 and 6
+  pub accepted-base : oddBase (cpuOf w) ≡ false
+  unfolding testsOf
+  accepted-base = tests 1
+
+  pub accepted-code : badCode (cpuOf w) ≡ false
+  unfolding testsOf
+  accepted-code = tests 3
+
+  pub accepted-room : badStore (matterOf c .store) (w .core .bus) (length (w .store)) ≡ false
+  unfolding testsOf
+  accepted-room = tests 4
+
+  pub accepted-windows : badWindows (matterOf c .store) (w .core .bus) ≡ false
+  unfolding testsOf
+  accepted-windows = tests 5
