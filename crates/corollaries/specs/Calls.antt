@@ -27,6 +27,7 @@ use Rattle.bounds.specs.Levels.{Domain, clash}
 use Rattle.bounds.specs.Ledger.{Written}
 use Rattle.bounds.specs.Events.{guardCost, underCost, guardCost-most, addressCost-most, bus-most, queue-most, few-more, none, guardRead-events, guardWrite-events, pushed-events, prefetchFirst-events, prefetchSecond-events, entryBus-events, entryAddress-events, bus-events, address-events}
 use Rattle.refusals.specs.Refusals.{shortLog, badKind, testsOf}
+use Rattle.refusals.specs.Laws.{outcomes}
 use Rattle.calls.specs.declared.Call.{Call}
 use Rattle.calls.specs.declared.Call.the-variants.{TakeException, Trap, TakeGroup2Exception, ExceptionChk, ExceptionZeroDivide, ExceptionPrivilege, ExceptionTrace, ExceptionAddressError, ExceptionBusError, TakeFpUnimp060, TakeFpDisabled060, TakeAlineException, TakeFlineException, TakeTrapException, TakeBkptException, TakeIllegalException, TriggerAddressError, TriggerBusError, CheckTrace, SetIrq, CheckInterrupts, CheckAndServiceInterrupts, Read16, Read32, Write16, Write32, Push16, Push32, PrefetchFirst, PrefetchSecond}
 use Rattle.calls.specs.declared.Answer.the-variants.{Cycles, Flag, Refused}
@@ -275,7 +276,7 @@ pub record Told (m : ℕ) (l : List ℕ) (x : Performance) : Type 0 where
 module _ (w : World) (c : Call) (h : refusal w c ≡ 0) where
   -- 7: a log that is lent has 192 words
   accepted-room : matterOf c .log ≡ true → 192 ≤ length (w .log)
-  unfolding testsOf shortLog
+  unfolding outcomes testsOf shortLog
   accepted-room e = go (matterOf c .log) e (refusal-none w c .0 h 7)
     where
       go : (b : Bool) → b ≡ true → both b (ltb (length (w .log)) 192) ≡ false → 192 ≤ length (w .log)
@@ -284,7 +285,7 @@ module _ (w : World) (c : Call) (h : refusal w c ≡ 0) where
 
   -- 9: a floating-point entry is one of kind 11
   accepted-060 : matterOf c .floating ≡ true → kindOf (cpuOf w) ≡ 11
-  unfolding testsOf badKind
+  unfolding outcomes testsOf badKind
   accepted-060 e = go (ltb 11 (kindOf (cpuOf w))) (matterOf c .floating) (eqb (kindOf (cpuOf w)) 11) refl e (refusal-none w c .0 h 9)
     where
       go : (a b t : Bool) → eqb (kindOf (cpuOf w)) 11 ≡ t → b ≡ true → pick a true (both b (not t)) ≡ false → kindOf (cpuOf w) ≡ 11

@@ -16,21 +16,14 @@ use Rattle.memory.specs.declared.Bus.{Bus}
 use Rattle.memory.specs.World.{World}
 use Rattle.faults.specs.Faults.{cpuOf}
 use Rattle.refusals.specs.declared.Matter.{Matter}
-use Rattle.refusals.specs.Refusals.{badFlags, oddBase, badCode, badVector, badKind, testsOf, firstOf, refusalOf, badStore, badWindows}
+use Rattle.refusals.specs.Refusals.{badFlags, oddBase, badCode, badVector, badKind, testsOf, refusalOf, badStore, badWindows}
+use Rattle.refusals.specs.Laws.{outcomes, refusal-place, place-none}
 use Rattle.calls.specs.declared.Call.{Call}
 use Rattle.calls.specs.Matters.{matterOf}
 use Rattle.calls.specs.Calls.{refusal}
 
 none : {A : Type 0} → true ≡ false → A
 none e = let z : _≡_ {A = ℕ} 0 1 = cc in absurd (omega arith)
-
--- where no number is answered, no test holds
-pub first-none : (n : ℕ) (bs : List Bool) (i : ℕ) → firstOf (suc n) bs ≡ 0 → getD bs i false ≡ false
-unfolding firstOf
-first-none n [] i e = refl
-first-none n (true ∷ bs) i e = absurd (omega arith)
-first-none n (false ∷ bs) zero e = refl
-first-none n (false ∷ bs) (suc i) e = first-none (suc n) bs i e
 
 both-true : (a b : Bool) → not (both a b) ≡ false → (a ≡ true) × (b ≡ true)
 both-true true true e = (refl, refl)
@@ -50,12 +43,14 @@ value-of n a b (inl e) = inl (eqb-true n a e)
 value-of n a b (inr e) = inr (eqb-true n b e)
 
 module _ (w : World) (c : Call) (r : refusal w c ≡ 0) where
-  tests : (i : ℕ) → getD (testsOf (w .core) (length (w .store)) (length (w .log)) (matterOf c)) i false ≡ false
-  unfolding refusal refusalOf
-  tests i = first-none 0 (testsOf (w .core) (length (w .store)) (length (w .log)) (matterOf c)) i r
+  tests : (i : ℕ) → getD (outcomes (testsOf (w .core) (length (w .store)) (length (w .log)) (matterOf c))) i false ≡ false
+  unfolding refusal
+  tests i =
+      place-none 0 (outcomes (testsOf (w .core) (length (w .store)) (length (w .log)) (matterOf c))) i
+      (sym (refusal-place (w .core) (length (w .store)) (length (w .log)) (matterOf c)) ∙ r)
 
   flags : badFlags (cpuOf w) ≡ false
-  unfolding testsOf
+  unfolding outcomes testsOf
   flags = tests 0
 
   pub accepted-s : (cpuOf w .flags .«s_flag» ≡ 0) ⊎ (cpuOf w .flags .«s_flag» ≡ 4)
@@ -67,11 +62,11 @@ module _ (w : World) (c : Call) (r : refusal w c ≡ 0) where
   accepted-m = value-of (cpuOf w .flags .«m_flag») 0 2 (either-true _ _ (both-true (either (eqb (cpuOf w .flags .«s_flag») 0) (eqb (cpuOf w .flags .«s_flag») 4)) (either (eqb (cpuOf w .flags .«m_flag») 0) (eqb (cpuOf w .flags .«m_flag») 2)) flags .1))
 
   pub accepted-vector : matterOf c .vector < 256
-  unfolding testsOf badVector
+  unfolding outcomes testsOf badVector
   accepted-vector = omega (arith, ltb-false 255 (matterOf c .vector) (tests 7))
 
   kind-test : badKind (matterOf c .floating) (cpuOf w) ≡ false
-  unfolding testsOf
+  unfolding outcomes testsOf
   kind-test = tests 8
 
   pub accepted-kind : kindOf (cpuOf w) < 12
@@ -89,7 +84,7 @@ module _ (w : World) (c : Call) (r : refusal w c ≡ 0) where
 
   -- number 5
   pub accepted-store : matterOf c .store ≡ true → length (w .store) ≤ 65536
-  unfolding testsOf badStore
+  unfolding outcomes testsOf badStore
   accepted-store e = omega (arith, ltb-false 65536 (length (w .store)) (either-false (ltb 65536 (length (w .store))) (ltb (2 ^ 32) (w .core .bus .base + length (w .store))) (go (matterOf c .store) _ e (tests 4)) .0))
     where
       go : (a b : Bool) → a ≡ true → both a b ≡ false → b ≡ false
@@ -98,17 +93,17 @@ module _ (w : World) (c : Call) (r : refusal w c ≡ 0) where
 
   -- numbers 2, 4, 5 and 6
   pub accepted-base : oddBase (cpuOf w) ≡ false
-  unfolding testsOf
+  unfolding outcomes testsOf
   accepted-base = tests 1
 
   pub accepted-code : badCode (cpuOf w) ≡ false
-  unfolding testsOf
+  unfolding outcomes testsOf
   accepted-code = tests 3
 
   pub accepted-room : badStore (matterOf c .store) (w .core .bus) (length (w .store)) ≡ false
-  unfolding testsOf
+  unfolding outcomes testsOf
   accepted-room = tests 4
 
   pub accepted-windows : badWindows (matterOf c .store) (w .core .bus) ≡ false
-  unfolding testsOf
+  unfolding outcomes testsOf
   accepted-windows = tests 5

@@ -56,18 +56,33 @@ badVector v = ltb 255 v
 unfoldable pub badKind : Bool → Cpu → Bool
 badKind floating c = either (ltb 11 (kindOf c)) (both floating (not (eqb (kindOf c) 11)))
 
--- the tests of a call, in the order of their numbers
-unfoldable pub testsOf : Core → ℕ → ℕ → Matter → List Bool
+-- a test with its number
+pub record Test : Type 0 where
+  pub number : ℕ
+  pub holds : Bool
+
+abbrev pub is : ℕ → Bool → Test
+is n b = record { number = n; holds = b }
+
+-- the tests of a call, in the order in which they are made
+unfoldable pub testsOf : Core → ℕ → ℕ → Matter → List Test
 testsOf m stored logged x =
-    badFlags (m .cpu) ∷ oddBase (m .cpu) ∷ badCycles (x .interrupt) (m .cpu) ∷ badCode (m .cpu)
-    ∷ badStore (x .store) (m .bus) stored ∷ badWindows (x .store) (m .bus) ∷ shortLog (x .log) logged
-    ∷ badVector (x .vector) ∷ badKind (x .floating) (m .cpu) ∷ []
+    is 1 (badFlags (m .cpu))
+    ∷ is 2 (oddBase (m .cpu))
+    ∷ is 3 (badCycles (x .interrupt) (m .cpu))
+    ∷ is 4 (badCode (m .cpu))
+    ∷ is 5 (badStore (x .store) (m .bus) stored)
+    ∷ is 6 (badWindows (x .store) (m .bus))
+    ∷ is 7 (shortLog (x .log) logged)
+    ∷ is 8 (badVector (x .vector))
+    ∷ is 9 (badKind (x .floating) (m .cpu))
+    ∷ []
 
--- the number of the first test that holds, counted from n on, or 0
-unfoldable pub firstOf : ℕ → List Bool → ℕ
-firstOf n [] = 0
-firstOf n (b ∷ bs) = pick b n (firstOf (suc n) bs)
+-- the number of the first test that holds, or 0
+unfoldable pub firstOf : List Test → ℕ
+firstOf [] = 0
+firstOf (t ∷ ts) = pick (t .holds) (t .number) (firstOf ts)
 
--- the lowest number that refuses a call of this matter, or 0
+-- the number that refuses a call of this matter, or 0
 unfoldable pub refusalOf : Core → ℕ → ℕ → Matter → ℕ
-refusalOf m stored logged x = firstOf 1 (testsOf m stored logged x)
+refusalOf m stored logged x = firstOf (testsOf m stored logged x)

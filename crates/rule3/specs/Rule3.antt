@@ -18,7 +18,8 @@ use Rattle.memory.specs.declared.Core.{Core}
 use Rattle.memory.specs.ByteLaws.{AllBytes}
 use Rattle.memory.specs.World.{putCpu}
 use Rattle.refusals.specs.Refusals.{badFlags, badCycles, shortLog, badVector, badKind, testsOf, firstOf, refusalOf}
-use Rattle.forms.specs.Accepted.{first-none, either-false}
+use Rattle.refusals.specs.Laws.{outcomes, refusal-place, place-none}
+use Rattle.forms.specs.Accepted.{either-false}
 use Rattle.unwind.specs.declared.returns.Back.{Back}
 use Rattle.unwind.specs.Frames.{Sight, sight}
 use Rattle.unwind.specs.Returns.{back, refusedBack, trail, trailOf}
@@ -73,7 +74,7 @@ passes-refusal r s p = rw (p .flags, p .base, p .code, p .store, p .windows, le-
 
 -- and the other way round: `Passes` is no more than what return and walk test
 pub refusal-passes : (r : Cpu) (s : Room) → refusal (coreOf r s) (length (s .bytes)) ≡ 0 → Passes r s
-unfolding refusal refusalOf testsOf badKind
+unfolding refusal outcomes testsOf badKind
 refusal-passes r s e =
     record {
       flags = tests 0;
@@ -84,8 +85,10 @@ refusal-passes r s e =
       kind = omega (arith, ltb-false 11 (kindOf r) (either-false (ltb 11 (kindOf r)) (both false (not (eqb (kindOf r) 11))) (tests 8) .0));
     }
   where
-    tests : (i : ℕ) → getD (testsOf (coreOf r s) (length (s .bytes)) 0 ofStore) i false ≡ false
-    tests i = first-none 0 (testsOf (coreOf r s) (length (s .bytes)) 0 ofStore) i e
+    tests : (i : ℕ) → getD (outcomes (testsOf (coreOf r s) (length (s .bytes)) 0 ofStore)) i false ≡ false
+    tests i =
+        place-none 0 (outcomes (testsOf (coreOf r s) (length (s .bytes)) 0 ofStore)) i
+        (sym (refusal-place (coreOf r s) (length (s .bytes)) 0 ofStore) ∙ e)
 
 flags-are : (c : Cpu) → badFlags c ≡ false → ((c .flags .«s_flag» ≡ 0) ⊎ (c .flags .«s_flag» ≡ 4)) × ((c .flags .«m_flag» ≡ 0) ⊎ (c .flags .«m_flag» ≡ 2))
 unfolding badFlags
