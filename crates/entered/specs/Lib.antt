@@ -16,4 +16,4 @@ pub mod Machines
 pub mod Examples
 pub mod Untaken
 pub mod Rule3
-pub mod Unwind
+pub mod Flags

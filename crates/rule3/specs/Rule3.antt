@@ -35,7 +35,7 @@ use Rattle.entered.specs.Bytes.{memOf}
 use Rattle.entered.specs.Machines.{Room, Passes, InsideRoom, machine}
 use Rattle.entered.specs.Entered.{Inside, kind-regs}
 use Rattle.entered.specs.Rule3.{nest}
-use Rattle.entered.specs.Unwind.{masked, status-regs}
+use Rattle.entered.specs.Flags.{masked, status-regs}
 use Rattle.rule3.specs.Taken.{rowHere, Gives, back-gives, back-inside, back-kind}
 use Rattle.rule3.specs.Rows.{told, tale, walk-tells, rowsHere, numbered}
 

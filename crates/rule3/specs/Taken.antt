@@ -30,12 +30,13 @@ use Rattle.nest.specs.View.{Regs, Bytes, peek, wrap, under, sBit, mBit, nonzero
 use Rattle.nest.specs.View.{Row as NestRow, Back as NestBack, back as nestBack}
 use Rattle.nest.specs.Reading.{view-kind, view-a7, view-s}
 use Rattle.nest.specs.Banks.{bankG, save, loaded, select, withA7, withFlags, view-settle}
-use Rattle.nest.specs.Returns.{frame-settled}
+use Rattle.nest.specs.Settled.{frame-settled}
 use Rattle.entered.specs.Pointers.{regsOf, stacksOf, view-of, Fit, backup-stacks, restore-stacks, backup-fit, restore-fit, top-of, move-stacks, move-fit}
 use Rattle.entered.specs.Bytes.{memOf}
 use Rattle.entered.specs.Machines.{Room, Passes, InsideRoom, flags-accepted}
 use Rattle.entered.specs.Entered.{Inside, kind-regs}
-use Rattle.entered.specs.Unwind.{masked, flag-s, flag-m, bit-flag, set-small}
+use Rattle.entered.specs.Flags.{masked, flag-s, flag-m, bit-flag}
+use Rattle.forms.specs.Tests.{set-small}
 use Rattle.rule3.specs.Seen.{frameIs, frame-of}
 
 never : {A B : Type 0} (t : B) → _≡_ {A = Option B} none (some t) → A
