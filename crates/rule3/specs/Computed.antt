@@ -11,7 +11,7 @@ use Rattle.images.specs.Images.{fieldAddress}
 use Rattle.images.specs.Images.{laid as laidFrame}
 use Rattle.forms.specs.Gist.{gist, gistCpu, framedBy}
 use Rattle.forms.specs.Orders.{words6, words8}
-use Rattle.forms.specs.Plans.{turned, stackAll, shortOf, excPlan, interruptVector, interruptFrame, throwaways, settles, interruptBy, interruptPlan}
+use Rattle.forms.specs.Plans.{turned, stackAll, shortOf, excPlan, rewoundPlan, group2Frame, group2Plan, tracePlan, fpUnimpPlan, fpDisabledPlan, addressPlan, busPlan, interruptVector, interruptFrame, throwaways, settles, interruptBy, interruptPlan}
 use Rattle.forms.specs.Tests.{fieldTest, fieldsTest, stacksTest, reachTest, cleanTest}
 use Rattle.forms.specs.Forms.{planOf}
 use Rattle.unwind.specs.Frames.{byteAddress, byteServed, byteOf, allServed, wordOf, longOf, headOf, refusedFrame, takenFrame, sizedFrame, formatFrame, oddPointer, frameOf}
@@ -22,11 +22,12 @@ use Rattle.nest.specs.Nest.{Returned, Walked, restored, Along, Always, AtTaken,
 use Rattle.entered.specs.Pointers.{regsOf}
 use Rattle.entered.specs.Bytes.{windowsOf, memOf}
 use Rattle.entered.specs.Paper.{paper, paperTakes}
+use Rattle.entered.specs.Entered.{errorCall}
 use Rattle.entered.specs.Machines.{Room, enterBy, takesBy, CleanCall}
 use Rattle.instances.specs.Computed.{computed}
 use Rattle.rule3.specs.Rows.{rowsFrom, told}
 use Rattle.rule3.specs.Rule3.{giveBack, walk}
 
 unfoldable pub nested : Cpu → Room → Returned Cpu
-unfolding computed statusMask formatLength takesFormat frameLength putBackSr calm laidField fieldAddress laidFrame gist gistCpu framedBy words6 words8 turned stackAll shortOf excPlan interruptVector interruptFrame throwaways settles interruptBy interruptPlan fieldTest fieldsTest stacksTest reachTest cleanTest planOf byteAddress byteServed byteOf allServed wordOf longOf headOf refusedFrame takenFrame sizedFrame formatFrame oddPointer frameOf inUser raiseA7 swapSr takeFrame rowOf refusedBack doneBack secondBack firstBack back trailOf putRow putRows laid walkOf refusal returned returnFrom shortRows walkFrom inWindows inStore peek addr srMask under sBit mBit view served restored Along Always AtTaken HandlersKeep HandlersLeave regsOf windowsOf memOf paper paperTakes enterBy takesBy CleanCall rowsFrom told giveBack walk
+unfolding computed statusMask formatLength takesFormat frameLength putBackSr calm laidField fieldAddress laidFrame gist gistCpu framedBy words6 words8 turned stackAll shortOf excPlan rewoundPlan group2Frame group2Plan tracePlan fpUnimpPlan fpDisabledPlan addressPlan busPlan interruptVector interruptFrame throwaways settles interruptBy interruptPlan fieldTest fieldsTest stacksTest reachTest cleanTest planOf byteAddress byteServed byteOf allServed wordOf longOf headOf refusedFrame takenFrame sizedFrame formatFrame oddPointer frameOf inUser raiseA7 swapSr takeFrame rowOf refusedBack doneBack secondBack firstBack back trailOf putRow putRows laid walkOf refusal returned returnFrom shortRows walkFrom inWindows inStore peek addr srMask under sBit mBit view served restored Along Always AtTaken HandlersKeep HandlersLeave regsOf windowsOf memOf paper paperTakes errorCall enterBy takesBy CleanCall rowsFrom told giveBack walk
 nested c s = giveBack c s

@@ -3,5 +3,7 @@ pub mod Taken
 pub mod Both
 pub mod Rows
 pub mod Rule3
+pub mod Checked
 pub mod Computed
 pub mod Worked
+pub mod Nests
