@@ -54,7 +54,7 @@ use Rattle.entered.specs.Numbers.{Left, entry-left}
 -- ---- the machine
 
 -- "Direct entries are all entry calls but the triggers"
-unfoldable pub direct : Call → Bool
+abbrev pub direct : Call → Bool
 direct (TakeException v) = true
 direct (Trap n) = true
 direct (TakeGroup2Exception v) = true
@@ -359,7 +359,7 @@ service-reads w p = go (takesInterrupt (cpuOf w))
     go false = refl
 
 run-reads : (w : World) (c : Call) → direct c ≡ true → Agrees (run w c) (planOf w c)
-unfolding direct planOf run cycles trap takeGroup2 exceptionTrace takeFpUnimp060 takeFpDisabled060
+unfolding planOf run cycles trap takeGroup2 exceptionTrace takeFpUnimp060 takeFpDisabled060
 run-reads w (TakeException v) d = exc-reads w v (excPlan (cpuOf w) v)
 run-reads w (Trap n) d = exc-reads w (32 + n % 16) (excPlan (cpuOf w) (32 + n % 16))
 run-reads w ExceptionPrivilege d = exc-reads w 8 (excPlan (cpuOf w) 8)

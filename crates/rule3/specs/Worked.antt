@@ -37,13 +37,9 @@ use Rattle.rule3.specs.Computed.{nested}
 
 -- ---- the list
 
-pub is-direct : direct CheckAndServiceInterrupts ≡ true
-unfolding direct
-is-direct = refl
-
 -- the interrupt call
 abbrev tick : Direct
-tick = record { call = CheckAndServiceInterrupts; is = is-direct }
+tick = record { call = CheckAndServiceInterrupts; is = refl }
 
 abbrev bus : Bus
 bus = record { base = 0; windows = 0; starts = replicate 8 0; lengths = replicate 8 0; responses = replicate 8 0xFFFFFFFF; events = 0 }
