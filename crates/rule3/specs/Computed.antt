@@ -7,7 +7,7 @@ use Rattle.types.specs.Tables.{formatLength, takesFormat, frameLength}
 use Rattle.cpu.specs.declared.Cpu.{Cpu}
 use Rattle.cpu.specs.Fields.{rewindPc, leaveStop, noteFpiar}
 use Rattle.status.specs.Status.{putBackSr}
-use Rattle.frames.specs.Frames.{frame8, addressFrame}
+use Rattle.frames.specs.Frames.{frame8, frame68000, addressFrame}
 use Rattle.faults.specs.Faults.{exceptionAddressError}
 use Rattle.exceptions.specs.Frames.{disabledFrame}
 use Rattle.exceptions.specs.Exceptions.{takeRewound, beginTrace, exceptionTrace, stackUnimp, takeFpUnimp060, stackDisabled, takeFpDisabled060}
@@ -34,5 +34,5 @@ use Rattle.rule3.specs.Rows.{rowsFrom, told}
 use Rattle.rule3.specs.Rule3.{giveBack, walk}
 
 unfoldable pub nested : Cpu → Room → Returned Cpu
-unfolding computed rewindPc leaveStop noteFpiar frame8 addressFrame exceptionAddressError disabledFrame takeRewound beginTrace exceptionTrace stackUnimp takeFpUnimp060 stackDisabled takeFpDisabled060 statusMask formatLength takesFormat frameLength putBackSr calm laidField fieldAddress laidFrame gist gistCpu framedBy words6 words8 turned stackAll shortOf excPlan rewoundPlan group2Frame group2Plan tracePlan fpUnimpPlan fpDisabledPlan addressPlan busPlan interruptVector interruptFrame throwaways settles interruptBy interruptPlan fieldTest fieldsTest stacksTest reachTest cleanTest planOf byteAddress byteServed byteOf allServed wordOf longOf headOf refusedFrame takenFrame sizedFrame formatFrame oddPointer frameOf inUser raiseA7 swapSr takeFrame rowOf refusedBack doneBack secondBack firstBack back trailOf putRow putRows laid walkOf refusal returned returnFrom shortRows walkFrom inWindows inStore peek addr srMask under sBit mBit view served restored Along Always AtTaken HandlersKeep HandlersLeave regsOf windowsOf memOf paper paperTakes errorCall enterBy takesBy CleanCall rowsFrom told giveBack walk
+unfolding computed rewindPc leaveStop noteFpiar frame8 frame68000 addressFrame exceptionAddressError disabledFrame takeRewound beginTrace exceptionTrace stackUnimp takeFpUnimp060 stackDisabled takeFpDisabled060 statusMask formatLength takesFormat frameLength putBackSr calm laidField fieldAddress laidFrame gist gistCpu framedBy words6 words8 turned stackAll shortOf excPlan rewoundPlan group2Frame group2Plan tracePlan fpUnimpPlan fpDisabledPlan addressPlan busPlan interruptVector interruptFrame throwaways settles interruptBy interruptPlan fieldTest fieldsTest stacksTest reachTest cleanTest planOf byteAddress byteServed byteOf allServed wordOf longOf headOf refusedFrame takenFrame sizedFrame formatFrame oddPointer frameOf inUser raiseA7 swapSr takeFrame rowOf refusedBack doneBack secondBack firstBack back trailOf putRow putRows laid walkOf refusal returned returnFrom shortRows walkFrom inWindows inStore peek addr srMask under sBit mBit view served restored Along Always AtTaken HandlersKeep HandlersLeave regsOf windowsOf memOf paper paperTakes errorCall enterBy takesBy CleanCall rowsFrom told giveBack walk
 nested c s = giveBack c s

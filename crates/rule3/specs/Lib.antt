@@ -7,3 +7,4 @@ pub mod Checked
 pub mod Computed
 pub mod Worked
 pub mod Nests
+pub mod Needed
