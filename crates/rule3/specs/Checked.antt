@@ -24,13 +24,14 @@ use Rattle.forms.specs.Forms.{planOf, is-some, no-plan}
 use Rattle.nest.specs.View.{Regs, View, Bytes, Frame, addr, peek, view, under, sBit, mBit, nonzero, framesOf}
 use Rattle.nest.specs.Nest.{Step, entry, return, handlers, State, begin, exec, bytesOf, live, depth, Holds, here, there, Sound, Along, Always, AtTaken, StartsSound, ServedThen, ServedLater, No68000Error, LiveApart, LiveBelowTop, Keeps, HandlersKeep, HandlersLeave, Premises}
 use Rattle.nest.specs.Nest.{kindOf as kindNow}
+use Rattle.nest.specs.Nest.{Machine, Entered, Returned, Walked}
 use Rattle.nest.specs.Checks.{and-true, servedB, served-test, belowB, below-test, apartB, apart-test}
 use Rattle.entered.specs.Pointers.{regsOf}
 use Rattle.entered.specs.Bytes.{memOf}
 use Rattle.entered.specs.Paper.{paper}
 use Rattle.entered.specs.Entered.{errorCall, Inside}
-use Rattle.entered.specs.Machines.{Direct, Room, worldOf, takesBy, Passes, InsideRoom, CleanCall}
-use Rattle.rule3.specs.Rule3.{Real}
+use Rattle.entered.specs.Machines.{Direct, Room, worldOf, enterBy, takesBy, Passes, InsideRoom, CleanCall}
+use Rattle.rule3.specs.Rule3.{giveBack, walk, Real}
 
 none-of : {A : Type 0} → false ≡ true → A
 none-of e = let z : _≡_ {A = ℕ} 0 1 = cc in absurd (omega arith)
@@ -54,19 +55,6 @@ place leave = 7
 -- whether a clause is asked for where q is left out
 abbrev pub asks : Clause → Clause → Bool
 asks q p = not (eqb (place q) (place p))
-
--- the premises but one
-pub record PremisesBut (q : Clause) (xs : List (Step Real)) (r : Cpu) (s : Room) : Type 0 where
-  pub inside : InsideRoom r s
-  pub soundOk : asks q sound ≡ true → Along Real (AtTaken Real (StartsSound Real)) xs (begin Real r s)
-  pub cleanOk : asks q clean ≡ true → Along Real (AtTaken Real CleanCall) xs (begin Real r s)
-  pub servedThen : asks q served ≡ true → Along Real (AtTaken Real (ServedThen Real)) xs (begin Real r s)
-  pub servedLater : asks q served ≡ true → Always Real (ServedLater Real) xs (begin Real r s)
-  pub noErrorOk : asks q noError ≡ true → Along Real (AtTaken Real (No68000Error Real)) xs (begin Real r s)
-  pub apartOk : asks q apart ≡ true → Always Real (LiveApart Real) xs (begin Real r s)
-  pub belowTop : Always Real (LiveBelowTop Real) xs (begin Real r s)
-  pub keepOk : asks q keep ≡ true → Along Real (HandlersKeep Real) xs (begin Real r s)
-  pub leaveOk : asks q leave ≡ true → Along Real (HandlersLeave Real) xs (begin Real r s)
 
 -- ---- tests of one thing
 
@@ -193,13 +181,6 @@ clean-tested c r s = go (planOf (begun (worldOf r s)) (c .call))
 abbrev pub errorTest : Direct → Cpu → Bool
 errorTest c r = cond (errorCall (c .call)) (not (eqb (regsOf r .kind) 1)) true
 
-error-tested : (c : Direct) (r : Cpu) (s : Room) → errorTest c r ≡ true → No68000Error Real c r s
-error-tested c r s e = go (errorCall (c .call)) e
-  where
-    go : (b : Bool) → cond b (not (eqb (regsOf r .kind) 1)) true ≡ true → b ≡ true → regsOf r .kind ≢ 1
-    go true f q = not-one (regsOf r .kind) f
-    go false f q = none-of q
-
 abbrev pub servedTest : Direct → Cpu → Room → Bool
 servedTest c r s = servedB (peek (memOf (s .bus) (s .bytes))) (regsOf r .kind) (framesOf (paper (worldOf r s) (c .call)))
 
@@ -263,158 +244,216 @@ agree-all : (b d : Bytes) (k : ℕ) (fs : List Frame) → agreeAll b d k fs ≡ 
 agree-all b d k (f ∷ fs) e a (here i l q) = subst (λ (x : ℕ). b x ≡ d x) (sym q) (agree-at b d k (f .at) (f .len) (and-true (agreeB b d k (f .at) (f .len)) (agreeAll b d k fs) e .0) i l)
 agree-all b d k (f ∷ fs) e a (there h) = agree-all b d k fs (and-true (agreeB b d k (f .at) (f .len)) (agreeAll b d k fs) e .1) a h
 
-abbrev pub keepsTest : State Real → Cpu → Room → Bool
-keepsTest st r s = viewTest (view (regsOf r)) (view (regsOf (st .rec))) && agreeAll (peek (memOf (s .bus) (s .bytes))) (bytesOf Real st) (kindNow Real st) (live (st .book))
-
-keeps-tested : (st : State Real) (r : Cpu) (s : Room) → keepsTest st r s ≡ true → Keeps Real st r s
-keeps-tested st r s e =
-    let a = and-true (viewTest (view (regsOf r)) (view (regsOf (st .rec)))) _ e in
-    record { stacks = view-tested _ _ (a .0); frames = agree-all _ _ (kindNow Real st) (live (st .book)) (a .1) }
-
 -- ---- a step, the state after it, a list
 
-abbrev pub stepTest : Clause → Step Real → State Real → Bool
-stepTest q (entry c) st = cond (takesBy (worldOf (st .rec) (st .sto)) (c .call)) (entryTest q c (st .rec) (st .sto)) true
-stepTest q return st = true
-stepTest q (handlers r s) st =
-    where-asked (asks q leave) (passesTest r s && insideTest r s) && where-asked (asks q keep) (cond (eqb (depth Real st) 0) true (keepsTest st r s))
+-- ---- the machine, and machines with other calls
 
-abbrev pub afterTest : Clause → State Real → Bool
-afterTest q st =
-    where-asked (asks q served) (servedB (bytesOf Real st) (kindNow Real st) (live (st .book)))
-    && (belowB (kindNow Real st) (live (st .book)) && where-asked (asks q apart) (apartB (kindNow Real st) (live (st .book))))
+-- the calls of a machine over the project's record and store; all the rest of it is fixed
+pub record Engine : Type 0 where
+  pub enter : Direct → Cpu → Room → Entered Cpu Room
+  pub giveBack : Cpu → Room → Returned Cpu
+  pub walk : ℕ → ℕ → Cpu → Room → Walked
 
-abbrev pub listTest : Clause → List (Step Real) → State Real → Bool
-listTest q [] st = true
-listTest q (x ∷ xs) st = stepTest q x st && (afterTest q (exec Real x st) && listTest q xs (exec Real x st))
+abbrev pub machineOf : Engine → Machine
+machineOf e =
+    record {
+      Rec = Cpu;
+      Sto = Room;
+      Call = Direct;
+      regs = regsOf;
+      mem = λ s. memOf (s .bus) (s .bytes);
+      enter = e .enter;
+      giveBack = e .giveBack;
+      walk = e .walk;
+      takes = λ c r s. takesBy (worldOf r s) (c .call);
+      stacks = λ c r s. paper (worldOf r s) (c .call);
+      Clean = CleanCall;
+      errorCall = λ c. errorCall (c .call);
+      Inside = InsideRoom;
+      Passes = Passes;
+    }
 
-module _ (q : Clause) where
-  module _ (P : Step Real → State Real → Type 0) (h : (x : Step Real) (st : State Real) → stepTest q x st ≡ true → P x st) where
-    along : (xs : List (Step Real)) (st : State Real) → listTest q xs st ≡ true → Along Real P xs st
-    unfolding Along
-    along [] st e = tt
-    along (x ∷ xs) st e =
-        let a = and-true (stepTest q x st) _ e in
-        (h x st (a .0), along xs (exec Real x st) (and-true (afterTest q (exec Real x st)) _ (a .1) .1))
+-- the project's own
+abbrev pub real : Engine
+real = record { enter = λ c r s. enterBy (worldOf r s) (c .call); giveBack = giveBack; walk = walk }
 
-  module _ (Q : State Real → Type 0) (h : (st : State Real) → afterTest q st ≡ true → Q st) where
-    always : (xs : List (Step Real)) (st : State Real) → listTest q xs st ≡ true → Always Real Q xs st
-    unfolding Always
-    always [] st e = tt
-    always (x ∷ xs) st e =
-        let a = and-true (afterTest q (exec Real x st)) _ (and-true (stepTest q x st) _ e .1) in
-        (h (exec Real x st) (a .0), always xs (exec Real x st) (a .1))
+pub real-is : machineOf real ≡ Real
+real-is = refl
 
-  -- what the test of an entry taken says of its arguments
-  module _ (P : Direct → Cpu → Room → Type 0) (h : (c : Direct) (r : Cpu) (s : Room) → entryTest q c r s ≡ true → P c r s) where
-    at-taken : (x : Step Real) (st : State Real) → stepTest q x st ≡ true → AtTaken Real P x st
-    unfolding AtTaken
-    at-taken (entry c) st e = go (takesBy (worldOf (st .rec) (st .sto)) (c .call)) e
-      where
-        go : (b : Bool) → cond b (entryTest q c (st .rec) (st .sto)) true ≡ true → b ≡ true → P c (st .rec) (st .sto)
-        go true f p = h c (st .rec) (st .sto) f
-        go false f p = none-of p
-    at-taken return st e = tt
-    at-taken (handlers r s) st e = tt
+module _ (engine : Engine) where
+  abbrev M : Machine
+  M = machineOf engine
 
-  module _ (c : Direct) (r : Cpu) (s : Room) (e : entryTest q c r s ≡ true) where
-    entry-sound : asks q sound ≡ true → StartsSound Real c r s
-    entry-sound h = sound-tested (regsOf r) (asked (asks q sound) (soundTest (regsOf r)) (and-true (where-asked (asks q sound) (soundTest (regsOf r))) _ e .0) h)
+  -- the premises but one
+  pub record PremisesBut (q : Clause) (xs : List (Step M)) (r : Cpu) (s : Room) : Type 0 where
+    pub inside : InsideRoom r s
+    pub soundOk : asks q sound ≡ true → Along M (AtTaken M (StartsSound M)) xs (begin M r s)
+    pub cleanOk : asks q clean ≡ true → Along M (AtTaken M CleanCall) xs (begin M r s)
+    pub servedThen : asks q served ≡ true → Along M (AtTaken M (ServedThen M)) xs (begin M r s)
+    pub servedLater : asks q served ≡ true → Always M (ServedLater M) xs (begin M r s)
+    pub noErrorOk : asks q noError ≡ true → Along M (AtTaken M (No68000Error M)) xs (begin M r s)
+    pub apartOk : asks q apart ≡ true → Always M (LiveApart M) xs (begin M r s)
+    pub belowTop : Always M (LiveBelowTop M) xs (begin M r s)
+    pub keepOk : asks q keep ≡ true → Along M (HandlersKeep M) xs (begin M r s)
+    pub leaveOk : asks q leave ≡ true → Along M (HandlersLeave M) xs (begin M r s)
 
-    abbrev cleans : Bool
-    cleans = cleanBy r s (planOf (begun (worldOf r s)) (c .call))
-
-    abbrev after-sound : (where-asked (asks q clean) cleans && (where-asked (asks q served) (servedTest c r s) && where-asked (asks q noError) (errorTest c r))) ≡ true
-    after-sound = and-true (where-asked (asks q sound) (soundTest (regsOf r))) _ e .1
-
-    entry-clean : asks q clean ≡ true → CleanCall c r s
-    entry-clean h = clean-tested c r s (asked (asks q clean) cleans (and-true (where-asked (asks q clean) cleans) _ after-sound .0) h)
-
-    abbrev after-clean : (where-asked (asks q served) (servedTest c r s) && where-asked (asks q noError) (errorTest c r)) ≡ true
-    after-clean = and-true (where-asked (asks q clean) cleans) _ after-sound .1
-
-    entry-served : asks q served ≡ true → ServedThen Real c r s
-    entry-served h = served-test _ _ _ (asked (asks q served) (servedTest c r s) (and-true (where-asked (asks q served) (servedTest c r s)) _ after-clean .0) h)
-
-    entry-error : asks q noError ≡ true → No68000Error Real c r s
-    entry-error h = error-tested c r s (asked (asks q noError) (errorTest c r) (and-true (where-asked (asks q served) (servedTest c r s)) _ after-clean .1) h)
-
-  handlers-keep : asks q keep ≡ true → (x : Step Real) (st : State Real) → stepTest q x st ≡ true → HandlersKeep Real x st
-  unfolding HandlersKeep
-  handlers-keep h (entry c) st e = tt
-  handlers-keep h return st e = tt
-  handlers-keep h (handlers r s) st e =
-      go (depth Real st) (asked (asks q keep) _ (and-true (where-asked (asks q leave) (passesTest r s && insideTest r s)) _ e .1) h)
+  error-tested : (c : Direct) (r : Cpu) (s : Room) → errorTest c r ≡ true → No68000Error M c r s
+  error-tested c r s e = go (errorCall (c .call)) e
     where
-      go : (n : ℕ) → cond (eqb n 0) true (keepsTest st r s) ≡ true → 0 < n → Keeps Real st r s
-      go zero f p = absurd (omega arith)
-      go (suc n) f p = keeps-tested st r s (pick (eqb (suc n) 0) refl f)
+      go : (b : Bool) → cond b (not (eqb (regsOf r .kind) 1)) true ≡ true → b ≡ true → regsOf r .kind ≢ 1
+      go true f q = not-one (regsOf r .kind) f
+      go false f q = none-of q
+
+  abbrev pub keepsTest : State M → Cpu → Room → Bool
+  keepsTest st r s = viewTest (view (regsOf r)) (view (regsOf (st .rec))) && agreeAll (peek (memOf (s .bus) (s .bytes))) (bytesOf M st) (kindNow M st) (live (st .book))
+
+  keeps-tested : (st : State M) (r : Cpu) (s : Room) → keepsTest st r s ≡ true → Keeps M st r s
+  keeps-tested st r s e =
+      let a = and-true (viewTest (view (regsOf r)) (view (regsOf (st .rec)))) _ e in
+      record { stacks = view-tested _ _ (a .0); frames = agree-all _ _ (kindNow M st) (live (st .book)) (a .1) }
+
+  abbrev pub stepTest : Clause → Step M → State M → Bool
+  stepTest q (entry c) st = cond (takesBy (worldOf (st .rec) (st .sto)) (c .call)) (entryTest q c (st .rec) (st .sto)) true
+  stepTest q return st = true
+  stepTest q (handlers r s) st =
+      where-asked (asks q leave) (passesTest r s && insideTest r s) && where-asked (asks q keep) (cond (eqb (depth M st) 0) true (keepsTest st r s))
+
+  abbrev pub afterTest : Clause → State M → Bool
+  afterTest q st =
+      where-asked (asks q served) (servedB (bytesOf M st) (kindNow M st) (live (st .book)))
+      && (belowB (kindNow M st) (live (st .book)) && where-asked (asks q apart) (apartB (kindNow M st) (live (st .book))))
+
+  abbrev pub listTest : Clause → List (Step M) → State M → Bool
+  listTest q [] st = true
+  listTest q (x ∷ xs) st = stepTest q x st && (afterTest q (exec M x st) && listTest q xs (exec M x st))
+
+  module _ (q : Clause) where
+    module _ (P : Step M → State M → Type 0) (h : (x : Step M) (st : State M) → stepTest q x st ≡ true → P x st) where
+      along : (xs : List (Step M)) (st : State M) → listTest q xs st ≡ true → Along M P xs st
+      unfolding Along
+      along [] st e = tt
+      along (x ∷ xs) st e =
+          let a = and-true (stepTest q x st) _ e in
+          (h x st (a .0), along xs (exec M x st) (and-true (afterTest q (exec M x st)) _ (a .1) .1))
+
+    module _ (Q : State M → Type 0) (h : (st : State M) → afterTest q st ≡ true → Q st) where
+      always : (xs : List (Step M)) (st : State M) → listTest q xs st ≡ true → Always M Q xs st
+      unfolding Always
+      always [] st e = tt
+      always (x ∷ xs) st e =
+          let a = and-true (afterTest q (exec M x st)) _ (and-true (stepTest q x st) _ e .1) in
+          (h (exec M x st) (a .0), always xs (exec M x st) (a .1))
+
+    -- what the test of an entry taken says of its arguments
+    module _ (P : Direct → Cpu → Room → Type 0) (h : (c : Direct) (r : Cpu) (s : Room) → entryTest q c r s ≡ true → P c r s) where
+      at-taken : (x : Step M) (st : State M) → stepTest q x st ≡ true → AtTaken M P x st
+      unfolding AtTaken
+      at-taken (entry c) st e = go (takesBy (worldOf (st .rec) (st .sto)) (c .call)) e
         where
-          pick : (b : Bool) → eqb (suc n) 0 ≡ b → cond b true (keepsTest st r s) ≡ true → keepsTest st r s ≡ true
-          pick true y g = let z : suc n ≡ 0 = eqb-true (suc n) 0 y in absurd (omega arith)
-          pick false y g = g
+          go : (b : Bool) → cond b (entryTest q c (st .rec) (st .sto)) true ≡ true → b ≡ true → P c (st .rec) (st .sto)
+          go true f p = h c (st .rec) (st .sto) f
+          go false f p = none-of p
+      at-taken return st e = tt
+      at-taken (handlers r s) st e = tt
 
-  handlers-leave : asks q leave ≡ true → (x : Step Real) (st : State Real) → stepTest q x st ≡ true → HandlersLeave Real x st
-  unfolding HandlersLeave
-  handlers-leave h (entry c) st e = tt
-  handlers-leave h return st e = tt
-  handlers-leave h (handlers r s) st e =
-      let a = and-true (passesTest r s) _ (asked (asks q leave) _ (and-true (where-asked (asks q leave) (passesTest r s && insideTest r s)) _ e .0) h) in
-      (passes-tested r s (a .0), inside-tested r s (a .1))
+    module _ (c : Direct) (r : Cpu) (s : Room) (e : entryTest q c r s ≡ true) where
+      entry-sound : asks q sound ≡ true → StartsSound M c r s
+      entry-sound h = sound-tested (regsOf r) (asked (asks q sound) (soundTest (regsOf r)) (and-true (where-asked (asks q sound) (soundTest (regsOf r))) _ e .0) h)
 
-  module _ (st : State Real) (e : afterTest q st ≡ true) where
-    abbrev serves : Bool
-    serves = servedB (bytesOf Real st) (kindNow Real st) (live (st .book))
+      abbrev cleans : Bool
+      cleans = cleanBy r s (planOf (begun (worldOf r s)) (c .call))
 
-    after-served : asks q served ≡ true → ServedLater Real st
-    after-served h = served-test _ _ _ (asked (asks q served) serves (and-true (where-asked (asks q served) serves) _ e .0) h)
+      abbrev after-sound : (where-asked (asks q clean) cleans && (where-asked (asks q served) (servedTest c r s) && where-asked (asks q noError) (errorTest c r))) ≡ true
+      after-sound = and-true (where-asked (asks q sound) (soundTest (regsOf r))) _ e .1
 
-    abbrev others : (belowB (kindNow Real st) (live (st .book)) && where-asked (asks q apart) (apartB (kindNow Real st) (live (st .book)))) ≡ true
-    others = and-true (where-asked (asks q served) serves) _ e .1
+      entry-clean : asks q clean ≡ true → CleanCall c r s
+      entry-clean h = clean-tested c r s (asked (asks q clean) cleans (and-true (where-asked (asks q clean) cleans) _ after-sound .0) h)
 
-    after-below : LiveBelowTop Real st
-    after-below = below-test _ _ (and-true (belowB (kindNow Real st) (live (st .book))) _ others .0)
+      abbrev after-clean : (where-asked (asks q served) (servedTest c r s) && where-asked (asks q noError) (errorTest c r)) ≡ true
+      after-clean = and-true (where-asked (asks q clean) cleans) _ after-sound .1
 
-    after-apart : asks q apart ≡ true → LiveApart Real st
-    after-apart h =
-        apart-test _ _ (and-true (belowB (kindNow Real st) (live (st .book))) _ others .0)
-        (asked (asks q apart) _ (and-true (belowB (kindNow Real st) (live (st .book))) _ others .1) h)
+      entry-served : asks q served ≡ true → ServedThen M c r s
+      entry-served h = served-test _ _ _ (asked (asks q served) (servedTest c r s) (and-true (where-asked (asks q served) (servedTest c r s)) _ after-clean .0) h)
 
--- THE TEST: a start inside the domain, and every step
-abbrev pub testBut : Clause → List (Step Real) → Cpu → Room → Bool
-testBut q xs r s = insideTest r s && listTest q xs (begin Real r s)
+      entry-error : asks q noError ≡ true → No68000Error M c r s
+      entry-error h = error-tested c r s (asked (asks q noError) (errorTest c r) (and-true (where-asked (asks q served) (servedTest c r s)) _ after-clean .1) h)
 
-pub tested-but : (q : Clause) (xs : List (Step Real)) (r : Cpu) (s : Room) → testBut q xs r s ≡ true → PremisesBut q xs r s
-tested-but q xs r s e =
-    let a = and-true (insideTest r s) _ e in
-    record {
-      inside = inside-tested r s (a .0);
-      soundOk = λ h. along q _ (at-taken q _ (λ c r s f. entry-sound q c r s f h)) xs (begin Real r s) (a .1);
-      cleanOk = λ h. along q _ (at-taken q _ (λ c r s f. entry-clean q c r s f h)) xs (begin Real r s) (a .1);
-      servedThen = λ h. along q _ (at-taken q _ (λ c r s f. entry-served q c r s f h)) xs (begin Real r s) (a .1);
-      servedLater = λ h. always q _ (λ st f. after-served q st f h) xs (begin Real r s) (a .1);
-      noErrorOk = λ h. along q _ (at-taken q _ (λ c r s f. entry-error q c r s f h)) xs (begin Real r s) (a .1);
-      apartOk = λ h. always q _ (λ st f. after-apart q st f h) xs (begin Real r s) (a .1);
-      belowTop = always q _ (after-below q) xs (begin Real r s) (a .1);
-      keepOk = λ h. along q _ (handlers-keep q h) xs (begin Real r s) (a .1);
-      leaveOk = λ h. along q _ (handlers-leave q h) xs (begin Real r s) (a .1);
-    }
+    handlers-keep : asks q keep ≡ true → (x : Step M) (st : State M) → stepTest q x st ≡ true → HandlersKeep M x st
+    unfolding HandlersKeep
+    handlers-keep h (entry c) st e = tt
+    handlers-keep h return st e = tt
+    handlers-keep h (handlers r s) st e =
+        go (depth M st) (asked (asks q keep) _ (and-true (where-asked (asks q leave) (passesTest r s && insideTest r s)) _ e .1) h)
+      where
+        go : (n : ℕ) → cond (eqb n 0) true (keepsTest st r s) ≡ true → 0 < n → Keeps M st r s
+        go zero f p = absurd (omega arith)
+        go (suc n) f p = keeps-tested st r s (pick (eqb (suc n) 0) refl f)
+          where
+            pick : (b : Bool) → eqb (suc n) 0 ≡ b → cond b true (keepsTest st r s) ≡ true → keepsTest st r s ≡ true
+            pick true y g = let z : suc n ≡ 0 = eqb-true (suc n) 0 y in absurd (omega arith)
+            pick false y g = g
 
-abbrev pub premisesTest : List (Step Real) → Cpu → Room → Bool
-premisesTest xs r s = testBut nothing xs r s
+    handlers-leave : asks q leave ≡ true → (x : Step M) (st : State M) → stepTest q x st ≡ true → HandlersLeave M x st
+    unfolding HandlersLeave
+    handlers-leave h (entry c) st e = tt
+    handlers-leave h return st e = tt
+    handlers-leave h (handlers r s) st e =
+        let a = and-true (passesTest r s) _ (asked (asks q leave) _ (and-true (where-asked (asks q leave) (passesTest r s && insideTest r s)) _ e .0) h) in
+        (passes-tested r s (a .0), inside-tested r s (a .1))
 
-pub premises-tested : (xs : List (Step Real)) (r : Cpu) (s : Room) → premisesTest xs r s ≡ true → Premises Real xs r s
-premises-tested xs r s e =
-    let p : PremisesBut nothing xs r s = tested-but nothing xs r s e in
-    record {
-      inside = p .inside;
-      sound = p .soundOk refl;
-      clean = p .cleanOk refl;
-      servedThen = p .servedThen refl;
-      servedLater = p .servedLater refl;
-      noError = p .noErrorOk refl;
-      apart = p .apartOk refl;
-      belowTop = p .belowTop;
-      keep = p .keepOk refl;
-      leave = p .leaveOk refl;
-    }
+    module _ (st : State M) (e : afterTest q st ≡ true) where
+      abbrev serves : Bool
+      serves = servedB (bytesOf M st) (kindNow M st) (live (st .book))
+
+      after-served : asks q served ≡ true → ServedLater M st
+      after-served h = served-test _ _ _ (asked (asks q served) serves (and-true (where-asked (asks q served) serves) _ e .0) h)
+
+      abbrev others : (belowB (kindNow M st) (live (st .book)) && where-asked (asks q apart) (apartB (kindNow M st) (live (st .book)))) ≡ true
+      others = and-true (where-asked (asks q served) serves) _ e .1
+
+      after-below : LiveBelowTop M st
+      after-below = below-test _ _ (and-true (belowB (kindNow M st) (live (st .book))) _ others .0)
+
+      after-apart : asks q apart ≡ true → LiveApart M st
+      after-apart h =
+          apart-test _ _ (and-true (belowB (kindNow M st) (live (st .book))) _ others .0)
+          (asked (asks q apart) _ (and-true (belowB (kindNow M st) (live (st .book))) _ others .1) h)
+
+  -- THE TEST: a start inside the domain, and every step
+  abbrev pub testBut : Clause → List (Step M) → Cpu → Room → Bool
+  testBut q xs r s = insideTest r s && listTest q xs (begin M r s)
+
+  pub tested-but : (q : Clause) (xs : List (Step M)) (r : Cpu) (s : Room) → testBut q xs r s ≡ true → PremisesBut q xs r s
+  tested-but q xs r s e =
+      let a = and-true (insideTest r s) _ e in
+      record {
+        inside = inside-tested r s (a .0);
+        soundOk = λ h. along q _ (at-taken q _ (λ c r s f. entry-sound q c r s f h)) xs (begin M r s) (a .1);
+        cleanOk = λ h. along q _ (at-taken q _ (λ c r s f. entry-clean q c r s f h)) xs (begin M r s) (a .1);
+        servedThen = λ h. along q _ (at-taken q _ (λ c r s f. entry-served q c r s f h)) xs (begin M r s) (a .1);
+        servedLater = λ h. always q _ (λ st f. after-served q st f h) xs (begin M r s) (a .1);
+        noErrorOk = λ h. along q _ (at-taken q _ (λ c r s f. entry-error q c r s f h)) xs (begin M r s) (a .1);
+        apartOk = λ h. always q _ (λ st f. after-apart q st f h) xs (begin M r s) (a .1);
+        belowTop = always q _ (after-below q) xs (begin M r s) (a .1);
+        keepOk = λ h. along q _ (handlers-keep q h) xs (begin M r s) (a .1);
+        leaveOk = λ h. along q _ (handlers-leave q h) xs (begin M r s) (a .1);
+      }
+
+  abbrev pub premisesTest : List (Step M) → Cpu → Room → Bool
+  premisesTest xs r s = testBut nothing xs r s
+
+  pub premises-tested : (xs : List (Step M)) (r : Cpu) (s : Room) → premisesTest xs r s ≡ true → Premises M xs r s
+  premises-tested xs r s e =
+      let p : PremisesBut nothing xs r s = tested-but nothing xs r s e in
+      record {
+        inside = p .inside;
+        sound = p .soundOk refl;
+        clean = p .cleanOk refl;
+        servedThen = p .servedThen refl;
+        servedLater = p .servedLater refl;
+        noError = p .noErrorOk refl;
+        apart = p .apartOk refl;
+        belowTop = p .belowTop;
+        keep = p .keepOk refl;
+        leave = p .leaveOk refl;
+      }

@@ -7,4 +7,6 @@ pub mod Checked
 pub mod Computed
 pub mod Worked
 pub mod Nests
+pub mod Tells
+pub mod Shams
 pub mod Needed

@@ -20,72 +20,24 @@ use Rattle.nest.specs.View.{Row}
 use Rattle.nest.specs.Nest.{Step, entry, return, handlers, State, end, depth, rows, restoredBy, restored, Values, Walked, Told}
 use Rattle.entered.specs.Machines.{Room}
 use Rattle.rule3.specs.Rule3.{Real, walk}
-use Rattle.rule3.specs.Checked.{Clause, sound, clean, served, noError, apart, keep, leave, PremisesBut, testBut, tested-but}
+use Rattle.rule3.specs.Checked.{Engine, machineOf, real, Clause, sound, clean, served, noError, apart, keep, leave, PremisesBut, testBut, tested-but}
+use Rattle.rule3.specs.Tells.{toldTest, told-tested}
 use Rattle.rule3.specs.Nests.{bus, room, start, call, busError, tick}
 use Rattle.rule3.specs.Computed.{nested}
-
--- ---- what rule 3 says of an end, as a test
-
-abbrev sameRow : Row → Row → Bool
-sameRow a b = eqb (a .format) (b .format) && (eqb (a .status) (b .status) && (eqb (a .address) (b .address) && eqb (a .offset) (b .offset)))
-
-abbrev sameRows : List Row → List Row → Bool
-sameRows [] [] = true
-sameRows [] (b ∷ bs) = false
-sameRows (a ∷ l) [] = false
-sameRows (a ∷ l) (b ∷ bs) = sameRow a b && sameRows l bs
-
-abbrev sameNumber : Option ℕ → Bool
-sameNumber none = true
-sameNumber (some n) = false
-
-abbrev sameValue : Values → Values → Bool
-sameValue a b = eqb (a .status) (b .status) && (eqb (a .pc) (b .pc) && eqb (a .a7) (b .a7))
-
-abbrev sameValues : List Values → List Values → Bool
-sameValues [] [] = true
-sameValues [] (b ∷ bs) = false
-sameValues (a ∷ l) [] = false
-sameValues (a ∷ l) (b ∷ bs) = sameValue a b && sameValues l bs
-
-abbrev gives : Option (List Values) → List Values → Bool
-gives none vs = false
-gives (some us) vs = sameValues us vs
-
--- the walk of the depth into a buffer just large enough, and as many returns
-abbrev pub toldTest : State Real → Bool
-toldTest st =
-    (sameRows (walk (depth Real st) (4 * depth Real st) (st .rec) (st .sto) .rows) (rows (st .book))
-    && sameNumber (walk (depth Real st) (4 * depth Real st) (st .rec) (st .sto) .number))
-    && gives (restored Real (depth Real st) (st .rec) (st .sto)) (restoredBy (st .book))
-
-self : (n : ℕ) → eqb n n ≡ true
-self n = eq-eqb n n refl
-
-rows-self : (l : List Row) → sameRows l l ≡ true
-rows-self [] = refl
-rows-self (a ∷ l) = rw (self (a .format), self (a .status), self (a .address), self (a .offset), rows-self l)
-
-values-self : (l : List Values) → sameValues l l ≡ true
-values-self [] = refl
-values-self (a ∷ l) = rw (self (a .status), self (a .pc), self (a .a7), values-self l)
-
-told-tested : (st : State Real) → Told Real st → toldTest st ≡ true
-told-tested st t = rw (t .walked (4 * depth Real st) (omega arith), t .returns, rows-self (rows (st .book)), values-self (restoredBy (st .book)))
 
 -- ---- a list that shows a premise needed
 
 pub record Needed (q : Clause) (xs : List (Step Real)) (r : Cpu) (s : Room) : Type 0 where
-  pub others : PremisesBut q xs r s
+  pub others : PremisesBut real q xs r s
   pub some-open : 0 < depth Real (end Real xs r s)
   pub broken : Told Real (end Real xs r s) → ⊥
 
-needed : (q : Clause) (xs : List (Step Real)) (r : Cpu) (s : Room) → testBut q xs r s ≡ true → ltb 0 (depth Real (end Real xs r s)) ≡ true → toldTest (end Real xs r s) ≡ false → Needed q xs r s
+needed : (q : Clause) (xs : List (Step Real)) (r : Cpu) (s : Room) → testBut real q xs r s ≡ true → ltb 0 (depth Real (end Real xs r s)) ≡ true → toldTest real (end Real xs r s) ≡ false → Needed q xs r s
 needed q xs r s e d f =
     record {
-      others = tested-but q xs r s e;
+      others = tested-but real q xs r s e;
       some-open = ltb-true 0 (depth Real (end Real xs r s)) d;
-      broken = λ t. let z : true ≡ false = sym (told-tested (end Real xs r s) t) ∙ f in let y : _≡_ {A = ℕ} 0 1 = cc in absurd (omega arith);
+      broken = λ t. let z : true ≡ false = sym (told-tested real (end Real xs r s) t) ∙ f in let y : _≡_ {A = ℕ} 0 1 = cc in absurd (omega arith);
     }
 
 -- ---- records and stores

@@ -24,7 +24,7 @@ use Rattle.nest.specs.View.{Row}
 use Rattle.nest.specs.Nest.{Step, entry, return, handlers, State, end, depth, rows, restoredBy, restored, Values, Told, Alike, SameTale}
 use Rattle.entered.specs.Machines.{direct, Direct, Room}
 use Rattle.rule3.specs.Rule3.{Real, rule3}
-use Rattle.rule3.specs.Checked.{premisesTest, premises-tested}
+use Rattle.rule3.specs.Checked.{real, premisesTest, premises-tested}
 use Rattle.rule3.specs.Computed.{nested}
 
 -- ---- how they are written
@@ -57,8 +57,8 @@ abbrev values : ℕ → ℕ → ℕ → Values
 values status pc a7 = record { status = status; pc = pc; a7 = a7 }
 
 -- rule 3 of a list that passes the test
-tells : (xs : List (Step Real)) (r : Cpu) (s : Room) → premisesTest xs r s ≡ true → ltb 0 (depth Real (end Real xs r s)) ≡ true → Told Real (end Real xs r s)
-tells xs r s e d = rule3 .tells xs r s (premises-tested xs r s e) (ltb-true 0 (depth Real (end Real xs r s)) d)
+tells : (xs : List (Step Real)) (r : Cpu) (s : Room) → premisesTest real xs r s ≡ true → ltb 0 (depth Real (end Real xs r s)) ≡ true → Told Real (end Real xs r s)
+tells xs r s e d = rule3 .tells xs r s (premises-tested real xs r s e) (ltb-true 0 (depth Real (end Real xs r s)) d)
 
 -- ---- kind 4: a trap from the user state with M set, an interrupt from the master state with its two frames, a bus error of format 11
 
@@ -192,5 +192,5 @@ same-end = refl
 pub pair-tells : SameTale Real (end Real three r₄ room) (end Real later r₄′ room)
 unfolding nested
 pair-tells =
-    rule3 .settles three later r₄ r₄′ room room (premises-tested three r₄ room refl) (premises-tested later r₄′ room refl)
+    rule3 .settles three later r₄ r₄′ room room (premises-tested real three r₄ room refl) (premises-tested real later r₄′ room refl)
     (record { stacks = refl; depths = refl; bytes = λ a x. (λ h. h, λ h. h) })

@@ -32,7 +32,7 @@ use Rattle.entered.specs.Pointers.{regsOf}
 use Rattle.entered.specs.Entered.{Inside}
 use Rattle.entered.specs.Machines.{direct, Direct, Room, worldOf, Passes, InsideRoom, CleanCall}
 use Rattle.rule3.specs.Rule3.{Real, walk, rule3}
-use Rattle.rule3.specs.Checked.{premisesTest, premises-tested}
+use Rattle.rule3.specs.Checked.{real, premisesTest, premises-tested}
 use Rattle.rule3.specs.Computed.{nested}
 
 -- ---- the list
@@ -79,12 +79,12 @@ final-rows = refl
 
 -- ---- the premises
 
-test : premisesTest steps r₀ s₀ ≡ true
+test : premisesTest real steps r₀ s₀ ≡ true
 unfolding nested
 test = refl
 
 pub premises : Premises Real steps r₀ s₀
-premises = premises-tested steps r₀ s₀ test
+premises = premises-tested real steps r₀ s₀ test
 
 -- ---- rule 3 speaks of it
 
