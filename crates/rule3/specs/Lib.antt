@@ -10,3 +10,4 @@ pub mod Nests
 pub mod Tells
 pub mod Shams
 pub mod Needed
+pub mod Statement

@@ -8,6 +8,7 @@ use mathlib.Core.Option.{Option, none, some}
 use native.Mathlib.Omega.{arith}
 use borrow.Author.Tests.{eq-eqb, ltb-true}
 use lib.Dec.{eqb, ltb}
+use lib.IntN.{ℤ}
 use lib.ListN.{set, replicate}
 use Rattle.types.specs.declared.FaultCause.the-variants.{Absent}
 use Rattle.cpu.specs.declared.Cpu.{Cpu}
@@ -45,7 +46,7 @@ needed q xs r s e d f =
 abbrev trap : Step Real
 trap = call (Trap 0) refl
 
-abbrev withBase : Cpu → ℕ → Cpu
+abbrev pub withBase : Cpu → ℕ → Cpu
 withBase c x =
     withFlow c
     (record {
@@ -63,7 +64,25 @@ withBase c x =
       «cycles_remaining» = c .flow .«cycles_remaining»;
     })
 
-abbrev windows : ℕ → ℕ → ℕ → Bus
+abbrev pub withCycles : Cpu → ℤ → Cpu
+withCycles c x =
+    withFlow c
+    (record {
+      ppc = c .flow .ppc;
+      pc = c .flow .pc;
+      vbr = c .flow .vbr;
+      ir = c .flow .ir;
+      fpiar = c .flow .fpiar;
+      «cpu_type» = c .flow .«cpu_type»;
+      «run_mode» = c .flow .«run_mode»;
+      stopped = c .flow .stopped;
+      «exception_processing» = c .flow .«exception_processing»;
+      «change_of_flow» = c .flow .«change_of_flow»;
+      «loop_mode» = c .flow .«loop_mode»;
+      «cycles_remaining» = x;
+    })
+
+abbrev pub windows : ℕ → ℕ → ℕ → Bus
 windows n from size =
     record { base = 0; windows = n; starts = set (replicate 8 0) 0 from; lengths = set (replicate 8 0) 0 size; responses = replicate 8 0xFFFFFFFF; events = 0 }
 
@@ -71,7 +90,7 @@ abbrev holding : ℕ → List ℕ → Room
 holding a bs = record { bus = bus; bytes = laid (replicate 512 0) a bs; log = replicate 192 0 }
 
 -- the frame of a trap 0 met at PC 0x100 with status 0x2000, at an address
-abbrev trapped : ℕ → Room
+abbrev pub trapped : ℕ → Room
 trapped a = holding a (0x20 ∷ 0x00 ∷ 0x00 ∷ 0x00 ∷ 0x01 ∷ 0x00 ∷ 0x00 ∷ 0x80 ∷ [])
 
 -- ---- "each entry taken starts sound"

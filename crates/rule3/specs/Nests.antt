@@ -57,7 +57,7 @@ abbrev values : ℕ → ℕ → ℕ → Values
 values status pc a7 = record { status = status; pc = pc; a7 = a7 }
 
 -- rule 3 of a list that passes the test
-tells : (xs : List (Step Real)) (r : Cpu) (s : Room) → premisesTest real xs r s ≡ true → ltb 0 (depth Real (end Real xs r s)) ≡ true → Told Real (end Real xs r s)
+pub tells : (xs : List (Step Real)) (r : Cpu) (s : Room) → premisesTest real xs r s ≡ true → ltb 0 (depth Real (end Real xs r s)) ≡ true → Told Real (end Real xs r s)
 tells xs r s e d = rule3 .tells xs r s (premises-tested real xs r s e) (ltb-true 0 (depth Real (end Real xs r s)) d)
 
 -- ---- kind 4: a trap from the user state with M set, an interrupt from the master state with its two frames, a bus error of format 11
