@@ -1,10 +1,9 @@
 #!/usr/bin/env python3
-"""arms.py CRATE FUNCTION DEFINITION [LAWS] --reuse FILE: writes the proof file of a function whose body is one `match` on an enum.
+"""arms.py CRATE FUNCTION DEFINITION [LAWS] --spec MODULE.{NAMES}: writes the proof file of a function that is one `match` on an enum.
 
 Each arm ends in a call. Where its contract alone is the definition at the arm's constructor, the arm's answer is that fact; else LAWS
 names a file of proofs with a law `CALLEE-way` for each callee that an arm ends in, whose premises are what the calls of the arm ensure,
-in the order of the code. DEFINITION is an antt term that takes the enum, such as `matterOf` or `run _`. FILE is what an
-earlier `rt dev CRATE` printed.
+in the order of the code. DEFINITION is an antt term that takes the enum, such as `matterOf` or `run _`.
 """
 import argparse
 import os
@@ -56,9 +55,13 @@ def main():
     p.add_argument("definition")
     p.add_argument("laws", nargs="?")
     p.add_argument("--spec", required=True, help="the module of specs that has the definition, with the names to unfold: M.{a, b}")
-    p.add_argument("--reuse", required=True)
+    p.add_argument("--reuse", help="what an earlier `rt dev CRATE` printed, in place of a new run")
     p.add_argument("--generated", help="a folder that `rt dev CRATE --generated` wrote")
     a = p.parse_args()
+    own = os.path.join(ROOT, "crates", a.crate, "proofs", a.function, "Proof.antt")
+    if not a.reuse and os.path.exists(own):
+        os.remove(own)
+    printed = open(a.reuse, encoding="utf-8").read() if a.reuse else dev(a.crate)
     generated = a.generated or tempfile.mkdtemp()
     if not a.generated:
         dev(a.crate, "--generated", generated)
@@ -66,7 +69,7 @@ def main():
     unfold = re.search(r"\{(.*)\}", a.spec).group(1).replace(",", "")
     laws = explicit(a.crate, a.laws) if a.laws else None
     places.joined = {name for fields in places.fields.values() for name in fields}
-    for path, body in blocks(open(a.reuse, encoding="utf-8").read()):
+    for path, body in blocks(printed):
         if os.path.dirname(path).split("/proofs/", 1)[1] != a.function:
             continue
         used, out = set(), []

@@ -31,7 +31,7 @@ def dev(crate, *words):
 
 
 def blocks(out):
-    """(path, lines) of each proof file that the check prints."""
+    """(path, lines) of each proof file that the check prints, without the places of the code that it names: they go stale."""
     lines = out.split("\n")
     at = 0
     while at < len(lines):
@@ -40,7 +40,8 @@ def blocks(out):
         if m:
             body = []
             while at < len(lines) and lines[at].startswith("    "):
-                body.append(lines[at][4:])
+                if not re.fullmatch(r" +-- src/\S+:\d+:\d+", lines[at]):
+                    body.append(lines[at][4:])
                 at += 1
             yield m.group(1), body
 

@@ -1,15 +1,12 @@
 #!/usr/bin/env python3
-"""view.py: writes the proofs by hand of crates/unwind/src/view.rt: `view_of`, which makes the view, and for each reader the function that
-takes the view apart and calls a function of `frames`, and the one with plain parameters that makes the view and passes it on.
+"""The proofs of a module of functions over a view, crates/unwind/src/view.rt, for generate.py: `view_of`, which makes the view, and for
+each reader the function that takes the view apart and calls a function of `frames`, and the one with plain parameters that makes the
+view and passes it on.
 
-A reader is its name with `_at` and with `_of`, the function of `frames` that it calls, the struct that this answers, the definition,
-and the 32-bit numbers that it takes beside the view. Positions are counted: with n locals, local i stands at 2 (n - 1 - i) after the
-allocations. All of it is checked; none of it is trusted.
+A reader is a word of the manifest, NAME:CALLED:ANSWER:DEFINITION:NUMBERS: its name without `_at` and `_of`, the function of `frames` that
+it calls, the struct that this answers, the definition, and the 32-bit numbers that it takes beside the view. Positions are counted: with n
+locals, local i stands at 2 (n - 1 - i) after the allocations. All of it is checked; none of it is trusted.
 """
-import os
-
-ROOT = os.path.dirname(os.path.dirname(os.path.abspath(__file__)))
-READERS = [("byte", "byte_in_frame", "Seen", "byteSeen", ["p", "i"]), ("frame", "frame_in", "Frame", "frameOf", ["p"])]
 
 LOGIC = """use mathlib.Core.Path.{_≡_, refl, ap, _∙_}
 use Prim.Native.Nat.{ℕ, _<_, _^_}
@@ -123,16 +120,16 @@ def own(f, cites=()):
 def tail(f, goes, cites):
     """The function meets its contract, from its walk."""
     d = dash(f)
-    known = " ".join(f"known-{a}" for a, _ in cites)
+    known = "".join(f" known-{a}" for a, _ in cites)
     asks = "".join(f"Triple 𝓤 (𝓣 .C #{a}) (C-{a} 𝓤 H A mem run) → " for a, _ in cites)
-    fm = "(fmOf 𝓤 H (W .laws) 𝓣) " if cites else ""
+    fm = " (fmOf 𝓤 H (W .laws) 𝓣)" if cites else ""
     text = f"""
 {d}-meets : {HEAD} (W : Given 𝓤 H A) {REST} (𝓣 : Tables 𝓤 H)
     → {asks}Meets 𝓤 H A f.signature (WpFn 𝓤 H (𝓣 .C) (𝓣 .Λ) code.function) (f.spec 𝓤 H A mem run)
-{d}-meets 𝓤 H A W mem run 𝓣 {known} =
+{d}-meets 𝓤 H A W mem run 𝓣{known} =
     walk-meets 𝓤 H A f.ended stayed W {nest(goes)}
     (f.clauses 𝓤 H A mem run) (WpFn 𝓤 H (𝓣 .C) (𝓣 .Λ) code.function) (WpFn-mono 𝓤 H (W .laws) 𝓣 code.function)
-    ({d}-walks 𝓤 H A W mem run (𝓣 .C) (𝓣 .Λ) {fm}{known})
+    ({d}-walks 𝓤 H A W mem run (𝓣 .C) (𝓣 .Λ){fm}{known})
 
 pub {d}-spec : {{M : Type 1}} → stated.statement M
 unfolding code.routine tablesOf
@@ -162,7 +159,7 @@ BUS_IS = "Is N.the-row {0} (LL.val N.the-type N′.the-laws {0} ∷ [])"
 
 
 def view_of():
-    text = "-- `unwind::view::view_of` meets its contract: a walk of its MIR, by hand, written by tools/view.py. A `&[u8]` is Copy, so what it\n-- owns is had twice: once for the slice at exit, and once inside the view. Assumes nothing.\n"
+    text = "-- `unwind::view::view_of` meets its contract: a walk of its MIR, by tools/view.py. A `&[u8]` is Copy, so what it\n-- owns is had twice: once for the slice at exit, and once inside the view. Assumes nothing.\n"
     text += own("view_of")
     text += f"""
 abbrev stayed : Stays (f.ended .signature .params) (f.ended .kept)
@@ -249,7 +246,7 @@ def reader(name, core, answer, definition, xs):
     numbers = "".join(number(x) for x in reversed(xs))
     tts = nest(["tt"] * (1 + len(xs)))
     some, known = extras(xs, 1)
-    text = f"-- `unwind::view::{f}` meets its contract: a walk of its MIR, by hand, written by tools/view.py. The view is taken apart, and\n-- `frames::{core}` is called on the slice, the bus and the numbers. The view is Copy: what it owns is had twice, one copy is kept whole\n-- for the exit. Assumes nothing.\n"
+    text = f"-- `unwind::view::{f}` meets its contract: a walk of its MIR, by tools/view.py. The view is taken apart, and\n-- `frames::{core}` is called on the slice, the bus and the numbers. The view is Copy: what it owns is had twice, one copy is kept whole\n-- for the exit. Assumes nothing.\n"
     text += own(f, cites) + result(answer) + f"use Rattle.unwind.specs.Frames.{{sight, {definition}}}\n"
     text += f"""
 -- the view's type, over the signature's lifetimes
@@ -364,7 +361,7 @@ def maker(name, core, answer, definition, xs):
     seen = f"{definition} (sight (r .kind) (r .bus) (now (r .store))) {' '.join(xs)}"
     nargs = nest(["r", *xs])
     args = " ".join(xs)
-    text = f"-- `unwind::view::{f}` meets its contract: a walk of its MIR, by hand, written by tools/view.py. The view that `view_of` returns is\n-- held in a local, whose type has the lifetime erased, and passed to `{name}_at`. Assumes nothing.\n"
+    text = f"-- `unwind::view::{f}` meets its contract: a walk of its MIR, by tools/view.py. The view that `view_of` returns is\n-- held in a local, whose type has the lifetime erased, and passed to `{name}_at`. Assumes nothing.\n"
     text += own(f, cites) + result(answer) + f"use Rattle.unwind.specs.Frames.{{sight, {definition}}}\n"
     text += f"""
 -- the view's type, over the signature's lifetimes
@@ -481,17 +478,11 @@ module _ {HEAD} (W : Given 𝓤 H A) {REST} where
     return text + tail(f, [SLICE_GOES] + goes_plain(["N.the-row", "u8", *["u32"] * len(xs)]), cites)
 
 
-def main():
+def texts(crate, module, words):
+    """What generate.py writes or compares: the proof files of the module."""
     files = {"view_of": view_of()}
-    for name, core, answer, definition, xs in READERS:
-        files[name + "_at"] = reader(name, core, answer, definition, xs)
-        files[name + "_of"] = maker(name, core, answer, definition, xs)
-    for f, text in files.items():
-        path = os.path.join(ROOT, "crates", "unwind", "proofs", "view", f, "Proof.antt")
-        os.makedirs(os.path.dirname(path), exist_ok=True)
-        with open(path, "w", encoding="utf-8") as out:
-            out.write(text)
-
-
-if __name__ == "__main__":
-    main()
+    for word in words:
+        name, core, answer, definition, xs = word.split(":")
+        files[name + "_at"] = reader(name, core, answer, definition, xs.split(","))
+        files[name + "_of"] = maker(name, core, answer, definition, xs.split(","))
+    return {f"crates/{crate}/proofs/{module}/{f}/Proof.antt": text for f, text in files.items()}

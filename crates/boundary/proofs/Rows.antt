@@ -1,29 +1,30 @@
--- The rows of the table of calls by number.
+-- Written by tools/generate.py from tools/manifest.txt: not edited by hand.
+-- The rows of the table of calls by number, by tools/rows.py: a law for each arm of the code.
 use Prim.Native.Nat.{ℕ, _%_}
-use mathlib.Core.Path.{_≡_, refl, sym, ap}
+use mathlib.Core.Path.{_≡_, sym, ap}
 use mathlib.Core.Bool.{Bool}
 use borrow.Author.Tests.{ne-eqb}
+use Rattle.boundary.specs.Calls.{callsOf, decode, find, flag}
+use Rattle.boundary.specs.declared.Decoded.the-variants.{Known, Unknown}
+use Rattle.boundary.specs.declared.RawCall.{RawCall}
+use Rattle.calls.specs.declared.Call.the-variants.{ExceptionAddressError, ExceptionBusError, Push16, SetIrq, TakeTrapException, Trap, TriggerAddressError, TriggerBusError, Write16}
 use Rattle.types.specs.Causes.{causeOf}
 use Rattle.types.specs.declared.FaultCause.{FaultCause}
-use Rattle.calls.specs.declared.Call.the-variants.{ExceptionAddressError, ExceptionBusError, Push16, SetIrq, TakeTrapException, Trap, TriggerAddressError, TriggerBusError, Write16}
-use Rattle.boundary.specs.declared.RawCall.{RawCall}
-use Rattle.boundary.specs.declared.Decoded.the-variants.{Known, Unknown}
-use Rattle.boundary.specs.Calls.{flag, find, callsOf, decode}
 
 pub row : (c : RawCall) (k : ℕ) → c .number ≡ k → find k (callsOf c) ≡ decode c
 unfolding decode
 row c k h = ap (λ (n : ℕ). find n (callsOf c)) (sym h)
 
-pub row-2 : (c : RawCall) (xa : ℕ) → c .number ≡ 2 → xa ≡ c .a % 256 → Known (Trap xa) ≡ decode c
+pub row-2 : (c : RawCall) (xa : ℕ) → c .number ≡ 2 → xa ≡ (c .a) % 256 → Known (Trap xa) ≡ decode c
 row-2 c xa h e0 = rw (e0) (row c 2 h)
 
 pub row-8 : (c : RawCall) (xb : Bool) (xc : Bool) → c .number ≡ 8 → xb ≡ flag (c .b) → xc ≡ flag (c .c) → Known (ExceptionAddressError (c .a) xb xc) ≡ decode c
 row-8 c xb xc h e0 e1 = rw (e1, e0) (row c 8 h)
 
-pub row-9 : (c : RawCall) (xb : Bool) (xc : Bool) (xe : ℕ) (cause : FaultCause) → c .number ≡ 9 → xb ≡ flag (c .b) → xc ≡ flag (c .c) → xe ≡ c .e % 256 → cause ≡ causeOf xe → Known (ExceptionBusError (c .a) xb xc (c .d) cause) ≡ decode c
+pub row-9 : (c : RawCall) (xb : Bool) (xc : Bool) (xe : ℕ) (cause : FaultCause) → c .number ≡ 9 → xb ≡ flag (c .b) → xc ≡ flag (c .c) → xe ≡ (c .e) % 256 → cause ≡ causeOf xe → Known (ExceptionBusError (c .a) xb xc (c .d) cause) ≡ decode c
 row-9 c xb xc xe cause h e0 e1 e2 e3 = rw (e3, e2, e1, e0) (row c 9 h)
 
-pub row-14 : (c : RawCall) (xa : ℕ) → c .number ≡ 14 → xa ≡ c .a % 256 → Known (TakeTrapException xa) ≡ decode c
+pub row-14 : (c : RawCall) (xa : ℕ) → c .number ≡ 14 → xa ≡ (c .a) % 256 → Known (TakeTrapException xa) ≡ decode c
 row-14 c xa h e0 = rw (e0) (row c 14 h)
 
 pub row-17 : (c : RawCall) (xb : Bool) (xc : Bool) → c .number ≡ 17 → xb ≡ flag (c .b) → xc ≡ flag (c .c) → Known (TriggerAddressError (c .a) xb xc) ≡ decode c
@@ -32,13 +33,13 @@ row-17 c xb xc h e0 e1 = rw (e1, e0) (row c 17 h)
 pub row-18 : (c : RawCall) (xb : Bool) (xc : Bool) → c .number ≡ 18 → xb ≡ flag (c .b) → xc ≡ flag (c .c) → Known (TriggerBusError (c .a) xb xc (c .d)) ≡ decode c
 row-18 c xb xc h e0 e1 = rw (e1, e0) (row c 18 h)
 
-pub row-20 : (c : RawCall) (xa : ℕ) → c .number ≡ 20 → xa ≡ c .a % 256 → Known (SetIrq xa) ≡ decode c
+pub row-20 : (c : RawCall) (xa : ℕ) → c .number ≡ 20 → xa ≡ (c .a) % 256 → Known (SetIrq xa) ≡ decode c
 row-20 c xa h e0 = rw (e0) (row c 20 h)
 
-pub row-25 : (c : RawCall) (xb : ℕ) → c .number ≡ 25 → xb ≡ c .b % 0x10000 → Known (Write16 (c .a) xb) ≡ decode c
+pub row-25 : (c : RawCall) (xb : ℕ) → c .number ≡ 25 → xb ≡ (c .b) % 0x10000 → Known (Write16 (c .a) xb) ≡ decode c
 row-25 c xb h e0 = rw (e0) (row c 25 h)
 
-pub row-27 : (c : RawCall) (xa : ℕ) → c .number ≡ 27 → xa ≡ c .a % 0x10000 → Known (Push16 xa) ≡ decode c
+pub row-27 : (c : RawCall) (xa : ℕ) → c .number ≡ 27 → xa ≡ (c .a) % 0x10000 → Known (Push16 xa) ≡ decode c
 row-27 c xa h e0 = rw (e0) (row c 27 h)
 
 pub none : (c : RawCall) → (c .number ≡ 1 → ⊥) → (c .number ≡ 2 → ⊥) → (c .number ≡ 3 → ⊥) → (c .number ≡ 4 → ⊥) → (c .number ≡ 5 → ⊥) → (c .number ≡ 6 → ⊥) → (c .number ≡ 7 → ⊥) → (c .number ≡ 8 → ⊥) → (c .number ≡ 9 → ⊥) → (c .number ≡ 10 → ⊥) → (c .number ≡ 11 → ⊥) → (c .number ≡ 12 → ⊥) → (c .number ≡ 13 → ⊥) → (c .number ≡ 14 → ⊥) → (c .number ≡ 15 → ⊥) → (c .number ≡ 16 → ⊥) → (c .number ≡ 17 → ⊥) → (c .number ≡ 18 → ⊥) → (c .number ≡ 19 → ⊥) → (c .number ≡ 20 → ⊥) → (c .number ≡ 21 → ⊥) → (c .number ≡ 22 → ⊥) → (c .number ≡ 23 → ⊥) → (c .number ≡ 24 → ⊥) → (c .number ≡ 25 → ⊥) → (c .number ≡ 26 → ⊥) → (c .number ≡ 27 → ⊥) → (c .number ≡ 28 → ⊥) → (c .number ≡ 29 → ⊥) → (c .number ≡ 30 → ⊥) → Unknown ≡ decode c

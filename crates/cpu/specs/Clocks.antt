@@ -5,7 +5,7 @@ use lib.Dec.{eqb, ltb}
 use lib.ListN.{set}
 use Rattle.types.specs.Kinds.{pick, isPrefetchKind}
 use Rattle.cpu.specs.declared.Cpu.{Cpu}
-use Rattle.cpu.specs.Groups.{withPendingSyncClocks, withPrefetchCount, withPrefetchQueue}
+use Rattle.cpu.specs.Setters.{withPendingSyncClocks, withPrefetchCount, withPrefetchQueue}
 
 -- whether clocks wait to be reported
 unfoldable pub hasClocks : Cpu → Bool

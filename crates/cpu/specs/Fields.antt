@@ -5,7 +5,7 @@ use lib.Dec.{eqb}
 use lib.ListN.{set, getD}
 use Rattle.types.specs.Kinds.{both, isPre68020, maskAddress}
 use Rattle.cpu.specs.declared.Cpu.{Cpu}
-use Rattle.cpu.specs.Groups.{withDar, withExceptionProcessing, withFpiar, withInstructionExceptionVector, withLastExceptionVector, withLoopMode, withMmuFcOverride, withPc, withPendingFaultCause, withPendingFaultWdata, withRunMode, withStopped}
+use Rattle.cpu.specs.Setters.{withDar, withExceptionProcessing, withFpiar, withInstructionExceptionVector, withLastExceptionVector, withLoopMode, withMmuFcOverride, withPc, withPendingFaultCause, withPendingFaultWdata, withRunMode, withStopped}
 
 -- the kind of processor
 unfoldable pub kindOf : Cpu → ℕ

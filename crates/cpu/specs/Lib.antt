@@ -1,4 +1,5 @@
 pub mod Groups
+pub mod Setters
 pub mod Fields
 pub mod Clocks
 pub mod Fresh

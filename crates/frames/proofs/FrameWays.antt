@@ -1,5 +1,6 @@
--- A law for each way through a function: its premises are how each test went and what each call ensures, in the order
--- of the code. Written by tools/ways.py from the code and the contracts.
+-- Written by tools/generate.py from tools/manifest.txt: not edited by hand.
+-- A law for each way through a function, by tools/ways.py: its premises are how each test went and what each call ensures, in the
+-- order of the code.
 use Prim.Native.Nat.{ℕ, zero, suc, _+_, _-_, _*_, _/_, _%_, _^_, _<_, _≤_}
 use mathlib.Core.Path.{_≡_, refl}
 use mathlib.Core.Bool.{Bool, true, false}
@@ -8,14 +9,14 @@ use lib.ListN.{length, getD, set}
 use lib.Dec.{eqb, ltb, leb}
 use native.Mathlib.Numerals.{sub-one}
 use Rattle.cpu.specs.Fields.{irOf, kindOf, ppcOf}
-use Rattle.status.specs.Status.{statusOf}
 use Rattle.cpu.specs.declared.Cpu.{Cpu}
 use Rattle.frames.specs.Codes.{faultCode, fslw060, ssw020, ssw040, stateCode, statusWord, wb3s}
 use Rattle.frames.specs.Frames.{addressFrame, busFrame, frame0, frame11, frame2, frame4, frame68000, frame7, frame8, writeData}
 use Rattle.frames.specs.declared.Frame.{Frame}
+use Rattle.status.specs.Status.{statusOf}
 use Rattle.types.specs.Kinds.{is040, is060, isPre68020, pick}
 
-pub address-frame-way : (c : Cpu) (address : ℕ) (write instruction : Bool) (n n1 n2 : ℕ) (b : Bool) (n3 n4 n5 : ℕ) (r : Frame) → n ≡ kindOf c → n1 ≡ statusOf c → n2 ≡ ppcOf c → b ≡ eqb (kindOf c) 1 → b ≡ true → n3 ≡ stateCode c instruction → n4 ≡ statusWord n3 write instruction → n5 ≡ irOf c % 65536 → r ≡ frame68000 n1 n2 n5 address n4 → r ≡ addressFrame c address write instruction
+pub address-frame-way : (c : Cpu) (address : ℕ) (write instruction : Bool) (n n1 n2 : ℕ) (b : Bool) (n3 n4 n5 : ℕ) (r : Frame) → n ≡ kindOf c → n1 ≡ statusOf c → n2 ≡ ppcOf c → b ≡ eqb (kindOf c) 1 → b ≡ true → n3 ≡ stateCode c instruction → n4 ≡ statusWord n3 write instruction → n5 ≡ irOf c % 0x10000 → r ≡ frame68000 n1 n2 n5 address n4 → r ≡ addressFrame c address write instruction
 unfolding addressFrame
 address-frame-way c address write instruction n n1 n2 b n3 n4 n5 r h0 h1 h2 h3 h4 h5 h6 h7 h8 = cc
 
@@ -31,7 +32,7 @@ pub address-frame-way-4 : (c : Cpu) (address : ℕ) (write instruction : Bool) (
 unfolding addressFrame
 address-frame-way-4 c address write instruction n n1 n2 b b1 b2 r h0 h1 h2 h3 h4 h5 h6 h7 h8 h9 = cc
 
-pub bus-frame-way : (c : Cpu) (address : ℕ) (write instruction : Bool) (size cause n n1 n2 n3 : ℕ) (b : Bool) (n4 n5 : ℕ) (r : Frame) → n ≡ kindOf c → n1 ≡ statusOf c → n2 ≡ ppcOf c → n3 ≡ faultCode c instruction → b ≡ eqb (kindOf c) 1 → b ≡ true → n4 ≡ statusWord n3 write instruction → n5 ≡ irOf c % 65536 → r ≡ frame68000 n1 n2 n5 address n4 → r ≡ busFrame c address write instruction size cause
+pub bus-frame-way : (c : Cpu) (address : ℕ) (write instruction : Bool) (size cause n n1 n2 n3 : ℕ) (b : Bool) (n4 n5 : ℕ) (r : Frame) → n ≡ kindOf c → n1 ≡ statusOf c → n2 ≡ ppcOf c → n3 ≡ faultCode c instruction → b ≡ eqb (kindOf c) 1 → b ≡ true → n4 ≡ statusWord n3 write instruction → n5 ≡ irOf c % 0x10000 → r ≡ frame68000 n1 n2 n5 address n4 → r ≡ busFrame c address write instruction size cause
 unfolding busFrame
 bus-frame-way c address write instruction size cause n n1 n2 n3 b n4 n5 r h0 h1 h2 h3 h4 h5 h6 h7 h8 = cc
 

@@ -1,5 +1,6 @@
--- A law for each way through a function: its premises are how each test went and what each call ensures, in the order
--- of the code. Written by tools/ways.py from the code and the contracts.
+-- Written by tools/generate.py from tools/manifest.txt: not edited by hand.
+-- A law for each way through a function, by tools/ways.py: its premises are how each test went and what each call ensures, in the
+-- order of the code.
 use Prim.Native.Nat.{ℕ, zero, suc, _+_, _-_, _*_, _/_, _%_, _^_, _<_, _≤_}
 use mathlib.Core.Path.{_≡_, refl}
 use mathlib.Core.Bool.{Bool, true, false}
@@ -7,20 +8,20 @@ use mathlib.Core.List.{List}
 use lib.ListN.{length, getD, set}
 use lib.Dec.{eqb, ltb, leb}
 use native.Mathlib.Numerals.{sub-one}
-use Rattle.status.specs.Banks.{enterSupervisor, setSmFlag}
 use Rattle.cpu.specs.Clocks.{internalCycles}
 use Rattle.cpu.specs.Fields.{a7Of, clearStopped, kindOf, lowerA7, pcOf}
-use Rattle.requests.specs.Interrupts.{chargeInterrupt, clearLevel, pendingLevel, takesInterrupt}
-use Rattle.status.specs.Status.{clearM, mIsSet, setIntMask, statusOf}
 use Rattle.cpu.specs.declared.Cpu.{Cpu}
 use Rattle.exceptions.specs.Frames.{formatWord, offsetWord, shortFrame}
-use Rattle.faults.specs.Faults.{writeAt, jumpVector, raised, pushFrame}
+use Rattle.faults.specs.Faults.{jumpVector, pushFrame, raised, writeAt}
 use Rattle.frames.specs.declared.Frame.{Frame}
 use Rattle.interrupts.specs.Interrupts.{acknowledgeLevel, checkAndService, closed, dispatched, ended, enterLevel, firstFrame, frame68000Interrupt, frame68010Interrupt, frameOther, from68000, iackVector, rest68000, rest68010, restOther, secondFrame, serviceInterrupt, serviced, syncedAcknowledge, throwaway, vectorFrom, withS, writes68010}
 use Rattle.interrupts.specs.declared.Stacked.{Stacked}
 use Rattle.memory.specs.World.{acknowledged, flush, putCpu, reply, tried, world}
 use Rattle.memory.specs.declared.Acknowledged.{Acknowledged}
 use Rattle.memory.specs.declared.Core.{Core}
+use Rattle.requests.specs.Interrupts.{chargeInterrupt, clearLevel, pendingLevel, takesInterrupt}
+use Rattle.status.specs.Banks.{enterSupervisor, setSmFlag}
+use Rattle.status.specs.Status.{clearM, mIsSet, setIntMask, statusOf}
 use Rattle.types.specs.Kinds.{is060, isEc020Plus}
 
 pub acknowledge-level-way : (m : Core) (s l : List ℕ) (level : ℕ) (s1 l1 : List ℕ) (r : Acknowledged) (n : ℕ) → reply (world (r .core) s1 l1) true (r .response) ≡ acknowledged (world m s l) level → n ≡ iackVector (r .response) level → reply (world (r .core) s1 l1) true n ≡ acknowledgeLevel (world m s l) level
@@ -31,7 +32,7 @@ pub synced-acknowledge-way : (m : Core) (s l : List ℕ) (clocks level : ℕ) (r
 unfolding syncedAcknowledge
 synced-acknowledge-way m s l clocks level r s1 l1 r1 s2 l2 r2 h0 h1 h2 = cc
 
-pub from-68000-way : (m : Core) (s l : List ℕ) (sp pc sr level n n1 : ℕ) (s1 l1 : List ℕ) (r : Core) (s2 l2 : List ℕ) (r1 : Stacked) (r2 : Core) (s3 l3 : List ℕ) (r3 : Core) (n2 n3 : ℕ) (s4 l4 : List ℕ) (r4 : Core) → n ≡ (sp + 4) % 2 ^ 32 → n1 ≡ pc % 65536 → world r s1 l1 ≡ writeAt raised (world m s l) n false n1 → reply (world (r1 .core) s2 l2) true (r1 .vector) ≡ syncedAcknowledge (world r s1 l1) 4 level → r2 ≡ putCpu (r1 .core) (internalCycles ((r1 .core) .cpu) 4) → world r3 s3 l3 ≡ writeAt raised (world r2 s2 l2) sp false sr → n2 ≡ (sp + 2) % 2 ^ 32 → n3 ≡ pc / 65536 → world r4 s4 l4 ≡ writeAt raised (world r3 s3 l3) n2 false n3 → reply (world r4 s4 l4) true (r1 .vector) ≡ from68000 (world m s l) sp pc sr level
+pub from-68000-way : (m : Core) (s l : List ℕ) (sp pc sr level n n1 : ℕ) (s1 l1 : List ℕ) (r : Core) (s2 l2 : List ℕ) (r1 : Stacked) (r2 : Core) (s3 l3 : List ℕ) (r3 : Core) (n2 n3 : ℕ) (s4 l4 : List ℕ) (r4 : Core) → n ≡ (sp + 4) % 2 ^ 32 → n1 ≡ pc % 0x10000 → world r s1 l1 ≡ writeAt raised (world m s l) n false n1 → reply (world (r1 .core) s2 l2) true (r1 .vector) ≡ syncedAcknowledge (world r s1 l1) 4 level → r2 ≡ putCpu (r1 .core) (internalCycles ((r1 .core) .cpu) 4) → world r3 s3 l3 ≡ writeAt raised (world r2 s2 l2) sp false sr → n2 ≡ (sp + 2) % 2 ^ 32 → n3 ≡ pc / 0x10000 → world r4 s4 l4 ≡ writeAt raised (world r3 s3 l3) n2 false n3 → reply (world r4 s4 l4) true (r1 .vector) ≡ from68000 (world m s l) sp pc sr level
 unfolding from68000 rest68000
 from-68000-way m s l sp pc sr level n n1 s1 l1 r s2 l2 r1 r2 s3 l3 r3 n2 n3 s4 l4 r4 h0 h1 h2 h3 h4 h5 h6 h7 h8 = cc
 
@@ -39,7 +40,7 @@ pub frame-68000-way : (m : Core) (s l : List ℕ) (pc sr level : ℕ) (r : Core)
 unfolding frame68000Interrupt
 frame-68000-way m s l pc sr level r n s1 l1 r1 h0 h1 h2 = cc
 
-pub writes-68010-way : (m : Core) (s l : List ℕ) (sp pc sr format n n1 : ℕ) (s1 l1 : List ℕ) (r : Core) (s2 l2 : List ℕ) (r1 : Core) (n2 n3 : ℕ) (s3 l3 : List ℕ) (r2 : Core) (n4 : ℕ) (s4 l4 : List ℕ) (r3 : Core) → n ≡ (sp + 4) % 2 ^ 32 → n1 ≡ pc % 65536 → world r s1 l1 ≡ writeAt raised (world m s l) n false n1 → world r1 s2 l2 ≡ writeAt raised (world r s1 l1) sp false sr → n2 ≡ (sp + 2) % 2 ^ 32 → n3 ≡ pc / 65536 → world r2 s3 l3 ≡ writeAt raised (world r1 s2 l2) n2 false n3 → n4 ≡ (sp + 6) % 2 ^ 32 → world r3 s4 l4 ≡ writeAt raised (world r2 s3 l3) n4 false format → world r3 s4 l4 ≡ writes68010 (world m s l) sp pc sr format
+pub writes-68010-way : (m : Core) (s l : List ℕ) (sp pc sr format n n1 : ℕ) (s1 l1 : List ℕ) (r : Core) (s2 l2 : List ℕ) (r1 : Core) (n2 n3 : ℕ) (s3 l3 : List ℕ) (r2 : Core) (n4 : ℕ) (s4 l4 : List ℕ) (r3 : Core) → n ≡ (sp + 4) % 2 ^ 32 → n1 ≡ pc % 0x10000 → world r s1 l1 ≡ writeAt raised (world m s l) n false n1 → world r1 s2 l2 ≡ writeAt raised (world r s1 l1) sp false sr → n2 ≡ (sp + 2) % 2 ^ 32 → n3 ≡ pc / 0x10000 → world r2 s3 l3 ≡ writeAt raised (world r1 s2 l2) n2 false n3 → n4 ≡ (sp + 6) % 2 ^ 32 → world r3 s4 l4 ≡ writeAt raised (world r2 s3 l3) n4 false format → world r3 s4 l4 ≡ writes68010 (world m s l) sp pc sr format
 unfolding writes68010
 writes-68010-way m s l sp pc sr format n n1 s1 l1 r s2 l2 r1 n2 n3 s3 l3 r2 n4 s4 l4 r3 h0 h1 h2 h3 h4 h5 h6 h7 h8 = cc
 

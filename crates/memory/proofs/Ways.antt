@@ -1,10 +1,12 @@
--- A law for each way through a function: its premises are how each test went and what each call ensures, in the order
--- of the code. Written by tools/ways.py from the code and the contracts.
+-- Written by tools/generate.py from tools/manifest.txt: not edited by hand.
+-- A law for each way through a function, by tools/ways.py: its premises are how each test went and what each call ensures, in the
+-- order of the code.
 use Prim.Native.Nat.{ℕ, zero, suc, _+_, _-_, _*_, _/_, _%_, _^_, _<_, _≤_}
 use mathlib.Core.Path.{_≡_, refl}
 use mathlib.Core.Bool.{Bool, true, false}
 use mathlib.Core.List.{List}
 use lib.ListN.{length, getD, set}
+use lib.Dec.{eqb, ltb, leb}
 use native.Mathlib.Numerals.{sub-one}
 use Rattle.cpu.specs.Clocks.{clocksOf, hasClocks, setClocks}
 use Rattle.cpu.specs.declared.Cpu.{Cpu}

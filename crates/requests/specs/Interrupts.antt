@@ -7,7 +7,8 @@ use lib.Signed.{leZ}
 use Rattle.types.specs.Kinds.{pick, either}
 use Rattle.cpu.specs.declared.Flow.{Flow}
 use Rattle.cpu.specs.declared.Cpu.{Cpu}
-use Rattle.cpu.specs.Groups.{withFlow, withIntLevel}
+use Rattle.cpu.specs.Groups.{withFlow}
+use Rattle.cpu.specs.Setters.{flowWithCyclesRemaining, withIntLevel}
 
 -- `set_irq`: the pending level, its low 3 bits
 unfoldable pub setIrq : Cpu → ℕ → Cpu
@@ -46,7 +47,7 @@ lessCycles n more = pick (hasRoom n) (pick more (n -ℤ pos 46) (n -ℤ pos 44))
 
 -- `cycles_remaining` falls by the cycles of an interrupt: 46 on kind 2, else 44
 unfoldable pub charged : Flow → Flow
-charged f = record { ppc = f .ppc; pc = f .pc; vbr = f .vbr; ir = f .ir; fpiar = f .fpiar; «cpu_type» = f .«cpu_type»; «run_mode» = f .«run_mode»; stopped = f .stopped; «exception_processing» = f .«exception_processing»; «change_of_flow» = f .«change_of_flow»; «loop_mode» = f .«loop_mode»; «cycles_remaining» = lessCycles (f .«cycles_remaining») (eqb (f .«cpu_type») 2) }
+charged f = flowWithCyclesRemaining f (lessCycles (f .«cycles_remaining») (eqb (f .«cpu_type») 2))
 
 unfoldable pub chargeInterrupt : Cpu → Cpu
 chargeInterrupt c = withFlow c (charged (c .flow))

@@ -4,7 +4,7 @@ use mathlib.Core.Bool.{Bool, true, false}
 use lib.Dec.{eqb}
 use Rattle.types.specs.Kinds.{pick, isPre68020, is040}
 use Rattle.cpu.specs.declared.Cpu.{Cpu}
-use Rattle.cpu.specs.Groups.{withChangeOfFlow}
+use Rattle.cpu.specs.Setters.{withChangeOfFlow}
 use Rattle.requests.specs.declared.trace.Traced.{Traced}
 
 -- T1 of the status before the instruction, or T0 with a change of flow

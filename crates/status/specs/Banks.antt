@@ -4,7 +4,7 @@ use lib.Dec.{eqb}
 use lib.ListN.{set, getD}
 use Rattle.types.specs.Kinds.{pick, is060}
 use Rattle.cpu.specs.declared.Cpu.{Cpu}
-use Rattle.cpu.specs.Groups.{withDar, withMFlag, withSFlag, withSp}
+use Rattle.cpu.specs.Setters.{withDar, withMFlag, withSFlag, withSp}
 use Rattle.status.specs.Status.{clearTrace}
 
 -- `sp_index`: 0 user, 4 interrupt, 6 master; the 68060 has one supervisor stack. Only the bits of `s_flag` and `m_flag` that

@@ -6,7 +6,8 @@ use lib.ListN.{set}
 use Rattle.types.specs.Kinds.{pick, both, maskStatus}
 use Rattle.cpu.specs.declared.Flags.{Flags}
 use Rattle.cpu.specs.declared.Cpu.{Cpu}
-use Rattle.cpu.specs.Groups.{withCFlag, withFaultResume, withFlags, withIntMask, withMFlag, withNFlag, withNotZFlag, withRunMode, withT0Flag, withT1Flag, withVFlag, withXFlag}
+use Rattle.cpu.specs.Groups.{withFaultResume, withFlags}
+use Rattle.cpu.specs.Setters.{withCFlag, withIntMask, withMFlag, withNFlag, withNotZFlag, withRunMode, withT0Flag, withT1Flag, withVFlag, withXFlag}
 use Rattle.cpu.specs.Fields.{kindOf}
 
 -- `get_sr`: each flag gives the bit that is tested in it; Z is set where `not_z_flag` is 0

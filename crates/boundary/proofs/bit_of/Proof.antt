@@ -7,11 +7,9 @@ use Rattle.boundary.proofs.bit_of.Tie as tie
 use Rattle.boundary.proofs.bit_of.Reads as reads
 use Rattle.boundary.proofs.bit_of.Lts as lts
 
--- src/lib.rt:66:9
 returns : tie.Need-returns
 returns c = simp (c .if1 .taken)
 
--- src/lib.rt:62:1
 returns-2 : tie.Need-returns-2
 returns-2 c = simp (c .if1 .left)
 

@@ -10,40 +10,31 @@ use Rattle.boundary.proofs.performed.Reads as performed-reads
 use Rattle.boundary.proofs.unknown.Reads as unknown-reads
 use Rattle.calls.proofs.perform.Reads as perform-reads
 
--- src/lib.rt:287:24
 enum-known-call : tie.Need-enum-known-call
 enum-known-call c = search needs
 
--- src/lib.rt:287:40
 perform-requires : tie.Need-perform-requires
 perform-requires c κs = search needs
 
--- src/lib.rt:287:30
 performed-requires : tie.Need-performed-requires
 performed-requires c κs = search needs
 
--- src/lib.rt:288:29
 enum-told : tie.Need-enum-told
 enum-told c = search needs
 
--- src/lib.rt:288:29
 unknown-requires : tie.Need-unknown-requires
 unknown-requires c κs = search needs
 
--- src/lib.rt:283:1
 same-length : tie.Need-same-length
 same-length c = c .before .before .before .before .before .perform .kept .1 .0
 
--- src/lib.rt:283:1
 same-length-2 : tie.Need-same-length-2
 same-length-2 c = c .before .before .before .before .before .perform .kept .1 .1 .0
 
--- src/lib.rt:283:1
 returns : tie.Need-returns
 unfolding rawOf
 returns c = performed-way (c .before .before .before .before .before .perform .ensures) (c .performed .ensures) ∙ sym (ap (rawOf _) (c .before .before .before .before .before .before .before .before .before .call .given .1))
 
--- src/lib.rt:283:1
 returns-2 : tie.Need-returns-2
 unfolding rawOf
 returns-2 c = unknown-way (c .unknown .ensures) ∙ sym (ap (rawOf _) (c .before .enum-told .given .1))

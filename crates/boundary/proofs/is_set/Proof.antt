@@ -8,7 +8,6 @@ use Rattle.boundary.proofs.is_set.Tie as tie
 use Rattle.boundary.proofs.is_set.Reads as reads
 use Rattle.boundary.proofs.is_set.Lts as lts
 
--- src/lib.rt:44:1
 returns : tie.Need-returns
 unfolding flag
 returns c = refl

@@ -8,23 +8,18 @@ use Rattle.boundary.proofs.m68k_call.Lts as lts
 use Rattle.boundary.proofs.call_decoded.Reads as call-decoded-reads
 use Rattle.boundary.proofs.decode.Reads as decode-reads
 
--- src/lib.rt:231:9
 decode-requires : tie.Need-decode-requires
 decode-requires c κs = search needs
 
--- src/lib.rt:232:5
 call-decoded-requires : tie.Need-call-decoded-requires
 call-decoded-requires c κs = search needs
 
--- src/lib.rt:227:1
 same-length : tie.Need-same-length
 same-length c = c .before .before .before .before .call-decoded .kept .1 .0
 
--- src/lib.rt:227:1
 same-length-2 : tie.Need-same-length-2
 same-length-2 c = c .before .before .before .before .call-decoded .kept .1 .1 .0
 
--- src/lib.rt:227:1
 returns : tie.Need-returns
 returns c = m68k-call-way _ _ _ _ _ _ _ _ (c .before .before .before .before .before .before .before .decode .ensures) (c .before .before .before .before .call-decoded .ensures)
 

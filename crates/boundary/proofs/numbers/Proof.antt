@@ -9,71 +9,55 @@ use Rattle.boundary.proofs.numbers.Lts as lts
 use Rattle.boundary.proofs.bit_of.Reads as bit-of-reads
 use Rattle.boundary.proofs.raw.Reads as raw-reads
 
--- src/lib.rt:261:24
 enum-known-a : tie.Need-enum-known-a
 enum-known-a c = search needs
 
--- src/lib.rt:261:33
 raw-requires : tie.Need-raw-requires
 raw-requires c κs = search needs
 
--- src/lib.rt:262:22
 enum-known-a-2 : tie.Need-enum-known-a-2
 enum-known-a-2 c = search needs
 
--- src/lib.rt:262:41
 bit-of-requires : tie.Need-bit-of-requires
 bit-of-requires c κs = search needs
 
--- src/lib.rt:262:31
 raw-requires-2 : tie.Need-raw-requires-2
 raw-requires-2 c κs = search needs
 
--- src/lib.rt:263:23
 enum-known-a-3 : tie.Need-enum-known-a-3
 enum-known-a-3 c = search needs
 
--- src/lib.rt:263:32
 raw-requires-3 : tie.Need-raw-requires-3
 raw-requires-3 c κs = search needs
 
--- src/lib.rt:264:22
 enum-known-a-4 : tie.Need-enum-known-a-4
 enum-known-a-4 c = search needs
 
--- src/lib.rt:264:28
 raw-requires-4 : tie.Need-raw-requires-4
 raw-requires-4 c κs = search needs
 
--- src/lib.rt:265:25
 enum-known-a-5 : tie.Need-enum-known-a-5
 enum-known-a-5 c = search needs
 
--- src/lib.rt:265:31
 raw-requires-5 : tie.Need-raw-requires-5
 raw-requires-5 c κs = search needs
 
--- src/lib.rt:257:1
 returns : tie.Need-returns
 unfolding refusedBy valueOf countOf
 returns c = c .raw .ensures ∙ sym (ap (inNumbers _) (c .before .before .a .given .1))
 
--- src/lib.rt:257:1
 returns-2 : tie.Need-returns-2
 unfolding refusedBy valueOf countOf
 returns-2 c = flag-way (c .before .before .before .a2 .given .1) (c .before .bit-of .ensures) (c .raw2 .ensures)
 
--- src/lib.rt:257:1
 returns-3 : tie.Need-returns-3
 unfolding refusedBy valueOf countOf
 returns-3 c = c .raw3 .ensures ∙ sym (ap (inNumbers _) (c .before .before .a3 .given .1))
 
--- src/lib.rt:257:1
 returns-4 : tie.Need-returns-4
 unfolding refusedBy valueOf countOf
 returns-4 c = c .raw4 .ensures ∙ sym (ap (inNumbers _) (c .before .before .a4 .given .1))
 
--- src/lib.rt:257:1
 returns-5 : tie.Need-returns-5
 unfolding refusedBy valueOf countOf
 returns-5 c = c .raw5 .ensures ∙ sym (ap (inNumbers _) (c .before .before .a5 .given .1))

@@ -8,7 +8,6 @@ use Rattle.calls.proofs.begin.Tie as tie
 use Rattle.calls.proofs.begin.Reads as reads
 use Rattle.calls.proofs.begin.Lts as lts
 
--- src/lib.rt:141:1
 returns : tie.Need-returns
 unfolding restarted
 returns c = refl

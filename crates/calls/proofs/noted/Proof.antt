@@ -7,15 +7,12 @@ use Rattle.calls.proofs.noted.Lts as lts
 use Rattle.calls.proofs.done.Reads as done-reads
 use Rattle.memory.proofs.with_cpu.Reads as with-cpu-reads
 
--- src/lib.rt:129:9
 with-cpu-requires : tie.Need-with-cpu-requires
 with-cpu-requires c κs = search needs
 
--- src/lib.rt:130:5
 done-requires : tie.Need-done-requires
 done-requires c κs = search needs
 
--- src/lib.rt:126:1
 returns : tie.Need-returns
 returns c = noted-made _ _ (c .before .with-cpu .ensures) (c .done .ensures)
 

@@ -46,732 +46,557 @@ use Rattle.faults.proofs.write_32.Reads as write-32-reads
 use Rattle.interrupts.proofs.check_and_service_interrupts.Reads as check-and-service-interrupts-reads
 use Rattle.types.proofs.cause_number.Reads as cause-number-reads
 
--- src/lib.rt:156:29
 enum-known-call : tie.Need-enum-known-call
 enum-known-call c = search needs
 
--- src/lib.rt:156:43
 take-exception-requires : tie.Need-take-exception-requires
 take-exception-requires c κs = search needs
 
--- src/lib.rt:156:35
 entered-requires : tie.Need-entered-requires
 entered-requires c κs = search needs
 
--- src/lib.rt:157:20
 enum-known-call-2 : tie.Need-enum-known-call-2
 enum-known-call-2 c = search needs
 
--- src/lib.rt:157:34
 trap-requires : tie.Need-trap-requires
 trap-requires c κs = search needs
 
--- src/lib.rt:157:26
 entered-requires-2 : tie.Need-entered-requires-2
 entered-requires-2 c κs = search needs
 
--- src/lib.rt:158:35
 enum-known-call-3 : tie.Need-enum-known-call-3
 enum-known-call-3 c = search needs
 
--- src/lib.rt:158:49
 take-group2-exception-requires : tie.Need-take-group2-exception-requires
 take-group2-exception-requires c κs = search needs
 
--- src/lib.rt:158:41
 entered-requires-3 : tie.Need-entered-requires-3
 entered-requires-3 c κs = search needs
 
--- src/lib.rt:164:68
 enum-told : tie.Need-enum-told
 enum-told c = search needs
 
--- src/lib.rt:164:39
 exception-chk-requires : tie.Need-exception-chk-requires
 exception-chk-requires c κs = search needs
 
--- src/lib.rt:164:31
 entered-requires-4 : tie.Need-entered-requires-4
 entered-requires-4 c κs = search needs
 
--- src/lib.rt:165:83
 enum-told-2 : tie.Need-enum-told-2
 enum-told-2 c = search needs
 
--- src/lib.rt:165:46
 exception-zero-divide-requires : tie.Need-exception-zero-divide-requires
 exception-zero-divide-requires c κs = search needs
 
--- src/lib.rt:165:38
 entered-requires-5 : tie.Need-entered-requires-5
 entered-requires-5 c κs = search needs
 
--- src/lib.rt:166:80
 enum-told-3 : tie.Need-enum-told-3
 enum-told-3 c = search needs
 
--- src/lib.rt:166:45
 exception-privilege-requires : tie.Need-exception-privilege-requires
 exception-privilege-requires c κs = search needs
 
--- src/lib.rt:166:37
 entered-requires-6 : tie.Need-entered-requires-6
 entered-requires-6 c κs = search needs
 
--- src/lib.rt:167:72
 enum-told-4 : tie.Need-enum-told-4
 enum-told-4 c = search needs
 
--- src/lib.rt:167:41
 exception-trace-requires : tie.Need-exception-trace-requires
 exception-trace-requires c κs = search needs
 
--- src/lib.rt:167:33
 entered-requires-7 : tie.Need-entered-requires-7
 entered-requires-7 c κs = search needs
 
--- src/lib.rt:168:37
 enum-known-call-4 : tie.Need-enum-known-call-4
 enum-known-call-4 c = search needs
 
--- src/lib.rt:168:57
 exception-address-error-requires : tie.Need-exception-address-error-requires
 exception-address-error-requires c κs = search needs
 
--- src/lib.rt:168:49
 charged-requires : tie.Need-charged-requires
 charged-requires c κs = search needs
 
--- src/lib.rt:176:33
 enum-known-call-5 : tie.Need-enum-known-call-5
 enum-known-call-5 c = search needs
 
--- src/lib.rt:184:13
 cause-number-requires : tie.Need-cause-number-requires
 cause-number-requires c κs = search needs
 
--- src/lib.rt:176:63
 exception-bus-error-requires : tie.Need-exception-bus-error-requires
 exception-bus-error-requires c κs = search needs
 
--- src/lib.rt:176:55
 charged-requires-2 : tie.Need-charged-requires-2
 charged-requires-2 c κs = search needs
 
--- src/lib.rt:186:30
 enum-known-call-6 : tie.Need-enum-known-call-6
 enum-known-call-6 c = search needs
 
--- src/lib.rt:186:45
 take-fp-unimp-060-requires : tie.Need-take-fp-unimp-060-requires
 take-fp-unimp-060-requires c κs = search needs
 
--- src/lib.rt:186:37
 entered-requires-8 : tie.Need-entered-requires-8
 entered-requires-8 c κs = search needs
 
--- src/lib.rt:187:80
 enum-told-5 : tie.Need-enum-told-5
 enum-told-5 c = search needs
 
--- src/lib.rt:187:44
 take-fp-disabled-060-requires : tie.Need-take-fp-disabled-060-requires
 take-fp-disabled-060-requires c κs = search needs
 
--- src/lib.rt:187:36
 entered-requires-9 : tie.Need-entered-requires-9
 entered-requires-9 c κs = search needs
 
--- src/lib.rt:188:81
 enum-told-6 : tie.Need-enum-told-6
 enum-told-6 c = search needs
 
--- src/lib.rt:188:45
 take-aline-exception-requires : tie.Need-take-aline-exception-requires
 take-aline-exception-requires c κs = search needs
 
--- src/lib.rt:188:37
 entered-requires-10 : tie.Need-entered-requires-10
 entered-requires-10 c κs = search needs
 
--- src/lib.rt:189:81
 enum-told-7 : tie.Need-enum-told-7
 enum-told-7 c = search needs
 
--- src/lib.rt:189:45
 take-fline-exception-requires : tie.Need-take-fline-exception-requires
 take-fline-exception-requires c κs = search needs
 
--- src/lib.rt:189:37
 entered-requires-11 : tie.Need-entered-requires-11
 entered-requires-11 c κs = search needs
 
--- src/lib.rt:190:33
 enum-known-call-7 : tie.Need-enum-known-call-7
 enum-known-call-7 c = search needs
 
--- src/lib.rt:190:47
 take-trap-exception-requires : tie.Need-take-trap-exception-requires
 take-trap-exception-requires c κs = search needs
 
--- src/lib.rt:190:39
 entered-requires-12 : tie.Need-entered-requires-12
 entered-requires-12 c κs = search needs
 
--- src/lib.rt:191:79
 enum-told-8 : tie.Need-enum-told-8
 enum-told-8 c = search needs
 
--- src/lib.rt:191:44
 take-bkpt-exception-requires : tie.Need-take-bkpt-exception-requires
 take-bkpt-exception-requires c κs = search needs
 
--- src/lib.rt:191:36
 entered-requires-13 : tie.Need-entered-requires-13
 entered-requires-13 c κs = search needs
 
--- src/lib.rt:192:85
 enum-told-9 : tie.Need-enum-told-9
 enum-told-9 c = search needs
 
--- src/lib.rt:192:47
 take-illegal-exception-requires : tie.Need-take-illegal-exception-requires
 take-illegal-exception-requires c κs = search needs
 
--- src/lib.rt:192:39
 entered-requires-14 : tie.Need-entered-requires-14
 entered-requires-14 c κs = search needs
 
--- src/lib.rt:193:35
 enum-known-call-8 : tie.Need-enum-known-call-8
 enum-known-call-8 c = search needs
 
--- src/lib.rt:193:52
 trigger-address-error-requires : tie.Need-trigger-address-error-requires
 trigger-address-error-requires c κs = search needs
 
--- src/lib.rt:193:47
 done-requires : tie.Need-done-requires
 done-requires c κs = search needs
 
--- src/lib.rt:201:31
 enum-known-call-9 : tie.Need-enum-known-call-9
 enum-known-call-9 c = search needs
 
--- src/lib.rt:201:51
 trigger-bus-error-requires : tie.Need-trigger-bus-error-requires
 trigger-bus-error-requires c κs = search needs
 
--- src/lib.rt:201:46
 done-requires-2 : tie.Need-done-requires-2
 done-requires-2 c κs = search needs
 
--- src/lib.rt:210:39
 enum-told-10 : tie.Need-enum-told-10
 enum-told-10 c = search needs
 
--- src/lib.rt:210:39
 check-trace-requires : tie.Need-check-trace-requires
 check-trace-requires c κs = search needs
 
--- src/lib.rt:210:29
 traced-requires : tie.Need-traced-requires
 traced-requires c κs = search needs
 
--- src/lib.rt:211:22
 enum-known-call-10 : tie.Need-enum-known-call-10
 enum-known-call-10 c = search needs
 
--- src/lib.rt:211:37
 set-irq-requires : tie.Need-set-irq-requires
 set-irq-requires c κs = search needs
 
--- src/lib.rt:211:28
 noted-requires : tie.Need-noted-requires
 noted-requires c κs = search needs
 
--- src/lib.rt:212:45
 enum-told-11 : tie.Need-enum-told-11
 enum-told-11 c = search needs
 
--- src/lib.rt:212:45
 check-interrupts-requires : tie.Need-check-interrupts-requires
 check-interrupts-requires c κs = search needs
 
--- src/lib.rt:212:34
 flagged-requires : tie.Need-flagged-requires
 flagged-requires c κs = search needs
 
--- src/lib.rt:215:13
 enum-told-12 : tie.Need-enum-told-12
 enum-told-12 c = search needs
 
--- src/lib.rt:213:53
 check-and-service-interrupts-requires : tie.Need-check-and-service-interrupts-requires
 check-and-service-interrupts-requires c κs = search needs
 
--- src/lib.rt:213:44
 serviced-requires : tie.Need-serviced-requires
 serviced-requires c κs = search needs
 
--- src/lib.rt:218:22
 enum-known-call-11 : tie.Need-enum-known-call-11
 enum-known-call-11 c = search needs
 
--- src/lib.rt:218:33
 read-16-requires : tie.Need-read-16-requires
 read-16-requires c κs = search needs
 
--- src/lib.rt:218:28
 read-requires : tie.Need-read-requires
 read-requires c κs = search needs
 
--- src/lib.rt:219:22
 enum-known-call-12 : tie.Need-enum-known-call-12
 enum-known-call-12 c = search needs
 
--- src/lib.rt:219:33
 read-32-requires : tie.Need-read-32-requires
 read-32-requires c κs = search needs
 
--- src/lib.rt:219:28
 read-requires-2 : tie.Need-read-requires-2
 read-requires-2 c κs = search needs
 
--- src/lib.rt:220:23
 enum-known-call-13 : tie.Need-enum-known-call-13
 enum-known-call-13 c = search needs
 
--- src/lib.rt:220:37
 write-16-requires : tie.Need-write-16-requires
 write-16-requires c κs = search needs
 
--- src/lib.rt:220:32
 done-requires-3 : tie.Need-done-requires-3
 done-requires-3 c κs = search needs
 
--- src/lib.rt:221:23
 enum-known-call-14 : tie.Need-enum-known-call-14
 enum-known-call-14 c = search needs
 
--- src/lib.rt:221:37
 write-32-requires : tie.Need-write-32-requires
 write-32-requires c κs = search needs
 
--- src/lib.rt:221:32
 done-requires-4 : tie.Need-done-requires-4
 done-requires-4 c κs = search needs
 
--- src/lib.rt:222:22
 enum-known-call-15 : tie.Need-enum-known-call-15
 enum-known-call-15 c = search needs
 
--- src/lib.rt:222:33
 push-16-requires : tie.Need-push-16-requires
 push-16-requires c κs = search needs
 
--- src/lib.rt:222:28
 done-requires-5 : tie.Need-done-requires-5
 done-requires-5 c κs = search needs
 
--- src/lib.rt:223:22
 enum-known-call-16 : tie.Need-enum-known-call-16
 enum-known-call-16 c = search needs
 
--- src/lib.rt:223:33
 push-32-requires : tie.Need-push-32-requires
 push-32-requires c κs = search needs
 
--- src/lib.rt:223:28
 done-requires-6 : tie.Need-done-requires-6
 done-requires-6 c κs = search needs
 
--- src/lib.rt:224:63
 enum-told-13 : tie.Need-enum-told-13
 enum-told-13 c = search needs
 
--- src/lib.rt:224:37
 prefetch-first-requires : tie.Need-prefetch-first-requires
 prefetch-first-requires c κs = search needs
 
--- src/lib.rt:224:32
 done-requires-7 : tie.Need-done-requires-7
 done-requires-7 c κs = search needs
 
--- src/lib.rt:225:65
 enum-told-14 : tie.Need-enum-told-14
 enum-told-14 c = search needs
 
--- src/lib.rt:225:38
 prefetch-second-requires : tie.Need-prefetch-second-requires
 prefetch-second-requires c κs = search needs
 
--- src/lib.rt:225:33
 done-requires-8 : tie.Need-done-requires-8
 done-requires-8 c κs = search needs
 
--- src/lib.rt:152:1
 same-length : tie.Need-same-length
 same-length c = c .before .before .before .before .before .take-exception .kept .1 .0
 
--- src/lib.rt:152:1
 same-length-2 : tie.Need-same-length-2
 same-length-2 c = c .before .before .before .before .before .take-exception .kept .1 .1 .0
 
--- src/lib.rt:152:1
 returns : tie.Need-returns
 unfolding run
 returns c = entered-way (c .before .before .before .before .before .take-exception .ensures) (c .entered .ensures) ∙ sym (ap (run _) (c .before .before .before .before .before .before .before .before .before .call .given .1))
 
--- src/lib.rt:152:1
 same-length-3 : tie.Need-same-length-3
 same-length-3 c = c .before .before .before .before .before .trap .kept .1 .0
 
--- src/lib.rt:152:1
 same-length-4 : tie.Need-same-length-4
 same-length-4 c = c .before .before .before .before .before .trap .kept .1 .1 .0
 
--- src/lib.rt:152:1
 returns-2 : tie.Need-returns-2
 unfolding run
 returns-2 c = entered-way (c .before .before .before .before .before .trap .ensures) (c .entered2 .ensures) ∙ sym (ap (run _) (c .before .before .before .before .before .before .before .before .before .call2 .given .1))
 
--- src/lib.rt:152:1
 same-length-5 : tie.Need-same-length-5
 same-length-5 c = c .before .before .before .before .before .take-group2-exception .kept .1 .0
 
--- src/lib.rt:152:1
 same-length-6 : tie.Need-same-length-6
 same-length-6 c = c .before .before .before .before .before .take-group2-exception .kept .1 .1 .0
 
--- src/lib.rt:152:1
 returns-3 : tie.Need-returns-3
 unfolding run
 returns-3 c = entered-way (c .before .before .before .before .before .take-group2-exception .ensures) (c .entered3 .ensures) ∙ sym (ap (run _) (c .before .before .before .before .before .before .before .before .before .call3 .given .1))
 
--- src/lib.rt:152:1
 same-length-7 : tie.Need-same-length-7
 same-length-7 c = c .before .before .before .before .before .exception-chk .kept .1 .0
 
--- src/lib.rt:152:1
 same-length-8 : tie.Need-same-length-8
 same-length-8 c = c .before .before .before .before .before .exception-chk .kept .1 .1 .0
 
--- src/lib.rt:152:1
 returns-4 : tie.Need-returns-4
 unfolding run
 returns-4 c = entered-way (c .before .before .before .before .before .exception-chk .ensures) (c .entered4 .ensures) ∙ sym (ap (run _) (c .before .before .before .before .before .before .before .before .enum-told .given .1))
 
--- src/lib.rt:152:1
 same-length-9 : tie.Need-same-length-9
 same-length-9 c = c .before .before .before .before .before .exception-zero-divide .kept .1 .0
 
--- src/lib.rt:152:1
 same-length-10 : tie.Need-same-length-10
 same-length-10 c = c .before .before .before .before .before .exception-zero-divide .kept .1 .1 .0
 
--- src/lib.rt:152:1
 returns-5 : tie.Need-returns-5
 unfolding run
 returns-5 c = entered-way (c .before .before .before .before .before .exception-zero-divide .ensures) (c .entered5 .ensures) ∙ sym (ap (run _) (c .before .before .before .before .before .before .before .before .enum-told2 .given .1))
 
--- src/lib.rt:152:1
 same-length-11 : tie.Need-same-length-11
 same-length-11 c = c .before .before .before .before .before .exception-privilege .kept .1 .0
 
--- src/lib.rt:152:1
 same-length-12 : tie.Need-same-length-12
 same-length-12 c = c .before .before .before .before .before .exception-privilege .kept .1 .1 .0
 
--- src/lib.rt:152:1
 returns-6 : tie.Need-returns-6
 unfolding run
 returns-6 c = entered-way (c .before .before .before .before .before .exception-privilege .ensures) (c .entered6 .ensures) ∙ sym (ap (run _) (c .before .before .before .before .before .before .before .before .enum-told3 .given .1))
 
--- src/lib.rt:152:1
 same-length-13 : tie.Need-same-length-13
 same-length-13 c = c .before .before .before .before .before .exception-trace .kept .1 .0
 
--- src/lib.rt:152:1
 same-length-14 : tie.Need-same-length-14
 same-length-14 c = c .before .before .before .before .before .exception-trace .kept .1 .1 .0
 
--- src/lib.rt:152:1
 returns-7 : tie.Need-returns-7
 unfolding run
 returns-7 c = entered-way (c .before .before .before .before .before .exception-trace .ensures) (c .entered7 .ensures) ∙ sym (ap (run _) (c .before .before .before .before .before .before .before .before .enum-told4 .given .1))
 
--- src/lib.rt:152:1
 same-length-15 : tie.Need-same-length-15
 same-length-15 c = c .before .before .before .before .before .exception-address-error .kept .1 .0
 
--- src/lib.rt:152:1
 same-length-16 : tie.Need-same-length-16
 same-length-16 c = c .before .before .before .before .before .exception-address-error .kept .1 .1 .0
 
--- src/lib.rt:152:1
 returns-8 : tie.Need-returns-8
 unfolding run
 returns-8 c = charged-way (c .before .before .before .before .before .exception-address-error .ensures) (c .charged .ensures) ∙ sym (ap (run _) (c .before .before .before .before .before .before .before .before .before .call4 .given .1))
 
--- src/lib.rt:152:1
 same-length-17 : tie.Need-same-length-17
 same-length-17 c = c .before .before .before .before .before .exception-bus-error .kept .1 .0
 
--- src/lib.rt:152:1
 same-length-18 : tie.Need-same-length-18
 same-length-18 c = c .before .before .before .before .before .exception-bus-error .kept .1 .1 .0
 
--- src/lib.rt:152:1
 returns-9 : tie.Need-returns-9
 unfolding run
 returns-9 c = charged-cause-number-way _ _ _ _ _ (c .before .before .before .before .before .before .cause-number .ensures) (c .before .before .before .before .before .exception-bus-error .ensures) (c .charged2 .ensures) ∙ sym (ap (run _) (c .before .before .before .before .before .before .before .before .before .before .call5 .given .1))
 
--- src/lib.rt:152:1
 same-length-19 : tie.Need-same-length-19
 same-length-19 c = c .before .before .before .before .before .take-fp-unimp-060 .kept .1 .0
 
--- src/lib.rt:152:1
 same-length-20 : tie.Need-same-length-20
 same-length-20 c = c .before .before .before .before .before .take-fp-unimp-060 .kept .1 .1 .0
 
--- src/lib.rt:152:1
 returns-10 : tie.Need-returns-10
 unfolding run
 returns-10 c = entered-way (c .before .before .before .before .before .take-fp-unimp-060 .ensures) (c .entered8 .ensures) ∙ sym (ap (run _) (c .before .before .before .before .before .before .before .before .before .call6 .given .1))
 
--- src/lib.rt:152:1
 same-length-21 : tie.Need-same-length-21
 same-length-21 c = c .before .before .before .before .before .take-fp-disabled-060 .kept .1 .0
 
--- src/lib.rt:152:1
 same-length-22 : tie.Need-same-length-22
 same-length-22 c = c .before .before .before .before .before .take-fp-disabled-060 .kept .1 .1 .0
 
--- src/lib.rt:152:1
 returns-11 : tie.Need-returns-11
 unfolding run
 returns-11 c = entered-way (c .before .before .before .before .before .take-fp-disabled-060 .ensures) (c .entered9 .ensures) ∙ sym (ap (run _) (c .before .before .before .before .before .before .before .before .enum-told5 .given .1))
 
--- src/lib.rt:152:1
 same-length-23 : tie.Need-same-length-23
 same-length-23 c = c .before .before .before .before .before .take-aline-exception .kept .1 .0
 
--- src/lib.rt:152:1
 same-length-24 : tie.Need-same-length-24
 same-length-24 c = c .before .before .before .before .before .take-aline-exception .kept .1 .1 .0
 
--- src/lib.rt:152:1
 returns-12 : tie.Need-returns-12
 unfolding run
 returns-12 c = entered-way (c .before .before .before .before .before .take-aline-exception .ensures) (c .entered10 .ensures) ∙ sym (ap (run _) (c .before .before .before .before .before .before .before .before .enum-told6 .given .1))
 
--- src/lib.rt:152:1
 same-length-25 : tie.Need-same-length-25
 same-length-25 c = c .before .before .before .before .before .take-fline-exception .kept .1 .0
 
--- src/lib.rt:152:1
 same-length-26 : tie.Need-same-length-26
 same-length-26 c = c .before .before .before .before .before .take-fline-exception .kept .1 .1 .0
 
--- src/lib.rt:152:1
 returns-13 : tie.Need-returns-13
 unfolding run
 returns-13 c = entered-way (c .before .before .before .before .before .take-fline-exception .ensures) (c .entered11 .ensures) ∙ sym (ap (run _) (c .before .before .before .before .before .before .before .before .enum-told7 .given .1))
 
--- src/lib.rt:152:1
 same-length-27 : tie.Need-same-length-27
 same-length-27 c = c .before .before .before .before .before .take-trap-exception .kept .1 .0
 
--- src/lib.rt:152:1
 same-length-28 : tie.Need-same-length-28
 same-length-28 c = c .before .before .before .before .before .take-trap-exception .kept .1 .1 .0
 
--- src/lib.rt:152:1
 returns-14 : tie.Need-returns-14
 unfolding run
 returns-14 c = entered-way (c .before .before .before .before .before .take-trap-exception .ensures) (c .entered12 .ensures) ∙ sym (ap (run _) (c .before .before .before .before .before .before .before .before .before .call7 .given .1))
 
--- src/lib.rt:152:1
 same-length-29 : tie.Need-same-length-29
 same-length-29 c = c .before .before .before .before .before .take-bkpt-exception .kept .1 .0
 
--- src/lib.rt:152:1
 same-length-30 : tie.Need-same-length-30
 same-length-30 c = c .before .before .before .before .before .take-bkpt-exception .kept .1 .1 .0
 
--- src/lib.rt:152:1
 returns-15 : tie.Need-returns-15
 unfolding run
 returns-15 c = entered-way (c .before .before .before .before .before .take-bkpt-exception .ensures) (c .entered13 .ensures) ∙ sym (ap (run _) (c .before .before .before .before .before .before .before .before .enum-told8 .given .1))
 
--- src/lib.rt:152:1
 same-length-31 : tie.Need-same-length-31
 same-length-31 c = c .before .before .before .before .before .take-illegal-exception .kept .1 .0
 
--- src/lib.rt:152:1
 same-length-32 : tie.Need-same-length-32
 same-length-32 c = c .before .before .before .before .before .take-illegal-exception .kept .1 .1 .0
 
--- src/lib.rt:152:1
 returns-16 : tie.Need-returns-16
 unfolding run
 returns-16 c = entered-way (c .before .before .before .before .before .take-illegal-exception .ensures) (c .entered14 .ensures) ∙ sym (ap (run _) (c .before .before .before .before .before .before .before .before .enum-told9 .given .1))
 
--- src/lib.rt:152:1
 same-length-33 : tie.Need-same-length-33
 same-length-33 c = c .before .before .before .before .before .trigger-address-error .kept .1 .0
 
--- src/lib.rt:152:1
 same-length-34 : tie.Need-same-length-34
 same-length-34 c = c .before .before .before .before .before .trigger-address-error .kept .1 .1 .0
 
--- src/lib.rt:152:1
 returns-17 : tie.Need-returns-17
 unfolding run
 returns-17 c = done-way (c .before .before .before .before .before .trigger-address-error .ensures) (c .done .ensures) ∙ sym (ap (run _) (c .before .before .before .before .before .before .before .before .before .call8 .given .1))
 
--- src/lib.rt:152:1
 same-length-35 : tie.Need-same-length-35
 same-length-35 c = c .before .before .before .before .before .trigger-bus-error .kept .1 .0
 
--- src/lib.rt:152:1
 same-length-36 : tie.Need-same-length-36
 same-length-36 c = c .before .before .before .before .before .trigger-bus-error .kept .1 .1 .0
 
--- src/lib.rt:152:1
 returns-18 : tie.Need-returns-18
 unfolding run
 returns-18 c = done-way (c .before .before .before .before .before .trigger-bus-error .ensures) (c .done2 .ensures) ∙ sym (ap (run _) (c .before .before .before .before .before .before .before .before .before .call9 .given .1))
 
--- src/lib.rt:152:1
 returns-19 : tie.Need-returns-19
 unfolding run
 returns-19 c = traced-way _ (c .before .check-trace .ensures) (c .traced .ensures) ∙ sym (ap (run _) (c .before .before .enum-told10 .given .1))
 
--- src/lib.rt:152:1
 returns-20 : tie.Need-returns-20
 unfolding run
 returns-20 c = noted-way _ (c .before .set-irq .ensures) (c .noted .ensures) ∙ sym (ap (run _) (c .before .before .before .call10 .given .1))
 
--- src/lib.rt:152:1
 returns-21 : tie.Need-returns-21
 unfolding run
 returns-21 c = flagged-way (c .before .check-interrupts .ensures) (c .flagged .ensures) ∙ sym (ap (run _) (c .before .before .enum-told11 .given .1))
 
--- src/lib.rt:152:1
 same-length-37 : tie.Need-same-length-37
 same-length-37 c = c .before .before .before .before .before .check-and-service-interrupts .kept .1 .0
 
--- src/lib.rt:152:1
 same-length-38 : tie.Need-same-length-38
 same-length-38 c = c .before .before .before .before .before .check-and-service-interrupts .kept .1 .1 .0
 
--- src/lib.rt:152:1
 returns-22 : tie.Need-returns-22
 unfolding run
 returns-22 c = serviced-way (c .before .before .before .before .before .check-and-service-interrupts .ensures) (c .serviced .ensures) ∙ sym (ap (run _) (c .before .before .before .before .before .before .before .before .enum-told12 .given .1))
 
--- src/lib.rt:152:1
 same-length-39 : tie.Need-same-length-39
 same-length-39 c = c .before .before .before .before .before .read-16 .kept .1 .0
 
--- src/lib.rt:152:1
 same-length-40 : tie.Need-same-length-40
 same-length-40 c = c .before .before .before .before .before .read-16 .kept .1 .1 .0
 
--- src/lib.rt:152:1
 returns-23 : tie.Need-returns-23
 unfolding run
 returns-23 c = read-way (c .before .before .before .before .before .read-16 .ensures) (c .read .ensures) ∙ sym (ap (run _) (c .before .before .before .before .before .before .before .before .before .call11 .given .1))
 
--- src/lib.rt:152:1
 same-length-41 : tie.Need-same-length-41
 same-length-41 c = c .before .before .before .before .before .read-32 .kept .1 .0
 
--- src/lib.rt:152:1
 same-length-42 : tie.Need-same-length-42
 same-length-42 c = c .before .before .before .before .before .read-32 .kept .1 .1 .0
 
--- src/lib.rt:152:1
 returns-24 : tie.Need-returns-24
 unfolding run
 returns-24 c = read-way (c .before .before .before .before .before .read-32 .ensures) (c .read2 .ensures) ∙ sym (ap (run _) (c .before .before .before .before .before .before .before .before .before .call12 .given .1))
 
--- src/lib.rt:152:1
 same-length-43 : tie.Need-same-length-43
 same-length-43 c = c .before .before .before .before .before .write-16 .kept .1 .0
 
--- src/lib.rt:152:1
 same-length-44 : tie.Need-same-length-44
 same-length-44 c = c .before .before .before .before .before .write-16 .kept .1 .1 .0
 
--- src/lib.rt:152:1
 returns-25 : tie.Need-returns-25
 unfolding run
 returns-25 c = done-way (c .before .before .before .before .before .write-16 .ensures) (c .done3 .ensures) ∙ sym (ap (run _) (c .before .before .before .before .before .before .before .before .before .call13 .given .1))
 
--- src/lib.rt:152:1
 same-length-45 : tie.Need-same-length-45
 same-length-45 c = c .before .before .before .before .before .write-32 .kept .1 .0
 
--- src/lib.rt:152:1
 same-length-46 : tie.Need-same-length-46
 same-length-46 c = c .before .before .before .before .before .write-32 .kept .1 .1 .0
 
--- src/lib.rt:152:1
 returns-26 : tie.Need-returns-26
 unfolding run
 returns-26 c = done-way (c .before .before .before .before .before .write-32 .ensures) (c .done4 .ensures) ∙ sym (ap (run _) (c .before .before .before .before .before .before .before .before .before .call14 .given .1))
 
--- src/lib.rt:152:1
 same-length-47 : tie.Need-same-length-47
 same-length-47 c = c .before .before .before .before .before .push-16 .kept .1 .0
 
--- src/lib.rt:152:1
 same-length-48 : tie.Need-same-length-48
 same-length-48 c = c .before .before .before .before .before .push-16 .kept .1 .1 .0
 
--- src/lib.rt:152:1
 returns-27 : tie.Need-returns-27
 unfolding run
 returns-27 c = done-way (c .before .before .before .before .before .push-16 .ensures) (c .done5 .ensures) ∙ sym (ap (run _) (c .before .before .before .before .before .before .before .before .before .call15 .given .1))
 
--- src/lib.rt:152:1
 same-length-49 : tie.Need-same-length-49
 same-length-49 c = c .before .before .before .before .before .push-32 .kept .1 .0
 
--- src/lib.rt:152:1
 same-length-50 : tie.Need-same-length-50
 same-length-50 c = c .before .before .before .before .before .push-32 .kept .1 .1 .0
 
--- src/lib.rt:152:1
 returns-28 : tie.Need-returns-28
 unfolding run
 returns-28 c = done-way (c .before .before .before .before .before .push-32 .ensures) (c .done6 .ensures) ∙ sym (ap (run _) (c .before .before .before .before .before .before .before .before .before .call16 .given .1))
 
--- src/lib.rt:152:1
 same-length-51 : tie.Need-same-length-51
 same-length-51 c = c .before .before .before .before .before .prefetch-first .kept .1 .0
 
--- src/lib.rt:152:1
 same-length-52 : tie.Need-same-length-52
 same-length-52 c = c .before .before .before .before .before .prefetch-first .kept .1 .1 .0
 
--- src/lib.rt:152:1
 returns-29 : tie.Need-returns-29
 unfolding run
 returns-29 c = done-way (c .before .before .before .before .before .prefetch-first .ensures) (c .done7 .ensures) ∙ sym (ap (run _) (c .before .before .before .before .before .before .before .before .enum-told13 .given .1))
 
--- src/lib.rt:152:1
 same-length-53 : tie.Need-same-length-53
 same-length-53 c = c .before .before .before .before .before .prefetch-second .kept .1 .0
 
--- src/lib.rt:152:1
 same-length-54 : tie.Need-same-length-54
 same-length-54 c = c .before .before .before .before .before .prefetch-second .kept .1 .1 .0
 
--- src/lib.rt:152:1
 returns-30 : tie.Need-returns-30
 unfolding run
 returns-30 c = done-way (c .before .before .before .before .before .prefetch-second .ensures) (c .done8 .ensures) ∙ sym (ap (run _) (c .before .before .before .before .before .before .before .before .enum-told14 .given .1))

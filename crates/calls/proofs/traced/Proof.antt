@@ -7,15 +7,12 @@ use Rattle.calls.proofs.traced.Lts as lts
 use Rattle.calls.proofs.flagged.Reads as flagged-reads
 use Rattle.memory.proofs.with_cpu.Reads as with-cpu-reads
 
--- src/lib.rt:122:9
 with-cpu-requires : tie.Need-with-cpu-requires
 with-cpu-requires c κs = search needs
 
--- src/lib.rt:123:5
 flagged-requires : tie.Need-flagged-requires
 flagged-requires c κs = search needs
 
--- src/lib.rt:118:1
 returns : tie.Need-returns
 returns c = traced-made _ _ _ (c .before .with-cpu .ensures) (c .flagged .ensures)
 

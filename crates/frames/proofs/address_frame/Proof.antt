@@ -20,75 +20,57 @@ use Rattle.frames.proofs.status_of.Reads as status-of-reads
 use Rattle.types.proofs.is_040.Reads as is-040-reads
 use Rattle.types.proofs.is_pre_68020.Reads as is-pre-68020-reads
 
--- src/lib.rt:621:9
 kind-requires : tie.Need-kind-requires
 kind-requires c κs = search needs
 
--- src/lib.rt:622:9
 status-of-requires : tie.Need-status-of-requires
 status-of-requires c κs = search needs
 
--- src/lib.rt:623:9
 ppc-requires : tie.Need-ppc-requires
 ppc-requires c κs = search needs
 
--- src/lib.rt:624:8
 is-68000-requires : tie.Need-is-68000-requires
 is-68000-requires c κs = search needs
 
--- src/lib.rt:625:13
 state-code-requires : tie.Need-state-code-requires
 state-code-requires c κs = search needs
 
--- src/lib.rt:626:13
 status-word-requires : tie.Need-status-word-requires
 status-word-requires c κs = search needs
 
--- src/lib.rt:627:13
 ir-word-requires : tie.Need-ir-word-requires
 ir-word-requires c κs = search needs
 
--- src/lib.rt:628:9
 frame-68000-requires : tie.Need-frame-68000-requires
 frame-68000-requires c κs = search needs
 
--- src/lib.rt:628:9
 returns : tie.Need-returns
 returns c = address-frame-way _ _ _ _ _ _ _ _ _ _ _ _ (c .before .before .before .before .before .before .before .before .kind .ensures) (c .before .before .before .before .before .before .before .status-of .ensures) (c .before .before .before .before .before .before .ppc .ensures) (c .before .before .before .before .before .is-68000 .ensures) (c .before .before .before .before .if1 .taken) (c .before .before .before .state-code .ensures .0) (c .before .before .status-word .ensures) (c .before .ir-word .ensures) (c .frame-68000 .ensures)
 
--- src/lib.rt:630:8
 is-pre-68020-requires : tie.Need-is-pre-68020-requires
 is-pre-68020-requires c κs = search needs
 
--- src/lib.rt:631:9
 frame-8-requires : tie.Need-frame-8-requires
 frame-8-requires c κs = search needs
 
--- src/lib.rt:631:9
 returns-2 : tie.Need-returns-2
 returns-2 c = address-frame-way-2 _ _ _ _ _ _ _ _ _ _ (c .before .before .before .before .before .before .before .kind .ensures) (c .before .before .before .before .before .before .status-of .ensures) (c .before .before .before .before .before .ppc .ensures) (c .before .before .before .before .is-68000 .ensures) (c .before .before .before .if1 .left) (c .before .before .is-pre-68020 .ensures) (c .before .if2 .taken) (c .frame-8 .ensures)
 
--- src/lib.rt:633:8
 is-040-requires : tie.Need-is-040-requires
 is-040-requires c κs = search needs
 
--- src/lib.rt:634:13
 even-requires : tie.Need-even-requires
 even-requires c κs = search needs
 
--- src/lib.rt:635:9
 frame-2-requires : tie.Need-frame-2-requires
 frame-2-requires c κs = search needs
 
--- src/lib.rt:635:9
 returns-3 : tie.Need-returns-3
 returns-3 c = address-frame-way-3 _ _ _ _ _ _ _ _ _ _ _ _ (c .before .before .before .before .before .before .before .before .before .before .kind .ensures) (c .before .before .before .before .before .before .before .before .before .status-of .ensures) (c .before .before .before .before .before .before .before .before .ppc .ensures) (c .before .before .before .before .before .before .before .is-68000 .ensures) (c .before .before .before .before .before .before .if1 .left) (c .before .before .before .before .before .is-pre-68020 .ensures) (c .before .before .before .before .if2 .left) (c .before .before .before .is-040 .ensures) (c .before .before .if3 .taken) (c .before .even .ensures) (c .frame-2 .ensures)
 
--- src/lib.rt:637:5
 frame-0-requires : tie.Need-frame-0-requires
 frame-0-requires c κs = search needs
 
--- src/lib.rt:618:1
 returns-4 : tie.Need-returns-4
 returns-4 c = address-frame-way-4 _ _ _ _ _ _ _ _ _ _ _ (c .before .before .before .before .before .before .before .before .before .kind .ensures) (c .before .before .before .before .before .before .before .before .status-of .ensures) (c .before .before .before .before .before .before .before .ppc .ensures) (c .before .before .before .before .before .before .is-68000 .ensures) (c .before .before .before .before .before .if1 .left) (c .before .before .before .before .is-pre-68020 .ensures) (c .before .before .before .if2 .left) (c .before .before .is-040 .ensures) (c .before .if3 .left) (c .frame-0 .ensures)
 

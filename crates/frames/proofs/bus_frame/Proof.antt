@@ -27,115 +27,87 @@ use Rattle.types.proofs.is_040.Reads as is-040-reads
 use Rattle.types.proofs.is_060.Reads as is-060-reads
 use Rattle.types.proofs.is_pre_68020.Reads as is-pre-68020-reads
 
--- src/lib.rt:651:9
 kind-requires : tie.Need-kind-requires
 kind-requires c κs = search needs
 
--- src/lib.rt:652:9
 status-of-requires : tie.Need-status-of-requires
 status-of-requires c κs = search needs
 
--- src/lib.rt:653:9
 ppc-requires : tie.Need-ppc-requires
 ppc-requires c κs = search needs
 
--- src/lib.rt:654:9
 fault-code-requires : tie.Need-fault-code-requires
 fault-code-requires c κs = search needs
 
--- src/lib.rt:655:8
 is-68000-requires : tie.Need-is-68000-requires
 is-68000-requires c κs = search needs
 
--- src/lib.rt:656:13
 status-word-requires : tie.Need-status-word-requires
 status-word-requires c κs = search needs
 
--- src/lib.rt:657:13
 ir-word-requires : tie.Need-ir-word-requires
 ir-word-requires c κs = search needs
 
--- src/lib.rt:658:9
 frame-68000-requires : tie.Need-frame-68000-requires
 frame-68000-requires c κs = search needs
 
--- src/lib.rt:658:9
 returns : tie.Need-returns
 returns c = bus-frame-way _ _ _ _ _ _ _ _ _ _ _ _ _ _ (c .before .before .before .before .before .before .before .before .kind .ensures) (c .before .before .before .before .before .before .before .status-of .ensures) (c .before .before .before .before .before .before .ppc .ensures) (c .before .before .before .before .before .fault-code .ensures .0) (c .before .before .before .before .is-68000 .ensures) (c .before .before .before .if1 .taken) (c .before .before .status-word .ensures) (c .before .ir-word .ensures) (c .frame-68000 .ensures)
 
--- src/lib.rt:660:8
 is-pre-68020-requires : tie.Need-is-pre-68020-requires
 is-pre-68020-requires c κs = search needs
 
--- src/lib.rt:661:9
 frame-8-requires : tie.Need-frame-8-requires
 frame-8-requires c κs = search needs
 
--- src/lib.rt:661:9
 returns-2 : tie.Need-returns-2
 returns-2 c = bus-frame-way-2 _ _ _ _ _ _ _ _ _ _ _ _ _ (c .before .before .before .before .before .before .before .before .kind .ensures) (c .before .before .before .before .before .before .before .status-of .ensures) (c .before .before .before .before .before .before .ppc .ensures) (c .before .before .before .before .before .fault-code .ensures .0) (c .before .before .before .before .is-68000 .ensures) (c .before .before .before .if1 .left) (c .before .before .is-pre-68020 .ensures) (c .before .if2 .taken) (c .frame-8 .ensures)
 
--- src/lib.rt:663:8
 is-060-requires : tie.Need-is-060-requires
 is-060-requires c κs = search needs
 
--- src/lib.rt:664:13
 fslw-060-requires : tie.Need-fslw-060-requires
 fslw-060-requires c κs = search needs
 
--- src/lib.rt:665:9
 frame-4-requires : tie.Need-frame-4-requires
 frame-4-requires c κs = search needs
 
--- src/lib.rt:665:9
 returns-3 : tie.Need-returns-3
 returns-3 c = bus-frame-way-3 _ _ _ _ _ _ _ _ _ _ _ _ _ _ _ (c .before .before .before .before .before .before .before .before .before .before .before .kind .ensures) (c .before .before .before .before .before .before .before .before .before .before .status-of .ensures) (c .before .before .before .before .before .before .before .before .before .ppc .ensures) (c .before .before .before .before .before .before .before .before .fault-code .ensures .0) (c .before .before .before .before .before .before .before .is-68000 .ensures) (c .before .before .before .before .before .before .if1 .left) (c .before .before .before .before .before .is-pre-68020 .ensures) (c .before .before .before .before .if2 .left) (c .before .before .before .is-060 .ensures) (c .before .before .if3 .taken) (c .before .fslw-060 .ensures) (c .frame-4 .ensures)
 
--- src/lib.rt:667:9
 write-data-requires : tie.Need-write-data-requires
 write-data-requires c κs = search needs
 
--- src/lib.rt:668:8
 is-040-requires : tie.Need-is-040-requires
 is-040-requires c κs = search needs
 
--- src/lib.rt:669:13
 ssw-040-requires : tie.Need-ssw-040-requires
 ssw-040-requires c κs = search needs
 
--- src/lib.rt:670:13
 wb3-status-requires : tie.Need-wb3-status-requires
 wb3-status-requires c κs = search needs
 
--- src/lib.rt:671:13
 either-of-requires : tie.Need-either-of-requires
 either-of-requires c κs = search needs
 
--- src/lib.rt:672:9
 frame-7-requires : tie.Need-frame-7-requires
 frame-7-requires c κs = search needs
 
--- src/lib.rt:672:9
 returns-4 : tie.Need-returns-4
 returns-4 c = bus-frame-way-4 _ _ _ _ _ _ _ _ _ _ _ _ _ _ _ _ _ _ _ (c .before .before .before .before .before .before .before .before .before .before .before .before .before .before .before .before .kind .ensures) (c .before .before .before .before .before .before .before .before .before .before .before .before .before .before .before .status-of .ensures) (c .before .before .before .before .before .before .before .before .before .before .before .before .before .before .ppc .ensures) (c .before .before .before .before .before .before .before .before .before .before .before .before .before .fault-code .ensures .0) (c .before .before .before .before .before .before .before .before .before .before .before .before .is-68000 .ensures) (c .before .before .before .before .before .before .before .before .before .before .before .if1 .left) (c .before .before .before .before .before .before .before .before .before .before .is-pre-68020 .ensures) (c .before .before .before .before .before .before .before .before .before .if2 .left) (c .before .before .before .before .before .before .before .before .is-060 .ensures) (c .before .before .before .before .before .before .before .if3 .left) (c .before .before .before .before .before .before .write-data .ensures) (c .before .before .before .before .before .is-040 .ensures) (c .before .before .before .before .if4 .taken) (c .before .before .before .ssw-040 .ensures) (c .before .before .wb3-status .ensures) (c .before .either-of .ensures) (c .frame-7 .ensures)
 
--- src/lib.rt:674:9
 ssw-020-requires : tie.Need-ssw-020-requires
 ssw-020-requires c κs = search needs
 
--- src/lib.rt:675:9
 either-of-requires-2 : tie.Need-either-of-requires-2
 either-of-requires-2 c κs = search needs
 
--- src/lib.rt:676:9
 either-of-requires-3 : tie.Need-either-of-requires-3
 either-of-requires-3 c κs = search needs
 
--- src/lib.rt:677:5
 frame-11-requires : tie.Need-frame-11-requires
 frame-11-requires c κs = search needs
 
--- src/lib.rt:641:1
 returns-5 : tie.Need-returns-5
 returns-5 c = bus-frame-way-5 _ _ _ _ _ _ _ _ _ _ _ _ _ _ _ _ _ _ _ (c .before .before .before .before .before .before .before .before .before .before .before .before .before .before .before .before .kind .ensures) (c .before .before .before .before .before .before .before .before .before .before .before .before .before .before .before .status-of .ensures) (c .before .before .before .before .before .before .before .before .before .before .before .before .before .before .ppc .ensures) (c .before .before .before .before .before .before .before .before .before .before .before .before .before .fault-code .ensures .0) (c .before .before .before .before .before .before .before .before .before .before .before .before .is-68000 .ensures) (c .before .before .before .before .before .before .before .before .before .before .before .if1 .left) (c .before .before .before .before .before .before .before .before .before .before .is-pre-68020 .ensures) (c .before .before .before .before .before .before .before .before .before .if2 .left) (c .before .before .before .before .before .before .before .before .is-060 .ensures) (c .before .before .before .before .before .before .before .if3 .left) (c .before .before .before .before .before .before .write-data .ensures) (c .before .before .before .before .before .is-040 .ensures) (c .before .before .before .before .if4 .left) (c .before .before .before .ssw-020 .ensures) (c .before .before .either-of2 .ensures) (c .before .either-of3 .ensures) (c .frame-11 .ensures)
 

@@ -9,19 +9,15 @@ use Rattle.frames.proofs.frame_0.Tie as tie
 use Rattle.frames.proofs.frame_0.Reads as reads
 use Rattle.frames.proofs.frame_0.Lts as lts
 
--- src/lib.rt:284:5
 array-set-from-fields : tie.Need-array-set-from-fields
 array-set-from-fields c = search needs
 
--- src/lib.rt:290:5
 array-set-from-fields-2 : tie.Need-array-set-from-fields-2
 array-set-from-fields-2 c = search needs
 
--- src/lib.rt:296:5
 array-set-from-fields-3 : tie.Need-array-set-from-fields-3
 array-set-from-fields-3 c = search needs
 
--- src/lib.rt:270:1
 returns : tie.Need-returns
 unfolding frame0
 returns c = refl

@@ -9,63 +9,48 @@ use Rattle.frames.proofs.frame_11.Tie as tie
 use Rattle.frames.proofs.frame_11.Reads as reads
 use Rattle.frames.proofs.frame_11.Lts as lts
 
--- src/lib.rt:488:5
 array-set-from-fields : tie.Need-array-set-from-fields
 array-set-from-fields c = search needs
 
--- src/lib.rt:494:5
 array-set-from-fields-2 : tie.Need-array-set-from-fields-2
 array-set-from-fields-2 c = search needs
 
--- src/lib.rt:500:5
 array-set-from-fields-3 : tie.Need-array-set-from-fields-3
 array-set-from-fields-3 c = search needs
 
--- src/lib.rt:506:5
 array-set-from-fields-4 : tie.Need-array-set-from-fields-4
 array-set-from-fields-4 c = search needs
 
--- src/lib.rt:512:5
 array-set-from-fields-5 : tie.Need-array-set-from-fields-5
 array-set-from-fields-5 c = search needs
 
--- src/lib.rt:518:5
 array-set-from-fields-6 : tie.Need-array-set-from-fields-6
 array-set-from-fields-6 c = search needs
 
--- src/lib.rt:524:5
 array-set-from-fields-7 : tie.Need-array-set-from-fields-7
 array-set-from-fields-7 c = search needs
 
--- src/lib.rt:530:5
 array-set-from-fields-8 : tie.Need-array-set-from-fields-8
 array-set-from-fields-8 c = search needs
 
--- src/lib.rt:536:5
 array-set-from-fields-9 : tie.Need-array-set-from-fields-9
 array-set-from-fields-9 c = search needs
 
--- src/lib.rt:542:5
 array-set-from-fields-10 : tie.Need-array-set-from-fields-10
 array-set-from-fields-10 c = search needs
 
--- src/lib.rt:548:5
 array-set-from-fields-11 : tie.Need-array-set-from-fields-11
 array-set-from-fields-11 c = search needs
 
--- src/lib.rt:554:5
 array-set-from-fields-12 : tie.Need-array-set-from-fields-12
 array-set-from-fields-12 c = search needs
 
--- src/lib.rt:560:5
 array-set-from-fields-13 : tie.Need-array-set-from-fields-13
 array-set-from-fields-13 c = search needs
 
--- src/lib.rt:566:5
 array-set-from-fields-14 : tie.Need-array-set-from-fields-14
 array-set-from-fields-14 c = search needs
 
--- src/lib.rt:474:1
 returns : tie.Need-returns
 unfolding frame11
 returns c = refl

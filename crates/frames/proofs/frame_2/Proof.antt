@@ -9,23 +9,18 @@ use Rattle.frames.proofs.frame_2.Tie as tie
 use Rattle.frames.proofs.frame_2.Reads as reads
 use Rattle.frames.proofs.frame_2.Lts as lts
 
--- src/lib.rt:244:5
 array-set-from-fields : tie.Need-array-set-from-fields
 array-set-from-fields c = search needs
 
--- src/lib.rt:250:5
 array-set-from-fields-2 : tie.Need-array-set-from-fields-2
 array-set-from-fields-2 c = search needs
 
--- src/lib.rt:256:5
 array-set-from-fields-3 : tie.Need-array-set-from-fields-3
 array-set-from-fields-3 c = search needs
 
--- src/lib.rt:262:5
 array-set-from-fields-4 : tie.Need-array-set-from-fields-4
 array-set-from-fields-4 c = search needs
 
--- src/lib.rt:230:1
 returns : tie.Need-returns
 unfolding frame2
 returns c = refl

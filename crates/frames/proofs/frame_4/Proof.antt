@@ -9,27 +9,21 @@ use Rattle.frames.proofs.frame_4.Tie as tie
 use Rattle.frames.proofs.frame_4.Reads as reads
 use Rattle.frames.proofs.frame_4.Lts as lts
 
--- src/lib.rt:318:5
 array-set-from-fields : tie.Need-array-set-from-fields
 array-set-from-fields c = search needs
 
--- src/lib.rt:324:5
 array-set-from-fields-2 : tie.Need-array-set-from-fields-2
 array-set-from-fields-2 c = search needs
 
--- src/lib.rt:330:5
 array-set-from-fields-3 : tie.Need-array-set-from-fields-3
 array-set-from-fields-3 c = search needs
 
--- src/lib.rt:336:5
 array-set-from-fields-4 : tie.Need-array-set-from-fields-4
 array-set-from-fields-4 c = search needs
 
--- src/lib.rt:342:5
 array-set-from-fields-5 : tie.Need-array-set-from-fields-5
 array-set-from-fields-5 c = search needs
 
--- src/lib.rt:304:1
 returns : tie.Need-returns
 unfolding frame4
 returns c = refl

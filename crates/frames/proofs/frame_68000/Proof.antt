@@ -9,27 +9,21 @@ use Rattle.frames.proofs.frame_68000.Tie as tie
 use Rattle.frames.proofs.frame_68000.Reads as reads
 use Rattle.frames.proofs.frame_68000.Lts as lts
 
--- src/lib.rt:86:5
 array-set-from-fields : tie.Need-array-set-from-fields
 array-set-from-fields c = search needs
 
--- src/lib.rt:92:5
 array-set-from-fields-2 : tie.Need-array-set-from-fields-2
 array-set-from-fields-2 c = search needs
 
--- src/lib.rt:98:5
 array-set-from-fields-3 : tie.Need-array-set-from-fields-3
 array-set-from-fields-3 c = search needs
 
--- src/lib.rt:104:5
 array-set-from-fields-4 : tie.Need-array-set-from-fields-4
 array-set-from-fields-4 c = search needs
 
--- src/lib.rt:110:5
 array-set-from-fields-5 : tie.Need-array-set-from-fields-5
 array-set-from-fields-5 c = search needs
 
--- src/lib.rt:72:1
 returns : tie.Need-returns
 unfolding frame68000
 returns c = refl

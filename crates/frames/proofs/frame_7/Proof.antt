@@ -9,79 +9,60 @@ use Rattle.frames.proofs.frame_7.Tie as tie
 use Rattle.frames.proofs.frame_7.Reads as reads
 use Rattle.frames.proofs.frame_7.Lts as lts
 
--- src/lib.rt:364:5
 array-set-from-fields : tie.Need-array-set-from-fields
 array-set-from-fields c = search needs
 
--- src/lib.rt:370:5
 array-set-from-fields-2 : tie.Need-array-set-from-fields-2
 array-set-from-fields-2 c = search needs
 
--- src/lib.rt:376:5
 array-set-from-fields-3 : tie.Need-array-set-from-fields-3
 array-set-from-fields-3 c = search needs
 
--- src/lib.rt:382:5
 array-set-from-fields-4 : tie.Need-array-set-from-fields-4
 array-set-from-fields-4 c = search needs
 
--- src/lib.rt:388:5
 array-set-from-fields-5 : tie.Need-array-set-from-fields-5
 array-set-from-fields-5 c = search needs
 
--- src/lib.rt:394:5
 array-set-from-fields-6 : tie.Need-array-set-from-fields-6
 array-set-from-fields-6 c = search needs
 
--- src/lib.rt:400:5
 array-set-from-fields-7 : tie.Need-array-set-from-fields-7
 array-set-from-fields-7 c = search needs
 
--- src/lib.rt:406:5
 array-set-from-fields-8 : tie.Need-array-set-from-fields-8
 array-set-from-fields-8 c = search needs
 
--- src/lib.rt:412:5
 array-set-from-fields-9 : tie.Need-array-set-from-fields-9
 array-set-from-fields-9 c = search needs
 
--- src/lib.rt:418:5
 array-set-from-fields-10 : tie.Need-array-set-from-fields-10
 array-set-from-fields-10 c = search needs
 
--- src/lib.rt:424:5
 array-set-from-fields-11 : tie.Need-array-set-from-fields-11
 array-set-from-fields-11 c = search needs
 
--- src/lib.rt:430:5
 array-set-from-fields-12 : tie.Need-array-set-from-fields-12
 array-set-from-fields-12 c = search needs
 
--- src/lib.rt:436:5
 array-set-from-fields-13 : tie.Need-array-set-from-fields-13
 array-set-from-fields-13 c = search needs
 
--- src/lib.rt:442:5
 array-set-from-fields-14 : tie.Need-array-set-from-fields-14
 array-set-from-fields-14 c = search needs
 
--- src/lib.rt:448:5
 array-set-from-fields-15 : tie.Need-array-set-from-fields-15
 array-set-from-fields-15 c = search needs
 
--- src/lib.rt:454:5
 array-set-from-fields-16 : tie.Need-array-set-from-fields-16
 array-set-from-fields-16 c = search needs
 
--- src/lib.rt:460:5
 array-set-from-fields-17 : tie.Need-array-set-from-fields-17
 array-set-from-fields-17 c = search needs
 
--- src/lib.rt:466:5
 array-set-from-fields-18 : tie.Need-array-set-from-fields-18
 array-set-from-fields-18 c = search needs
 
--- src/lib.rt:350:1
 returns : tie.Need-returns
 unfolding frame7
 returns c = refl

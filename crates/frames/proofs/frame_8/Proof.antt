@@ -9,71 +9,54 @@ use Rattle.frames.proofs.frame_8.Tie as tie
 use Rattle.frames.proofs.frame_8.Reads as reads
 use Rattle.frames.proofs.frame_8.Lts as lts
 
--- src/lib.rt:132:5
 array-set-from-fields : tie.Need-array-set-from-fields
 array-set-from-fields c = search needs
 
--- src/lib.rt:138:5
 array-set-from-fields-2 : tie.Need-array-set-from-fields-2
 array-set-from-fields-2 c = search needs
 
--- src/lib.rt:144:5
 array-set-from-fields-3 : tie.Need-array-set-from-fields-3
 array-set-from-fields-3 c = search needs
 
--- src/lib.rt:150:5
 array-set-from-fields-4 : tie.Need-array-set-from-fields-4
 array-set-from-fields-4 c = search needs
 
--- src/lib.rt:156:5
 array-set-from-fields-5 : tie.Need-array-set-from-fields-5
 array-set-from-fields-5 c = search needs
 
--- src/lib.rt:162:5
 array-set-from-fields-6 : tie.Need-array-set-from-fields-6
 array-set-from-fields-6 c = search needs
 
--- src/lib.rt:168:5
 array-set-from-fields-7 : tie.Need-array-set-from-fields-7
 array-set-from-fields-7 c = search needs
 
--- src/lib.rt:174:5
 array-set-from-fields-8 : tie.Need-array-set-from-fields-8
 array-set-from-fields-8 c = search needs
 
--- src/lib.rt:180:5
 array-set-from-fields-9 : tie.Need-array-set-from-fields-9
 array-set-from-fields-9 c = search needs
 
--- src/lib.rt:186:5
 array-set-from-fields-10 : tie.Need-array-set-from-fields-10
 array-set-from-fields-10 c = search needs
 
--- src/lib.rt:192:5
 array-set-from-fields-11 : tie.Need-array-set-from-fields-11
 array-set-from-fields-11 c = search needs
 
--- src/lib.rt:198:5
 array-set-from-fields-12 : tie.Need-array-set-from-fields-12
 array-set-from-fields-12 c = search needs
 
--- src/lib.rt:204:5
 array-set-from-fields-13 : tie.Need-array-set-from-fields-13
 array-set-from-fields-13 c = search needs
 
--- src/lib.rt:210:5
 array-set-from-fields-14 : tie.Need-array-set-from-fields-14
 array-set-from-fields-14 c = search needs
 
--- src/lib.rt:216:5
 array-set-from-fields-15 : tie.Need-array-set-from-fields-15
 array-set-from-fields-15 c = search needs
 
--- src/lib.rt:222:5
 array-set-from-fields-16 : tie.Need-array-set-from-fields-16
 array-set-from-fields-16 c = search needs
 
--- src/lib.rt:118:1
 returns : tie.Need-returns
 unfolding frame8
 returns c = refl

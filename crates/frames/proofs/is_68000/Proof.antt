@@ -10,11 +10,9 @@ use Rattle.frames.proofs.is_68000.Reads as reads
 use Rattle.frames.proofs.is_68000.Lts as lts
 use Rattle.cpu.proofs.fields.kind.Reads as kind-reads
 
--- src/lib.rt:607:5
 kind-requires : tie.Need-kind-requires
 kind-requires c κs = search needs
 
--- src/lib.rt:604:1
 returns : tie.Need-returns
 unfolding kindOf
 returns c = cc (c .kind .ensures)

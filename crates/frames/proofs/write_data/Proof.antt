@@ -10,16 +10,13 @@ use Rattle.frames.proofs.write_data.Reads as reads
 use Rattle.frames.proofs.write_data.Lts as lts
 use Rattle.cpu.proofs.fields.pending_fault_wdata.Reads as pending-fault-wdata-reads
 
--- src/lib.rt:590:9
 pending-fault-wdata-requires : tie.Need-pending-fault-wdata-requires
 pending-fault-wdata-requires c κs = search needs
 
--- src/lib.rt:590:9
 returns : tie.Need-returns
 unfolding writeData
 returns c = simp (c .before .if1 .taken) (omega arith)
 
--- src/lib.rt:586:1
 returns-2 : tie.Need-returns-2
 unfolding writeData
 returns-2 c = simp (c .if1 .left)

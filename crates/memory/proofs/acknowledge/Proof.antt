@@ -8,23 +8,18 @@ use Rattle.memory.proofs.acknowledge.Lts as lts
 use Rattle.memory.proofs.note.Reads as note-reads
 use Rattle.memory.proofs.response.Reads as response-reads
 
--- src/lib.rt:209:9
 response-requires : tie.Need-response-requires
 response-requires c κs = search needs
 
--- src/lib.rt:210:9
 note-requires : tie.Need-note-requires
 note-requires c κs = search needs
 
--- src/lib.rt:206:1
 same-length : tie.Need-same-length
 same-length c = c .before .before .before .before .note .kept .1 .0
 
--- src/lib.rt:206:1
 same-length-2 : tie.Need-same-length-2
 same-length-2 c = c .before .before .before .before .note .kept .1 .1 .0
 
--- src/lib.rt:206:1
 returns : tie.Need-returns
 returns c = acknowledge-way _ _ _ _ _ _ _ _ (c .before .before .before .before .before .before .before .response .ensures) (c .before .before .before .before .note .ensures)
 

@@ -10,11 +10,9 @@ use Rattle.memory.proofs.count_up.Reads as reads
 use Rattle.memory.proofs.count_up.Lts as lts
 use Rattle.std.proofs.num.wrapping_add_u32.Reads as wrapping-add-u32-reads
 
--- src/lib.rt:66:9
 wrapping-add-u32-requires : tie.Need-wrapping-add-u32-requires
 wrapping-add-u32-requires c κs = search needs
 
--- src/lib.rt:62:1
 returns : tie.Need-returns
 unfolding counted
 returns c = cc (c .wrapping-add-u32 .ensures)

@@ -11,39 +11,30 @@ use Rattle.cpu.proofs.clocks.set_clocks.Reads as set-clocks-reads
 use Rattle.memory.proofs.note.Reads as note-reads
 use Rattle.memory.proofs.with_cpu.Reads as with-cpu-reads
 
--- src/lib.rt:181:8
 has-clocks-requires : tie.Need-has-clocks-requires
 has-clocks-requires c κs = search needs
 
--- src/lib.rt:182:13
 pending-clocks-requires : tie.Need-pending-clocks-requires
 pending-clocks-requires c κs = search needs
 
--- src/lib.rt:183:29
 set-clocks-requires : tie.Need-set-clocks-requires
 set-clocks-requires c κs = search needs
 
--- src/lib.rt:183:13
 with-cpu-requires : tie.Need-with-cpu-requires
 with-cpu-requires c κs = search needs
 
--- src/lib.rt:184:9
 note-requires : tie.Need-note-requires
 note-requires c κs = search needs
 
--- src/lib.rt:184:9
 same-length : tie.Need-same-length
 same-length c = c .before .before .before .before .note .kept .1 .0
 
--- src/lib.rt:184:9
 same-length-2 : tie.Need-same-length-2
 same-length-2 c = c .before .before .before .before .note .kept .1 .1 .0
 
--- src/lib.rt:184:9
 returns : tie.Need-returns
 returns c = flush-sync-way _ _ _ _ _ _ _ _ _ _ (c .before .before .before .before .before .before .before .before .before .before .before .has-clocks .ensures) (c .before .before .before .before .before .before .before .before .before .before .if1 .taken) (c .before .before .before .before .before .before .before .before .before .pending-clocks .ensures) (c .before .before .before .before .before .before .before .before .set-clocks .ensures) (c .before .before .before .before .before .before .before .with-cpu .ensures) (c .before .before .before .before .note .ensures)
 
--- src/lib.rt:177:1
 returns-2 : tie.Need-returns-2
 returns-2 c = flush-sync-way-2 _ _ _ _ (c .before .has-clocks .ensures) (c .if1 .left)
 

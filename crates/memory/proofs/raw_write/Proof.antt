@@ -7,19 +7,15 @@ use Rattle.memory.proofs.raw_write.Reads as reads
 use Rattle.memory.proofs.raw_write.Lts as lts
 use Rattle.memory.proofs.try_write.Reads as try-write-reads
 
--- src/lib.rt:172:9
 try-write-requires : tie.Need-try-write-requires
 try-write-requires c κs = search needs
 
--- src/lib.rt:162:1
 same-length : tie.Need-same-length
 same-length c = c .before .before .before .before .before .try-write .kept .1 .0
 
--- src/lib.rt:162:1
 same-length-2 : tie.Need-same-length-2
 same-length-2 c = c .before .before .before .before .before .try-write .kept .1 .1 .0
 
--- src/lib.rt:162:1
 returns : tie.Need-returns
 returns c = raw-of-try _ _ _ _ _ _ (c .before .before .before .before .before .try-write .ensures)
 

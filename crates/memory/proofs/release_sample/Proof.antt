@@ -7,19 +7,15 @@ use Rattle.memory.proofs.release_sample.Reads as reads
 use Rattle.memory.proofs.release_sample.Lts as lts
 use Rattle.memory.proofs.note.Reads as note-reads
 
--- src/lib.rt:193:5
 note-requires : tie.Need-note-requires
 note-requires c κs = search needs
 
--- src/lib.rt:190:1
 same-length : tie.Need-same-length
 same-length c = c .before .before .before .before .note .kept .1 .0
 
--- src/lib.rt:190:1
 same-length-2 : tie.Need-same-length-2
 same-length-2 c = c .before .before .before .before .note .kept .1 .1 .0
 
--- src/lib.rt:190:1
 returns : tie.Need-returns
 returns c = release-sample-way _ _ _ _ _ _ (c .before .before .before .before .note .ensures)
 

@@ -9,19 +9,15 @@ use Rattle.memory.proofs.response.Tie as tie
 use Rattle.memory.proofs.response.Reads as reads
 use Rattle.memory.proofs.response.Lts as lts
 
--- src/lib.rt:200:13
 cast-i : tie.Need-cast-i
 cast-i c = search needs
 
--- src/lib.rt:202:5
 mul-result : tie.Need-mul-result
 mul-result c = search needs
 
--- src/lib.rt:202:5
 array-read-result : tie.Need-array-read-result
 array-read-result c = search needs
 
--- src/lib.rt:197:1
 returns : tie.Need-returns
 unfolding responseOf
 returns c = refl

@@ -8,7 +8,6 @@ use Rattle.memory.proofs.with_cpu.Tie as tie
 use Rattle.memory.proofs.with_cpu.Reads as reads
 use Rattle.memory.proofs.with_cpu.Lts as lts
 
--- src/lib.rt:54:1
 returns : tie.Need-returns
 unfolding putCpu
 returns c = refl

@@ -27,35 +27,27 @@ any-past-below t =
 abbrev any-past-claims : ℕ → any-past-lts.Claims
 any-past-claims t = (past-top-reads.Asked, past-top-reads.Learnt, any-past-below t, any-past.Post)
 
--- src/lib.rt:35:9
 any-past-returns : (t : ℕ) → any-past-lts.Need-returns (any-past-claims t) (any-past-at t) any-past.Post
 any-past-returns t c = any-past-way _ _ (c .if1 .taken)
 
--- src/lib.rt:37:14
 any-past-sub-k : (t : ℕ) → any-past-lts.Need-sub-k (any-past-claims t) (any-past-at t) any-past.Post
 any-past-sub-k t c = search needs
 
--- src/lib.rt:37:13
 any-past-cast-k : (t : ℕ) → any-past-lts.Need-cast-k (any-past-claims t) (any-past-at t) any-past.Post
 any-past-cast-k t c = search needs
 
--- src/lib.rt:38:8
 any-past-past-top-requires : (t : ℕ) → any-past-lts.Need-past-top-requires (any-past-claims t) (any-past-at t) any-past.Post
 any-past-past-top-requires t c κs = search needs
 
--- src/lib.rt:39:9
 any-past-returns-2 : (t : ℕ) → any-past-lts.Need-returns-2 (any-past-claims t) (any-past-at t) any-past.Post
 any-past-returns-2 t c = any-past-way-2 _ _ _ (c .before .before .if1 .left) (c .before .past-top .ensures) (c .if2 .taken)
 
--- src/lib.rt:41:17
 any-past-sub-any-past : (t : ℕ) → any-past-lts.Need-sub-any-past (any-past-claims t) (any-past-at t) any-past.Post
 any-past-sub-any-past t c = search needs
 
--- src/lib.rt:41:5
 any-past-any-past-requires : (t : ℕ) → any-past-lts.Need-any-past-requires (any-past-claims t) (any-past-at t) any-past.Post
 any-past-any-past-requires t c κs = search needs
 
--- src/lib.rt:30:1
 any-past-returns-3 : (t : ℕ) → any-past-lts.Need-returns-3 (any-past-claims t) (any-past-at t) any-past.Post
 any-past-returns-3 t c = any-past-way-3 _ _ _ _ (c .before .before .before .if1 .left) (c .before .before .past-top .ensures) (c .before .if2 .left) (c .any-past .ensures)
 

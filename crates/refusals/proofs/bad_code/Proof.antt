@@ -1,4 +1,4 @@
-use Rattle.refusals.proofs.Ways.{bad-code-way, bad-code-way-2}
+use Rattle.refusals.proofs.Tests.{bad-code-way, bad-code-way-2}
 use mathlib.Core.Path.{_≡_, refl, sym, _∙_}
 use native.Mathlib.Omega.{arith}
 use lib.ListN.{length-set}
@@ -11,19 +11,15 @@ use Rattle.refusals.proofs.bad_code.Lts as lts
 use Rattle.cpu.proofs.fields.fc_override.Reads as fc-override-reads
 use Rattle.cpu.proofs.fields.has_fc_override.Reads as has-fc-override-reads
 
--- src/lib.rt:167:8
 has-fc-override-requires : tie.Need-has-fc-override-requires
 has-fc-override-requires c κs = search needs
 
--- src/lib.rt:168:20
 fc-override-requires : tie.Need-fc-override-requires
 fc-override-requires c κs = search needs
 
--- src/lib.rt:168:9
 returns : tie.Need-returns
 returns c = bad-code-way _ _ _ (c .before .before .has-fc-override .ensures) (c .before .if1 .taken) (c .fc-override .ensures)
 
--- src/lib.rt:164:1
 returns-2 : tie.Need-returns-2
 returns-2 c = bad-code-way-2 _ _ (c .before .has-fc-override .ensures) (c .if1 .left)
 

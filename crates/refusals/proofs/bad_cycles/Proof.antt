@@ -10,16 +10,13 @@ use Rattle.refusals.proofs.bad_cycles.Reads as reads
 use Rattle.refusals.proofs.bad_cycles.Lts as lts
 use Rattle.requests.proofs.interrupts.has_cycles.Reads as has-cycles-reads
 
--- src/lib.rt:158:17
 has-cycles-requires : tie.Need-has-cycles-requires
 has-cycles-requires c κs = search needs
 
--- src/lib.rt:158:9
 returns : tie.Need-returns
 unfolding badCycles
 returns c = cc (c .before .if1 .taken, c .has-cycles .ensures)
 
--- src/lib.rt:154:1
 returns-2 : tie.Need-returns-2
 unfolding badCycles
 returns-2 c = simp (c .if1 .left)

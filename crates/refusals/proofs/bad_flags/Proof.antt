@@ -1,4 +1,4 @@
-use Rattle.refusals.proofs.Ways.{bad-flags-way, bad-flags-way-2}
+use Rattle.refusals.proofs.Tests.{bad-flags-way, bad-flags-way-2}
 use mathlib.Core.Path.{_≡_, refl, sym, _∙_}
 use native.Mathlib.Omega.{arith}
 use lib.ListN.{length-set}
@@ -10,19 +10,15 @@ use Rattle.refusals.proofs.bad_flags.Reads as reads
 use Rattle.refusals.proofs.bad_flags.Lts as lts
 use Rattle.refusals.proofs.is_flag.Reads as is-flag-reads
 
--- src/lib.rt:131:8
 is-flag-requires : tie.Need-is-flag-requires
 is-flag-requires c κs = search needs
 
--- src/lib.rt:132:17
 is-flag-requires-2 : tie.Need-is-flag-requires-2
 is-flag-requires-2 c κs = search needs
 
--- src/lib.rt:132:9
 returns : tie.Need-returns
 returns c = bad-flags-way _ _ _ (c .before .before .is-flag .ensures) (c .before .if1 .taken) (c .is-flag2 .ensures)
 
--- src/lib.rt:127:1
 returns-2 : tie.Need-returns-2
 returns-2 c = bad-flags-way-2 _ _ (c .before .is-flag .ensures) (c .if1 .left)
 

@@ -1,4 +1,4 @@
-use Rattle.refusals.proofs.Ways.{bad-kind-way, bad-kind-way-2, bad-kind-way-3}
+use Rattle.refusals.proofs.Tests.{bad-kind-way, bad-kind-way-2, bad-kind-way-3}
 use mathlib.Core.Path.{_≡_, refl, sym, _∙_}
 use native.Mathlib.Omega.{arith}
 use lib.ListN.{length-set}
@@ -10,19 +10,15 @@ use Rattle.refusals.proofs.bad_kind.Reads as reads
 use Rattle.refusals.proofs.bad_kind.Lts as lts
 use Rattle.cpu.proofs.fields.kind.Reads as kind-reads
 
--- src/lib.rt:252:9
 kind-requires : tie.Need-kind-requires
 kind-requires c κs = search needs
 
--- src/lib.rt:254:9
 returns : tie.Need-returns
 returns c = bad-kind-way _ _ _ (c .before .kind .ensures) (c .if1 .taken)
 
--- src/lib.rt:257:9
 returns-2 : tie.Need-returns-2
 returns-2 c = bad-kind-way-2 _ _ _ (c .before .before .kind .ensures) (c .before .if1 .left) (c .if2 .taken)
 
--- src/lib.rt:249:1
 returns-3 : tie.Need-returns-3
 returns-3 c = bad-kind-way-3 _ _ _ (c .before .before .kind .ensures) (c .before .if1 .left) (c .if2 .left)
 

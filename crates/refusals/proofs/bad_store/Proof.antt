@@ -9,25 +9,20 @@ use Rattle.refusals.proofs.bad_store.Tie as tie
 use Rattle.refusals.proofs.bad_store.Reads as reads
 use Rattle.refusals.proofs.bad_store.Lts as lts
 
--- src/lib.rt:179:13
 returns : tie.Need-returns
 unfolding badStore
 returns c = simp (c .before .if1 .taken, lt-ltb _ _ (c .if2 .taken))
 
--- src/lib.rt:181:29
 cast-result : tie.Need-cast-result
 cast-result c = search needs
 
--- src/lib.rt:181:29
 add-result : tie.Need-add-result
 add-result c = search needs
 
--- src/lib.rt:181:9
 returns-2 : tie.Need-returns-2
 unfolding badStore
 returns-2 c = simp (c .before .before .if1 .taken, le-ltb _ _ (c .before .if2 .left))
 
--- src/lib.rt:174:1
 returns-3 : tie.Need-returns-3
 unfolding badStore
 returns-3 c = simp (c .if1 .left)

@@ -8,7 +8,6 @@ use Rattle.refusals.proofs.bad_vector.Tie as tie
 use Rattle.refusals.proofs.bad_vector.Reads as reads
 use Rattle.refusals.proofs.bad_vector.Lts as lts
 
--- src/lib.rt:242:1
 returns : tie.Need-returns
 unfolding badVector
 returns c = refl

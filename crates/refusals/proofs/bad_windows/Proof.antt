@@ -1,4 +1,4 @@
-use Rattle.refusals.proofs.Ways.{bad-windows-way-2}
+use Rattle.refusals.proofs.Tests.{bad-windows-way-2}
 use mathlib.Core.Path.{_≡_, refl, sym, _∙_}
 use native.Mathlib.Omega.{arith}
 use lib.ListN.{length-set}
@@ -11,20 +11,16 @@ use Rattle.refusals.proofs.bad_windows.Reads as reads
 use Rattle.refusals.proofs.bad_windows.Lts as lts
 use Rattle.refusals.proofs.any_past.Reads as any-past-reads
 
--- src/lib.rt:224:13
 returns : tie.Need-returns
 unfolding badWindows
 returns c = simp (c .before .if1 .taken, lt-ltb _ _ (c .if2 .taken))
 
--- src/lib.rt:226:9
 any-past-requires : tie.Need-any-past-requires
 any-past-requires c κs = search needs
 
--- src/lib.rt:226:9
 returns-2 : tie.Need-returns-2
 returns-2 c = bad-windows-way-2 _ _ _ (c .before .before .if1 .taken) (c .before .if2 .left) (c .any-past .ensures)
 
--- src/lib.rt:218:1
 returns-3 : tie.Need-returns-3
 unfolding badWindows
 returns-3 c = simp (c .if1 .left)

@@ -9,11 +9,9 @@ use Rattle.refusals.proofs.is_flag.Tie as tie
 use Rattle.refusals.proofs.is_flag.Reads as reads
 use Rattle.refusals.proofs.is_flag.Lts as lts
 
--- src/lib.rt:121:9
 returns : tie.Need-returns
 returns c = simp (eq-eqb _ _ (c .if1 .taken))
 
--- src/lib.rt:117:1
 returns-2 : tie.Need-returns-2
 returns-2 c = simp (ne-eqb _ _ (c .if1 .left))
 

@@ -12,23 +12,18 @@ use Rattle.refusals.proofs.odd.Reads as odd-reads
 use Rattle.cpu.proofs.fields.aligned_kind.Reads as aligned-kind-reads
 use Rattle.cpu.proofs.fields.vbr.Reads as vbr-reads
 
--- src/lib.rt:147:8
 aligned-kind-requires : tie.Need-aligned-kind-requires
 aligned-kind-requires c κs = search needs
 
--- src/lib.rt:148:20
 vbr-requires : tie.Need-vbr-requires
 vbr-requires c κs = search needs
 
--- src/lib.rt:148:9
 odd-requires : tie.Need-odd-requires
 odd-requires c κs = search needs
 
--- src/lib.rt:148:9
 returns : tie.Need-returns
 returns c = odd-base-way _ _ _ _ (c .before .before .before .aligned-kind .ensures) (c .before .before .if1 .taken) (c .before .vbr .ensures) (c .odd .ensures)
 
--- src/lib.rt:144:1
 returns-2 : tie.Need-returns-2
 returns-2 c = odd-base-way-2 _ _ (c .before .aligned-kind .ensures) (c .if1 .left)
 

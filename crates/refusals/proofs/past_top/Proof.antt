@@ -10,35 +10,27 @@ use Rattle.refusals.proofs.past_top.Reads as reads
 use Rattle.refusals.proofs.past_top.Lts as lts
 use Rattle.refusals.proofs.wide.Reads as wide-reads
 
--- src/lib.rt:197:21
 mul-wide : tie.Need-mul-wide
 mul-wide c = search needs
 
--- src/lib.rt:197:21
 element-copy-out-wide : tie.Need-element-copy-out-wide
 element-copy-out-wide c = search needs
 
--- src/lib.rt:197:9
 wide-requires : tie.Need-wide-requires
 wide-requires c κs = search needs
 
--- src/lib.rt:198:21
 mul-wide-2 : tie.Need-mul-wide-2
 mul-wide-2 c = search needs
 
--- src/lib.rt:198:21
 element-copy-out-wide-2 : tie.Need-element-copy-out-wide-2
 element-copy-out-wide-2 c = search needs
 
--- src/lib.rt:198:9
 wide-requires-2 : tie.Need-wide-requires-2
 wide-requires-2 c κs = search needs
 
--- src/lib.rt:199:18
 add-result : tie.Need-add-result
 add-result c = search needs
 
--- src/lib.rt:193:1
 returns : tie.Need-returns
 unfolding pastTop
 returns c = cc (c .before .before .wide .ensures .0, c .wide2 .ensures .0)

@@ -8,12 +8,10 @@ use Rattle.refusals.proofs.short_log.Tie as tie
 use Rattle.refusals.proofs.short_log.Reads as reads
 use Rattle.refusals.proofs.short_log.Lts as lts
 
--- src/lib.rt:236:9
 returns : tie.Need-returns
 unfolding shortLog
 returns c = simp (c .if1 .taken)
 
--- src/lib.rt:232:1
 returns-2 : tie.Need-returns-2
 unfolding shortLog
 returns-2 c = simp (c .if1 .left)

@@ -8,7 +8,6 @@ use Rattle.status.proofs.clear_m.Tie as tie
 use Rattle.status.proofs.clear_m.Reads as reads
 use Rattle.status.proofs.clear_m.Lts as lts
 
--- src/lib.rt:154:1
 returns : tie.Need-returns
 unfolding clearM
 returns c = refl

@@ -8,7 +8,6 @@ use Rattle.status.proofs.clear_trace.Tie as tie
 use Rattle.status.proofs.clear_trace.Reads as reads
 use Rattle.status.proofs.clear_trace.Lts as lts
 
--- src/lib.rt:130:1
 returns : tie.Need-returns
 unfolding clearTrace
 returns c = refl

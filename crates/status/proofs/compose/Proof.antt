@@ -9,92 +9,70 @@ use Rattle.status.proofs.compose.Tie as tie
 use Rattle.status.proofs.compose.Reads as reads
 use Rattle.status.proofs.compose.Lts as lts
 
--- src/lib.rt:23:18
 mul-system : tie.Need-mul-system
 mul-system c = search needs
 
--- src/lib.rt:24:11
 mul-system-2 : tie.Need-mul-system-2
 mul-system-2 c = search needs
 
--- src/lib.rt:23:18
 add-system : tie.Need-add-system
 add-system c = search needs
 
--- src/lib.rt:25:11
 mul-system-3 : tie.Need-mul-system-3
 mul-system-3 c = search needs
 
--- src/lib.rt:23:18
 add-system-2 : tie.Need-add-system-2
 add-system-2 c = search needs
 
--- src/lib.rt:26:11
 mul-system-4 : tie.Need-mul-system-4
 mul-system-4 c = search needs
 
--- src/lib.rt:23:18
 add-system-3 : tie.Need-add-system-3
 add-system-3 c = search needs
 
--- src/lib.rt:27:11
 mul-system-5 : tie.Need-mul-system-5
 mul-system-5 c = search needs
 
--- src/lib.rt:23:18
 add-system-4 : tie.Need-add-system-4
 add-system-4 c = search needs
 
--- src/lib.rt:28:17
 mul-codes : tie.Need-mul-codes
 mul-codes c = search needs
 
--- src/lib.rt:29:11
 mul-codes-2 : tie.Need-mul-codes-2
 mul-codes-2 c = search needs
 
--- src/lib.rt:28:17
 add-codes : tie.Need-add-codes
 add-codes c = search needs
 
--- src/lib.rt:30:11
 mul-codes-3 : tie.Need-mul-codes-3
 mul-codes-3 c = search needs
 
--- src/lib.rt:28:17
 add-codes-2 : tie.Need-add-codes-2
 add-codes-2 c = search needs
 
--- src/lib.rt:28:17
 add-codes-3 : tie.Need-add-codes-3
 add-codes-3 c = search needs
 
--- src/lib.rt:33:17
 add-result : tie.Need-add-result
 add-result c = search needs
 
--- src/lib.rt:33:17
 add-result-2 : tie.Need-add-result-2
 add-result-2 c = search needs
 
--- src/lib.rt:33:16
 cast-result : tie.Need-cast-result
 cast-result c = search needs
 
--- src/lib.rt:33:9
 returns : tie.Need-returns
 unfolding compose
 returns c = simp (eq-eqb _ _ (c .if1 .taken))
 
--- src/lib.rt:35:6
 add-result-3 : tie.Need-add-result-3
 add-result-3 c = search needs
 
--- src/lib.rt:35:5
 cast-result-2 : tie.Need-cast-result-2
 cast-result-2 c = search needs
 
--- src/lib.rt:20:1
 returns-2 : tie.Need-returns-2
 unfolding compose
 returns-2 c = simp (ne-eqb _ _ (c .if1 .left)) (omega arith)

@@ -9,39 +9,30 @@ use Rattle.status.proofs.decompose.Tie as tie
 use Rattle.status.proofs.decompose.Reads as reads
 use Rattle.status.proofs.decompose.Lts as lts
 
--- src/lib.rt:45:18
 mul-t8 : tie.Need-mul-t8
 mul-t8 c = search needs
 
--- src/lib.rt:46:18
 mul-t11 : tie.Need-mul-t11
 mul-t11 c = search needs
 
--- src/lib.rt:49:17
 mul-t14 : tie.Need-mul-t14
 mul-t14 c = search needs
 
--- src/lib.rt:50:17
 mul-t17 : tie.Need-mul-t17
 mul-t17 c = search needs
 
--- src/lib.rt:51:21
 sub-t20 : tie.Need-sub-t20
 sub-t20 c = search needs
 
--- src/lib.rt:52:17
 mul-t23 : tie.Need-mul-t23
 mul-t23 c = search needs
 
--- src/lib.rt:53:17
 mul-t25 : tie.Need-mul-t25
 mul-t25 c = search needs
 
--- src/lib.rt:54:19
 mul-t28 : tie.Need-mul-t28
 mul-t28 c = search needs
 
--- src/lib.rt:40:1
 returns : tie.Need-returns
 unfolding decompose
 returns c = refl

@@ -10,11 +10,9 @@ use Rattle.status.proofs.get_sr.Reads as reads
 use Rattle.status.proofs.get_sr.Lts as lts
 use Rattle.status.proofs.compose.Reads as compose-reads
 
--- src/lib.rt:17:5
 compose-requires : tie.Need-compose-requires
 compose-requires c κs = search needs
 
--- src/lib.rt:14:1
 returns : tie.Need-returns
 unfolding statusOf
 returns c = cc (c .compose .ensures)

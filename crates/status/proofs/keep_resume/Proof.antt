@@ -10,11 +10,9 @@ use Rattle.status.proofs.keep_resume.Reads as reads
 use Rattle.status.proofs.keep_resume.Lts as lts
 use Rattle.status.proofs.get_sr.Reads as get-sr-reads
 
--- src/lib.rt:175:9
 get-sr-requires : tie.Need-get-sr-requires
 get-sr-requires c κs = search needs
 
--- src/lib.rt:172:1
 returns : tie.Need-returns
 unfolding keepResume
 returns c = cc (c .before .before .before .get-sr .ensures)

@@ -8,7 +8,6 @@ use Rattle.status.proofs.m_is_set.Tie as tie
 use Rattle.status.proofs.m_is_set.Reads as reads
 use Rattle.status.proofs.m_is_set.Lts as lts
 
--- src/lib.rt:165:1
 returns : tie.Need-returns
 unfolding mIsSet
 returns c = refl

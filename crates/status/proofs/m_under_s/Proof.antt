@@ -11,20 +11,16 @@ use Rattle.status.proofs.m_under_s.Lts as lts
 use Rattle.status.proofs.m_of.Reads as m-of-reads
 use Rattle.status.proofs.s_of.Reads as s-of-reads
 
--- src/lib.rt:78:8
 s-of-requires : tie.Need-s-of-requires
 s-of-requires c κs = search needs
 
--- src/lib.rt:79:9
 returns : tie.Need-returns
 unfolding mUnderS
 returns c = cc (c .before .s-of .ensures, c .if1 .taken)
 
--- src/lib.rt:81:5
 m-of-requires : tie.Need-m-of-requires
 m-of-requires c κs = search needs
 
--- src/lib.rt:75:1
 returns-2 : tie.Need-returns-2
 unfolding mUnderS
 returns-2 c = rw (← c .before .before .s-of .ensures, ne-eqb _ _ (c .before .if1 .left)) (c .m-of .ensures)

@@ -14,23 +14,18 @@ use Rattle.status.proofs.m_of.Reads as m-of-reads
 use Rattle.status.proofs.s_of.Reads as s-of-reads
 use Rattle.types.proofs.mask_status.Reads as mask-status-reads
 
--- src/lib.rt:99:9
 mask-status-requires : tie.Need-mask-status-requires
 mask-status-requires c κs = search needs
 
--- src/lib.rt:100:39
 s-of-requires : tie.Need-s-of-requires
 s-of-requires c κs = search needs
 
--- src/lib.rt:100:48
 m-of-requires : tie.Need-m-of-requires
 m-of-requires c κs = search needs
 
--- src/lib.rt:100:9
 decompose-requires : tie.Need-decompose-requires
 decompose-requires c κs = search needs
 
--- src/lib.rt:96:1
 returns : tie.Need-returns
 returns c = put-back _ _ _ _ _ _ (c .before .before .before .mask-status .ensures) (c .before .before .s-of .ensures) (c .before .m-of .ensures) (c .decompose .ensures)
 

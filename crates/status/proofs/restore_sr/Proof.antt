@@ -10,11 +10,9 @@ use Rattle.status.proofs.restore_sr.Reads as reads
 use Rattle.status.proofs.restore_sr.Lts as lts
 use Rattle.status.proofs.set_sr_noint_nosp.Reads as set-sr-noint-nosp-reads
 
--- src/lib.rt:110:5
 set-sr-noint-nosp-requires : tie.Need-set-sr-noint-nosp-requires
 set-sr-noint-nosp-requires c κs = search needs
 
--- src/lib.rt:107:1
 returns : tie.Need-returns
 unfolding restoreSr
 returns c = cc (c .set-sr-noint-nosp .ensures)

@@ -9,27 +9,21 @@ use Rattle.status.proofs.set_ccr_internal.Tie as tie
 use Rattle.status.proofs.set_ccr_internal.Reads as reads
 use Rattle.status.proofs.set_ccr_internal.Lts as lts
 
--- src/lib.rt:119:20
 mul-flags : tie.Need-mul-flags
 mul-flags c = search needs
 
--- src/lib.rt:120:20
 mul-flags-2 : tie.Need-mul-flags-2
 mul-flags-2 c = search needs
 
--- src/lib.rt:121:24
 sub-flags : tie.Need-sub-flags
 sub-flags c = search needs
 
--- src/lib.rt:122:20
 mul-flags-3 : tie.Need-mul-flags-3
 mul-flags-3 c = search needs
 
--- src/lib.rt:123:20
 mul-flags-4 : tie.Need-mul-flags-4
 mul-flags-4 c = search needs
 
--- src/lib.rt:114:1
 returns : tie.Need-returns
 unfolding setCcr
 returns c = refl

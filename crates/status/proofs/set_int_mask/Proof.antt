@@ -9,11 +9,9 @@ use Rattle.status.proofs.set_int_mask.Tie as tie
 use Rattle.status.proofs.set_int_mask.Reads as reads
 use Rattle.status.proofs.set_int_mask.Lts as lts
 
--- src/lib.rt:145:13
 mul-n : tie.Need-mul-n
 mul-n c = search needs
 
--- src/lib.rt:142:1
 returns : tie.Need-returns
 unfolding setIntMask
 returns c = refl

@@ -14,23 +14,18 @@ use Rattle.status.proofs.m_under_s.Reads as m-under-s-reads
 use Rattle.status.proofs.s_of.Reads as s-of-reads
 use Rattle.types.proofs.mask_status.Reads as mask-status-reads
 
--- src/lib.rt:88:9
 mask-status-requires : tie.Need-mask-status-requires
 mask-status-requires c κs = search needs
 
--- src/lib.rt:89:39
 s-of-requires : tie.Need-s-of-requires
 s-of-requires c κs = search needs
 
--- src/lib.rt:89:48
 m-under-s-requires : tie.Need-m-under-s-requires
 m-under-s-requires c κs = search needs
 
--- src/lib.rt:89:9
 decompose-requires : tie.Need-decompose-requires
 decompose-requires c κs = search needs
 
--- src/lib.rt:85:1
 returns : tie.Need-returns
 returns c = noint-nosp _ _ _ _ _ _ (c .before .before .before .mask-status .ensures) (c .before .before .s-of .ensures) (c .before .m-under-s .ensures) (c .decompose .ensures)
 

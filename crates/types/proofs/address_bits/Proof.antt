@@ -8,12 +8,10 @@ use Rattle.types.proofs.address_bits.Tie as tie
 use Rattle.types.proofs.address_bits.Reads as reads
 use Rattle.types.proofs.address_bits.Lts as lts
 
--- src/lib.rt:404:9
 returns : tie.Need-returns
 unfolding addressBits
 returns c = simp (lt-ltb _ _ (c .if1 .taken))
 
--- src/lib.rt:400:1
 returns-2 : tie.Need-returns-2
 unfolding addressBits
 returns-2 c = simp (le-ltb _ _ (c .if1 .left))

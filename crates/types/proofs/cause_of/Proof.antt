@@ -8,47 +8,38 @@ use Rattle.types.proofs.cause_of.Tie as tie
 use Rattle.types.proofs.cause_of.Reads as reads
 use Rattle.types.proofs.cause_of.Lts as lts
 
--- src/lib.rt:508:9
 returns : tie.Need-returns
 unfolding causeOf
 returns c = simp (eq-eqb _ _ (c .if1 .taken))
 
--- src/lib.rt:511:9
 returns-2 : tie.Need-returns-2
 unfolding causeOf
 returns-2 c = simp (ne-eqb _ _ (c .before .if1 .left), eq-eqb _ _ (c .if2 .taken))
 
--- src/lib.rt:514:9
 returns-3 : tie.Need-returns-3
 unfolding causeOf
 returns-3 c = simp (ne-eqb _ _ (c .before .before .if1 .left), ne-eqb _ _ (c .before .if2 .left), eq-eqb _ _ (c .if3 .taken))
 
--- src/lib.rt:517:9
 returns-4 : tie.Need-returns-4
 unfolding causeOf
 returns-4 c = simp (ne-eqb _ _ (c .before .before .before .if1 .left), ne-eqb _ _ (c .before .before .if2 .left), ne-eqb _ _ (c .before .if3 .left), eq-eqb _ _ (c .if4 .taken))
 
--- src/lib.rt:520:9
 returns-5 : tie.Need-returns-5
 unfolding causeOf
 returns-5 c = simp (ne-eqb _ _ (c .before .before .before .before .if1 .left), ne-eqb _ _ (c .before .before .before .if2 .left), ne-eqb _ _ (c .before .before .if3 .left), ne-eqb _ _ (c .before .if4 .left), eq-eqb _ _ (c .if5 .taken))
 
--- src/lib.rt:523:9
 returns-6 : tie.Need-returns-6
 unfolding causeOf
 returns-6 c = simp (ne-eqb _ _ (c .before .before .before .before .before .if1 .left), ne-eqb _ _ (c .before .before .before .before .if2 .left), ne-eqb _ _ (c .before .before .before .if3 .left), ne-eqb _ _ (c .before .before .if4 .left), ne-eqb _ _ (c .before .if5 .left), eq-eqb _ _ (c .if6 .taken))
 
--- src/lib.rt:526:9
 returns-7 : tie.Need-returns-7
 unfolding causeOf
 returns-7 c = simp (ne-eqb _ _ (c .before .before .before .before .before .before .if1 .left), ne-eqb _ _ (c .before .before .before .before .before .if2 .left), ne-eqb _ _ (c .before .before .before .before .if3 .left), ne-eqb _ _ (c .before .before .before .if4 .left), ne-eqb _ _ (c .before .before .if5 .left), ne-eqb _ _ (c .before .if6 .left), eq-eqb _ _ (c .if7 .taken))
 
--- src/lib.rt:529:9
 returns-8 : tie.Need-returns-8
 unfolding causeOf
 returns-8 c = simp (ne-eqb _ _ (c .before .before .before .before .before .before .before .if1 .left), ne-eqb _ _ (c .before .before .before .before .before .before .if2 .left), ne-eqb _ _ (c .before .before .before .before .before .if3 .left), ne-eqb _ _ (c .before .before .before .before .if4 .left), ne-eqb _ _ (c .before .before .before .if5 .left), ne-eqb _ _ (c .before .before .if6 .left), ne-eqb _ _ (c .before .if7 .left), eq-eqb _ _ (c .if8 .taken))
 
--- src/lib.rt:504:1
 returns-9 : tie.Need-returns-9
 unfolding causeOf
 returns-9 c = simp (ne-eqb _ _ (c .before .before .before .before .before .before .before .if1 .left), ne-eqb _ _ (c .before .before .before .before .before .before .if2 .left), ne-eqb _ _ (c .before .before .before .before .before .if3 .left), ne-eqb _ _ (c .before .before .before .before .if4 .left), ne-eqb _ _ (c .before .before .before .if5 .left), ne-eqb _ _ (c .before .before .if6 .left), ne-eqb _ _ (c .before .if7 .left), ne-eqb _ _ (c .if8 .left))

@@ -8,17 +8,14 @@ use Rattle.types.proofs.has_m.Tie as tie
 use Rattle.types.proofs.has_m.Reads as reads
 use Rattle.types.proofs.has_m.Lts as lts
 
--- src/lib.rt:439:9
 returns : tie.Need-returns
 unfolding hasM
 returns c = simp (lt-ltb _ _ (c .if1 .taken))
 
--- src/lib.rt:442:9
 returns-2 : tie.Need-returns-2
 unfolding hasM
 returns-2 c = cc
 
--- src/lib.rt:435:1
 returns-3 : tie.Need-returns-3
 unfolding hasM
 returns-3 c = simp (le-ltb _ _ (c .before .if1 .left), ne-eqb _ _ (c .if2 .left))

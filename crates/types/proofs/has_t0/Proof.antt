@@ -8,22 +8,18 @@ use Rattle.types.proofs.has_t0.Tie as tie
 use Rattle.types.proofs.has_t0.Reads as reads
 use Rattle.types.proofs.has_t0.Lts as lts
 
--- src/lib.rt:423:9
 returns : tie.Need-returns
 unfolding hasT0
 returns c = simp (lt-ltb _ _ (c .if1 .taken))
 
--- src/lib.rt:426:9
 returns-2 : tie.Need-returns-2
 unfolding hasT0
 returns-2 c = cc
 
--- src/lib.rt:429:9
 returns-3 : tie.Need-returns-3
 unfolding hasT0
 returns-3 c = cc
 
--- src/lib.rt:419:1
 returns-4 : tie.Need-returns-4
 unfolding hasT0
 returns-4 c = simp (le-ltb _ _ (c .before .before .if1 .left), ne-eqb _ _ (c .before .if2 .left), ne-eqb _ _ (c .if3 .left))

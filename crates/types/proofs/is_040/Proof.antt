@@ -8,12 +8,10 @@ use Rattle.types.proofs.is_040.Tie as tie
 use Rattle.types.proofs.is_040.Reads as reads
 use Rattle.types.proofs.is_040.Lts as lts
 
--- src/lib.rt:369:1
 returns : tie.Need-returns
 unfolding is040
 returns c = simp (le-leb _ _ (c .if1 .taken))
 
--- src/lib.rt:369:1
 returns-2 : tie.Need-returns-2
 unfolding is040
 returns-2 c = simp (lt-leb _ _ (c .if1 .left))

@@ -8,7 +8,6 @@ use Rattle.types.proofs.is_060.Tie as tie
 use Rattle.types.proofs.is_060.Reads as reads
 use Rattle.types.proofs.is_060.Lts as lts
 
--- src/lib.rt:375:1
 returns : tie.Need-returns
 unfolding is060
 returns c = refl

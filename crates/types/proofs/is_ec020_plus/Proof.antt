@@ -8,12 +8,10 @@ use Rattle.types.proofs.is_ec020_plus.Tie as tie
 use Rattle.types.proofs.is_ec020_plus.Reads as reads
 use Rattle.types.proofs.is_ec020_plus.Lts as lts
 
--- src/lib.rt:387:1
 returns : tie.Need-returns
 unfolding isEc020Plus
 returns c = simp (le-leb _ _ (c .if1 .taken))
 
--- src/lib.rt:387:1
 returns-2 : tie.Need-returns-2
 unfolding isEc020Plus
 returns-2 c = simp (lt-leb _ _ (c .if1 .left))

@@ -8,17 +8,14 @@ use Rattle.types.proofs.is_pre_68020.Tie as tie
 use Rattle.types.proofs.is_pre_68020.Reads as reads
 use Rattle.types.proofs.is_pre_68020.Lts as lts
 
--- src/lib.rt:385:9
 returns : tie.Need-returns
 unfolding isPre68020
 returns c = cc
 
--- src/lib.rt:388:9
 returns-2 : tie.Need-returns-2
 unfolding isPre68020
 returns-2 c = cc
 
--- src/lib.rt:381:1
 returns-3 : tie.Need-returns-3
 unfolding isPre68020
 returns-3 c = simp (ne-eqb _ _ (c .before .if1 .left), ne-eqb _ _ (c .if2 .left))

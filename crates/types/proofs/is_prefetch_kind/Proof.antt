@@ -8,12 +8,10 @@ use Rattle.types.proofs.is_prefetch_kind.Tie as tie
 use Rattle.types.proofs.is_prefetch_kind.Reads as reads
 use Rattle.types.proofs.is_prefetch_kind.Lts as lts
 
--- src/lib.rt:403:9
 returns : tie.Need-returns
 unfolding isPrefetchKind
 returns c = cc
 
--- src/lib.rt:399:1
 returns-2 : tie.Need-returns-2
 unfolding isPrefetchKind
 returns-2 c = simp (ne-eqb _ _ (c .if1 .left))

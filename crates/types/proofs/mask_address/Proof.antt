@@ -8,12 +8,10 @@ use Rattle.types.proofs.mask_address.Tie as tie
 use Rattle.types.proofs.mask_address.Reads as reads
 use Rattle.types.proofs.mask_address.Lts as lts
 
--- src/lib.rt:413:9
 returns : tie.Need-returns
 unfolding maskAddress
 returns c = simp (lt-ltb _ _ (c .if1 .taken))
 
--- src/lib.rt:409:1
 returns-2 : tie.Need-returns-2
 unfolding maskAddress
 returns-2 c = simp (le-ltb _ _ (c .if1 .left))

@@ -12,63 +12,48 @@ use Rattle.types.proofs.has_m.Reads as has-m-reads
 use Rattle.types.proofs.has_t0.Reads as has-t0-reads
 use Rattle.types.proofs.kept.Reads as kept-reads
 
--- src/lib.rt:482:19
 has-t0-requires : tie.Need-has-t0-requires
 has-t0-requires c κs = search needs
 
--- src/lib.rt:482:33
 mul-kept : tie.Need-mul-kept
 mul-kept c = search needs
 
--- src/lib.rt:482:9
 kept-requires : tie.Need-kept-requires
 kept-requires c κs = search needs
 
--- src/lib.rt:483:18
 has-m-requires : tie.Need-has-m-requires
 has-m-requires c κs = search needs
 
--- src/lib.rt:483:31
 mul-kept-2 : tie.Need-mul-kept-2
 mul-kept-2 c = search needs
 
--- src/lib.rt:483:9
 kept-requires-2 : tie.Need-kept-requires-2
 kept-requires-2 c κs = search needs
 
--- src/lib.rt:484:5
 mul-result : tie.Need-mul-result
 mul-result c = search needs
 
--- src/lib.rt:484:5
 add-result : tie.Need-add-result
 add-result c = search needs
 
--- src/lib.rt:484:34
 mul-result-2 : tie.Need-mul-result-2
 mul-result-2 c = search needs
 
--- src/lib.rt:484:5
 add-result-2 : tie.Need-add-result-2
 add-result-2 c = search needs
 
--- src/lib.rt:484:5
 add-result-3 : tie.Need-add-result-3
 add-result-3 c = search needs
 
--- src/lib.rt:484:60
 mul-result-3 : tie.Need-mul-result-3
 mul-result-3 c = search needs
 
--- src/lib.rt:484:5
 add-result-4 : tie.Need-add-result-4
 add-result-4 c = search needs
 
--- src/lib.rt:484:5
 add-result-5 : tie.Need-add-result-5
 add-result-5 c = search needs
 
--- src/lib.rt:479:1
 returns : tie.Need-returns
 unfolding maskStatus
 returns c = cc

@@ -11,25 +11,20 @@ use Rattle.types.proofs.sr_mask.Lts as lts
 use Rattle.types.proofs.has_m.Reads as has-m-reads
 use Rattle.types.proofs.has_t0.Reads as has-t0-reads
 
--- src/lib.rt:450:8
 has-m-requires : tie.Need-has-m-requires
 has-m-requires c κs = search needs
 
--- src/lib.rt:451:12
 has-t0-requires : tie.Need-has-t0-requires
 has-t0-requires c κs = search needs
 
--- src/lib.rt:452:13
 returns : tie.Need-returns
 unfolding statusMask
 returns c = cc
 
--- src/lib.rt:454:9
 returns-2 : tie.Need-returns-2
 unfolding statusMask
 returns-2 c = cc
 
--- src/lib.rt:447:1
 returns-3 : tie.Need-returns-3
 unfolding statusMask
 returns-3 c = cc

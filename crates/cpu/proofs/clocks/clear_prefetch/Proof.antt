@@ -8,7 +8,6 @@ use Rattle.cpu.proofs.clocks.clear_prefetch.Tie as tie
 use Rattle.cpu.proofs.clocks.clear_prefetch.Reads as reads
 use Rattle.cpu.proofs.clocks.clear_prefetch.Lts as lts
 
--- src/clocks.rt:60:1
 returns : tie.Need-returns
 unfolding clearPrefetch
 returns c = refl

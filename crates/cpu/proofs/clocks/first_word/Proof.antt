@@ -9,11 +9,9 @@ use Rattle.cpu.proofs.clocks.first_word.Tie as tie
 use Rattle.cpu.proofs.clocks.first_word.Reads as reads
 use Rattle.cpu.proofs.clocks.first_word.Lts as lts
 
--- src/clocks.rt:75:5
 element-write-queue : tie.Need-element-write-queue
 element-write-queue c = search needs
 
--- src/clocks.rt:71:1
 returns : tie.Need-returns
 unfolding firstWord
 returns c = refl

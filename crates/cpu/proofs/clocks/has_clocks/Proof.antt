@@ -8,7 +8,6 @@ use Rattle.cpu.proofs.clocks.has_clocks.Tie as tie
 use Rattle.cpu.proofs.clocks.has_clocks.Reads as reads
 use Rattle.cpu.proofs.clocks.has_clocks.Lts as lts
 
--- src/clocks.rt:7:1
 returns : tie.Need-returns
 unfolding hasClocks
 returns c = refl

@@ -14,27 +14,21 @@ use Rattle.cpu.proofs.clocks.prefetch_enabled.Reads as prefetch-enabled
 use Rattle.cpu.proofs.clocks.set_clocks.Reads as set-clocks-reads
 use Rattle.std.proofs.num.wrapping_add_u32.Reads as wrapping-add-u32-reads
 
--- src/clocks.rt:41:8
 prefetch-enabled-requires : tie.Need-prefetch-enabled-requires
 prefetch-enabled-requires c κs = search needs
 
--- src/clocks.rt:42:48
 pending-clocks-requires : tie.Need-pending-clocks-requires
 pending-clocks-requires c κs = search needs
 
--- src/clocks.rt:42:13
 wrapping-add-u32-requires : tie.Need-wrapping-add-u32-requires
 wrapping-add-u32-requires c κs = search needs
 
--- src/clocks.rt:43:9
 set-clocks-requires : tie.Need-set-clocks-requires
 set-clocks-requires c κs = search needs
 
--- src/clocks.rt:43:9
 returns : tie.Need-returns
 returns c = cycles-added _ _ _ _ _ _ (c .before .before .before .before .prefetch-enabled .ensures) (c .before .before .before .if1 .taken) (c .before .before .pending-clocks .ensures) (c .before .wrapping-add-u32 .ensures) (c .set-clocks .ensures)
 
--- src/clocks.rt:38:1
 returns-2 : tie.Need-returns-2
 unfolding internalCycles
 returns-2 c = simp (sym (c .before .prefetch-enabled .ensures) ∙ c .if1 .left)

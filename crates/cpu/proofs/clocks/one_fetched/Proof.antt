@@ -8,7 +8,6 @@ use Rattle.cpu.proofs.clocks.one_fetched.Tie as tie
 use Rattle.cpu.proofs.clocks.one_fetched.Reads as reads
 use Rattle.cpu.proofs.clocks.one_fetched.Lts as lts
 
--- src/clocks.rt:21:1
 returns : tie.Need-returns
 unfolding oneFetched
 returns c = refl

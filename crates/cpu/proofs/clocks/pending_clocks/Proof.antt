@@ -8,7 +8,6 @@ use Rattle.cpu.proofs.clocks.pending_clocks.Tie as tie
 use Rattle.cpu.proofs.clocks.pending_clocks.Reads as reads
 use Rattle.cpu.proofs.clocks.pending_clocks.Lts as lts
 
--- src/clocks.rt:14:1
 returns : tie.Need-returns
 unfolding clocksOf
 returns c = refl

@@ -10,16 +10,13 @@ use Rattle.cpu.proofs.clocks.prefetch_enabled.Reads as reads
 use Rattle.cpu.proofs.clocks.prefetch_enabled.Lts as lts
 use Rattle.types.proofs.is_prefetch_kind.Reads as is-prefetch-kind-reads
 
--- src/clocks.rt:32:9
 is-prefetch-kind-requires : tie.Need-is-prefetch-kind-requires
 is-prefetch-kind-requires c κs = search needs
 
--- src/clocks.rt:32:9
 returns : tie.Need-returns
 unfolding prefetchEnabled
 returns c = cc (c .before .if1 .taken, c .is-prefetch-kind .ensures)
 
--- src/clocks.rt:28:1
 returns-2 : tie.Need-returns-2
 unfolding prefetchEnabled
 returns-2 c = simp (c .if1 .left)

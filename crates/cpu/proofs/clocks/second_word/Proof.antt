@@ -9,11 +9,9 @@ use Rattle.cpu.proofs.clocks.second_word.Tie as tie
 use Rattle.cpu.proofs.clocks.second_word.Reads as reads
 use Rattle.cpu.proofs.clocks.second_word.Lts as lts
 
--- src/clocks.rt:87:5
 element-write-queue : tie.Need-element-write-queue
 element-write-queue c = search needs
 
--- src/clocks.rt:83:1
 returns : tie.Need-returns
 unfolding secondWord
 returns c = refl

@@ -8,7 +8,6 @@ use Rattle.cpu.proofs.clocks.set_clocks.Tie as tie
 use Rattle.cpu.proofs.clocks.set_clocks.Reads as reads
 use Rattle.cpu.proofs.clocks.set_clocks.Lts as lts
 
--- src/clocks.rt:49:1
 returns : tie.Need-returns
 unfolding setClocks
 returns c = refl

@@ -9,11 +9,9 @@ use Rattle.cpu.proofs.fields.a7.Tie as tie
 use Rattle.cpu.proofs.fields.a7.Reads as reads
 use Rattle.cpu.proofs.fields.a7.Lts as lts
 
--- src/fields.rt:48:5
 element-copy-out-result : tie.Need-element-copy-out-result
 element-copy-out-result c = search needs
 
--- src/fields.rt:44:1
 returns : tie.Need-returns
 unfolding a7Of
 returns c = refl

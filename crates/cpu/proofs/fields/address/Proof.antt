@@ -10,11 +10,9 @@ use Rattle.cpu.proofs.fields.address.Reads as reads
 use Rattle.cpu.proofs.fields.address.Lts as lts
 use Rattle.types.proofs.mask_address.Reads as mask-address-reads
 
--- src/fields.rt:56:5
 mask-address-requires : tie.Need-mask-address-requires
 mask-address-requires c κs = search needs
 
--- src/fields.rt:52:1
 returns : tie.Need-returns
 unfolding addressOf
 returns c = cc (c .mask-address .ensures)

@@ -10,11 +10,9 @@ use Rattle.cpu.proofs.fields.aligned_kind.Reads as reads
 use Rattle.cpu.proofs.fields.aligned_kind.Lts as lts
 use Rattle.types.proofs.is_pre_68020.Reads as is-pre-68020-reads
 
--- src/fields.rt:78:5
 is-pre-68020-requires : tie.Need-is-pre-68020-requires
 is-pre-68020-requires c κs = search needs
 
--- src/fields.rt:74:1
 returns : tie.Need-returns
 unfolding checksAlignment
 returns c = cc (c .is-pre-68020 .ensures)

@@ -8,7 +8,6 @@ use Rattle.cpu.proofs.fields.clear_cause.Tie as tie
 use Rattle.cpu.proofs.fields.clear_cause.Reads as reads
 use Rattle.cpu.proofs.fields.clear_cause.Lts as lts
 
--- src/fields.rt:224:1
 returns : tie.Need-returns
 unfolding clearCause
 returns c = refl

@@ -8,7 +8,6 @@ use Rattle.cpu.proofs.fields.clear_stopped.Tie as tie
 use Rattle.cpu.proofs.fields.clear_stopped.Reads as reads
 use Rattle.cpu.proofs.fields.clear_stopped.Lts as lts
 
--- src/fields.rt:179:1
 returns : tie.Need-returns
 unfolding clearStopped
 returns c = refl

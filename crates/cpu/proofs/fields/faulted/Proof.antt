@@ -8,7 +8,6 @@ use Rattle.cpu.proofs.fields.faulted.Tie as tie
 use Rattle.cpu.proofs.fields.faulted.Reads as reads
 use Rattle.cpu.proofs.fields.faulted.Lts as lts
 
--- src/fields.rt:60:1
 returns : tie.Need-returns
 unfolding isFaulted
 returns c = refl

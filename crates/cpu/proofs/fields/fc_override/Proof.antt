@@ -8,7 +8,6 @@ use Rattle.cpu.proofs.fields.fc_override.Tie as tie
 use Rattle.cpu.proofs.fields.fc_override.Reads as reads
 use Rattle.cpu.proofs.fields.fc_override.Lts as lts
 
--- src/fields.rt:104:1
 returns : tie.Need-returns
 unfolding fcOverrideOf
 returns c = refl

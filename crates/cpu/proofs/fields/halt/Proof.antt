@@ -8,7 +8,6 @@ use Rattle.cpu.proofs.fields.halt.Tie as tie
 use Rattle.cpu.proofs.fields.halt.Reads as reads
 use Rattle.cpu.proofs.fields.halt.Lts as lts
 
--- src/fields.rt:156:1
 returns : tie.Need-returns
 unfolding halted
 returns c = refl

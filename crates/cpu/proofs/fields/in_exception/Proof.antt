@@ -8,7 +8,6 @@ use Rattle.cpu.proofs.fields.in_exception.Tie as tie
 use Rattle.cpu.proofs.fields.in_exception.Reads as reads
 use Rattle.cpu.proofs.fields.in_exception.Lts as lts
 
--- src/fields.rt:67:1
 returns : tie.Need-returns
 unfolding inException
 returns c = refl

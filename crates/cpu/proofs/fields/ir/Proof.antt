@@ -8,7 +8,6 @@ use Rattle.cpu.proofs.fields.ir.Tie as tie
 use Rattle.cpu.proofs.fields.ir.Reads as reads
 use Rattle.cpu.proofs.fields.ir.Lts as lts
 
--- src/fields.rt:37:1
 returns : tie.Need-returns
 unfolding irOf
 returns c = refl

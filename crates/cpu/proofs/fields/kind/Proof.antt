@@ -8,7 +8,6 @@ use Rattle.cpu.proofs.fields.kind.Tie as tie
 use Rattle.cpu.proofs.fields.kind.Reads as reads
 use Rattle.cpu.proofs.fields.kind.Lts as lts
 
--- src/fields.rt:9:1
 returns : tie.Need-returns
 unfolding kindOf
 returns c = refl

@@ -9,11 +9,9 @@ use Rattle.cpu.proofs.fields.leave_stop.Tie as tie
 use Rattle.cpu.proofs.fields.leave_stop.Reads as reads
 use Rattle.cpu.proofs.fields.leave_stop.Lts as lts
 
--- src/fields.rt:194:20
 sub-flow : tie.Need-sub-flow
 sub-flow c = search needs
 
--- src/fields.rt:190:1
 returns : tie.Need-returns
 unfolding leaveStop
 returns c = refl

@@ -12,19 +12,15 @@ use Rattle.cpu.proofs.fields.a7.Reads as a7-reads
 use Rattle.cpu.proofs.fields.minus.Reads as minus-reads
 use Rattle.cpu.proofs.fields.set_a7.Reads as set-a7-reads
 
--- src/fields.rt:276:9
 a7-requires : tie.Need-a7-requires
 a7-requires c κs = search needs
 
--- src/fields.rt:277:15
 minus-requires : tie.Need-minus-requires
 minus-requires c κs = search needs
 
--- src/fields.rt:277:5
 set-a7-requires : tie.Need-set-a7-requires
 set-a7-requires c κs = search needs
 
--- src/fields.rt:273:1
 returns : tie.Need-returns
 unfolding lowerA7
 returns c = cc (c .before .before .a7 .ensures, c .before .minus .ensures, c .set-a7 .ensures)

@@ -10,11 +10,9 @@ use Rattle.cpu.proofs.fields.minus.Reads as reads
 use Rattle.cpu.proofs.fields.minus.Lts as lts
 use Rattle.std.proofs.num.wrapping_sub_u32.Reads as wrapping-sub-u32-reads
 
--- src/fields.rt:284:5
 wrapping-sub-u32-requires : tie.Need-wrapping-sub-u32-requires
 wrapping-sub-u32-requires c κs = search needs
 
--- src/fields.rt:281:1
 returns : tie.Need-returns
 unfolding minus32
 returns c = search needs

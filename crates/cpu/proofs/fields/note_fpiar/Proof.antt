@@ -8,7 +8,6 @@ use Rattle.cpu.proofs.fields.note_fpiar.Tie as tie
 use Rattle.cpu.proofs.fields.note_fpiar.Reads as reads
 use Rattle.cpu.proofs.fields.note_fpiar.Lts as lts
 
--- src/fields.rt:145:1
 returns : tie.Need-returns
 unfolding noteFpiar
 returns c = refl

@@ -10,11 +10,9 @@ use Rattle.cpu.proofs.fields.odd_pc.Reads as reads
 use Rattle.cpu.proofs.fields.odd_pc.Lts as lts
 use Rattle.cpu.proofs.fields.pc.Reads as pc-reads
 
--- src/fields.rt:291:5
 pc-requires : tie.Need-pc-requires
 pc-requires c κs = search needs
 
--- src/fields.rt:288:1
 returns : tie.Need-returns
 unfolding oddPc
 returns c = cc (c .pc .ensures)

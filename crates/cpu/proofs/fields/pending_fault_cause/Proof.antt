@@ -8,7 +8,6 @@ use Rattle.cpu.proofs.fields.pending_fault_cause.Tie as tie
 use Rattle.cpu.proofs.fields.pending_fault_cause.Reads as reads
 use Rattle.cpu.proofs.fields.pending_fault_cause.Lts as lts
 
--- src/fields.rt:89:1
 returns : tie.Need-returns
 unfolding causeNumberOf
 returns c = refl

@@ -8,7 +8,6 @@ use Rattle.cpu.proofs.fields.pending_fault_wdata.Tie as tie
 use Rattle.cpu.proofs.fields.pending_fault_wdata.Reads as reads
 use Rattle.cpu.proofs.fields.pending_fault_wdata.Lts as lts
 
--- src/fields.rt:82:1
 returns : tie.Need-returns
 unfolding wdataOf
 returns c = refl

@@ -8,7 +8,6 @@ use Rattle.cpu.proofs.fields.ppc.Tie as tie
 use Rattle.cpu.proofs.fields.ppc.Reads as reads
 use Rattle.cpu.proofs.fields.ppc.Lts as lts
 
--- src/fields.rt:23:1
 returns : tie.Need-returns
 unfolding ppcOf
 returns c = refl

@@ -8,7 +8,6 @@ use Rattle.cpu.proofs.fields.restore_registers.Tie as tie
 use Rattle.cpu.proofs.fields.restore_registers.Reads as reads
 use Rattle.cpu.proofs.fields.restore_registers.Lts as lts
 
--- src/fields.rt:201:1
 returns : tie.Need-returns
 unfolding restoreRegisters
 returns c = refl

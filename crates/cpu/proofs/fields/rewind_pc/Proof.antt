@@ -8,7 +8,6 @@ use Rattle.cpu.proofs.fields.rewind_pc.Tie as tie
 use Rattle.cpu.proofs.fields.rewind_pc.Reads as reads
 use Rattle.cpu.proofs.fields.rewind_pc.Lts as lts
 
--- src/fields.rt:134:1
 returns : tie.Need-returns
 unfolding rewindPc
 returns c = refl

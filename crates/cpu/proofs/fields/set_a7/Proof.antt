@@ -9,11 +9,9 @@ use Rattle.cpu.proofs.fields.set_a7.Tie as tie
 use Rattle.cpu.proofs.fields.set_a7.Reads as reads
 use Rattle.cpu.proofs.fields.set_a7.Lts as lts
 
--- src/fields.rt:116:5
 element-write-regs : tie.Need-element-write-regs
 element-write-regs c = search needs
 
--- src/fields.rt:112:1
 returns : tie.Need-returns
 unfolding setA7
 returns c = refl

@@ -8,7 +8,6 @@ use Rattle.cpu.proofs.fields.set_exception.Tie as tie
 use Rattle.cpu.proofs.fields.set_exception.Reads as reads
 use Rattle.cpu.proofs.fields.set_exception.Lts as lts
 
--- src/fields.rt:168:1
 returns : tie.Need-returns
 unfolding setException
 returns c = refl

@@ -8,7 +8,6 @@ use Rattle.cpu.proofs.fields.set_pc.Tie as tie
 use Rattle.cpu.proofs.fields.set_pc.Reads as reads
 use Rattle.cpu.proofs.fields.set_pc.Lts as lts
 
--- src/fields.rt:123:1
 returns : tie.Need-returns
 unfolding setPc
 returns c = refl

@@ -8,7 +8,6 @@ use Rattle.cpu.proofs.fields.set_wdata.Tie as tie
 use Rattle.cpu.proofs.fields.set_wdata.Reads as reads
 use Rattle.cpu.proofs.fields.set_wdata.Lts as lts
 
--- src/fields.rt:213:1
 returns : tie.Need-returns
 unfolding setWdata
 returns c = refl

@@ -8,7 +8,6 @@ use Rattle.cpu.proofs.fields.start_vector.Tie as tie
 use Rattle.cpu.proofs.fields.start_vector.Reads as reads
 use Rattle.cpu.proofs.fields.start_vector.Lts as lts
 
--- src/fields.rt:250:1
 returns : tie.Need-returns
 unfolding startVector
 returns c = refl

@@ -8,7 +8,6 @@ use Rattle.cpu.proofs.fields.vbr.Tie as tie
 use Rattle.cpu.proofs.fields.vbr.Reads as reads
 use Rattle.cpu.proofs.fields.vbr.Lts as lts
 
--- src/fields.rt:30:1
 returns : tie.Need-returns
 unfolding vbrOf
 returns c = refl

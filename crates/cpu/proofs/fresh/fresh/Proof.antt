@@ -15,31 +15,24 @@ use Rattle.cpu.proofs.fresh.fresh_queue.Reads as fresh-queue-reads
 use Rattle.cpu.proofs.fresh.fresh_regs.Reads as fresh-regs-reads
 use Rattle.cpu.proofs.fresh.fresh_resume.Reads as fresh-resume-reads
 
--- src/fresh.rt:19:15
 fresh-regs-requires : tie.Need-fresh-regs-requires
 fresh-regs-requires c κs = search needs
 
--- src/fresh.rt:20:15
 fresh-flow-requires : tie.Need-fresh-flow-requires
 fresh-flow-requires c κs = search needs
 
--- src/fresh.rt:21:16
 fresh-flags-requires : tie.Need-fresh-flags-requires
 fresh-flags-requires c κs = search needs
 
--- src/fresh.rt:22:16
 fresh-queue-requires : tie.Need-fresh-queue-requires
 fresh-queue-requires c κs = search needs
 
--- src/fresh.rt:23:16
 fresh-fault-requires : tie.Need-fresh-fault-requires
 fresh-fault-requires c κs = search needs
 
--- src/fresh.rt:24:23
 fresh-resume-requires : tie.Need-fresh-resume-requires
 fresh-resume-requires c κs = search needs
 
--- src/fresh.rt:15:1
 returns : tie.Need-returns
 unfolding freshCpu
 returns c = cc (c .before .before .before .before .before .fresh-regs .ensures, c .before .before .before .before .fresh-flow .ensures, c .before .before .before .fresh-flags .ensures, c .before .before .fresh-queue .ensures, c .before .fresh-fault .ensures, c .fresh-resume .ensures)

@@ -8,7 +8,6 @@ use Rattle.cpu.proofs.fresh.fresh_fault.Tie as tie
 use Rattle.cpu.proofs.fresh.fresh_fault.Reads as reads
 use Rattle.cpu.proofs.fresh.fresh_fault.Lts as lts
 
--- src/fresh.rt:88:1
 returns : tie.Need-returns
 unfolding freshFault
 returns c = refl

@@ -8,7 +8,6 @@ use Rattle.cpu.proofs.fresh.fresh_flags.Tie as tie
 use Rattle.cpu.proofs.fresh.fresh_flags.Reads as reads
 use Rattle.cpu.proofs.fresh.fresh_flags.Lts as lts
 
--- src/fresh.rt:58:1
 returns : tie.Need-returns
 unfolding freshFlags
 returns c = refl

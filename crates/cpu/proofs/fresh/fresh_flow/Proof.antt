@@ -8,7 +8,6 @@ use Rattle.cpu.proofs.fresh.fresh_flow.Tie as tie
 use Rattle.cpu.proofs.fresh.fresh_flow.Reads as reads
 use Rattle.cpu.proofs.fresh.fresh_flow.Lts as lts
 
--- src/fresh.rt:38:1
 returns : tie.Need-returns
 unfolding freshFlow
 returns c = refl

@@ -8,7 +8,6 @@ use Rattle.cpu.proofs.fresh.fresh_queue.Tie as tie
 use Rattle.cpu.proofs.fresh.fresh_queue.Reads as reads
 use Rattle.cpu.proofs.fresh.fresh_queue.Lts as lts
 
--- src/fresh.rt:77:1
 returns : tie.Need-returns
 unfolding freshQueue
 returns c = refl

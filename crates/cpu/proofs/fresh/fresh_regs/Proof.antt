@@ -8,7 +8,6 @@ use Rattle.cpu.proofs.fresh.fresh_regs.Tie as tie
 use Rattle.cpu.proofs.fresh.fresh_regs.Reads as reads
 use Rattle.cpu.proofs.fresh.fresh_regs.Lts as lts
 
--- src/fresh.rt:28:1
 returns : tie.Need-returns
 unfolding freshRegs
 returns c = refl

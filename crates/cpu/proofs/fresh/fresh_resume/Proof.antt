@@ -8,7 +8,6 @@ use Rattle.cpu.proofs.fresh.fresh_resume.Tie as tie
 use Rattle.cpu.proofs.fresh.fresh_resume.Reads as reads
 use Rattle.cpu.proofs.fresh.fresh_resume.Lts as lts
 
--- src/fresh.rt:109:1
 returns : tie.Need-returns
 unfolding freshResume
 returns c = refl

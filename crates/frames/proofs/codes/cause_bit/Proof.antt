@@ -8,47 +8,38 @@ use Rattle.frames.proofs.codes.cause_bit.Tie as tie
 use Rattle.frames.proofs.codes.cause_bit.Reads as reads
 use Rattle.frames.proofs.codes.cause_bit.Lts as lts
 
--- src/codes.rt:138:9
 returns : tie.Need-returns
 unfolding causeBit
 returns c = (simp (eq-eqb _ _ (c .if1 .taken)), omega arith)
 
--- src/codes.rt:141:9
 returns-2 : tie.Need-returns-2
 unfolding causeBit
 returns-2 c = (simp (ne-eqb _ _ (c .before .if1 .left), eq-eqb _ _ (c .if2 .taken)), omega arith)
 
--- src/codes.rt:144:9
 returns-3 : tie.Need-returns-3
 unfolding causeBit
 returns-3 c = (simp (ne-eqb _ _ (c .before .before .if1 .left), ne-eqb _ _ (c .before .if2 .left), eq-eqb _ _ (c .if3 .taken)), omega arith)
 
--- src/codes.rt:147:9
 returns-4 : tie.Need-returns-4
 unfolding causeBit
 returns-4 c = (simp (ne-eqb _ _ (c .before .before .before .if1 .left), ne-eqb _ _ (c .before .before .if2 .left), ne-eqb _ _ (c .before .if3 .left), eq-eqb _ _ (c .if4 .taken)), omega arith)
 
--- src/codes.rt:150:9
 returns-5 : tie.Need-returns-5
 unfolding causeBit
 returns-5 c = (simp (ne-eqb _ _ (c .before .before .before .before .if1 .left), ne-eqb _ _ (c .before .before .before .if2 .left), ne-eqb _ _ (c .before .before .if3 .left), ne-eqb _ _ (c .before .if4 .left), eq-eqb _ _ (c .if5 .taken)), omega arith)
 
--- src/codes.rt:153:9
 returns-6 : tie.Need-returns-6
 unfolding causeBit
 returns-6 c = (simp (ne-eqb _ _ (c .before .before .before .before .before .if1 .left), ne-eqb _ _ (c .before .before .before .before .if2 .left), ne-eqb _ _ (c .before .before .before .if3 .left), ne-eqb _ _ (c .before .before .if4 .left), ne-eqb _ _ (c .before .if5 .left), eq-eqb _ _ (c .if6 .taken)), omega arith)
 
--- src/codes.rt:156:9
 returns-7 : tie.Need-returns-7
 unfolding causeBit
 returns-7 c = (simp (ne-eqb _ _ (c .before .before .before .before .before .before .if1 .left), ne-eqb _ _ (c .before .before .before .before .before .if2 .left), ne-eqb _ _ (c .before .before .before .before .if3 .left), ne-eqb _ _ (c .before .before .before .if4 .left), ne-eqb _ _ (c .before .before .if5 .left), ne-eqb _ _ (c .before .if6 .left), eq-eqb _ _ (c .if7 .taken)), omega arith)
 
--- src/codes.rt:159:9
 returns-8 : tie.Need-returns-8
 unfolding causeBit
 returns-8 c = (simp (ne-eqb _ _ (c .before .before .before .before .before .before .before .if1 .left), ne-eqb _ _ (c .before .before .before .before .before .before .if2 .left), ne-eqb _ _ (c .before .before .before .before .before .if3 .left), ne-eqb _ _ (c .before .before .before .before .if4 .left), ne-eqb _ _ (c .before .before .before .if5 .left), ne-eqb _ _ (c .before .before .if6 .left), ne-eqb _ _ (c .before .if7 .left), c .if8 .taken), omega arith)
 
--- src/codes.rt:134:1
 returns-9 : tie.Need-returns-9
 unfolding causeBit
 returns-9 c = (simp (ne-eqb _ _ (c .before .before .before .before .before .before .before .if1 .left), ne-eqb _ _ (c .before .before .before .before .before .before .if2 .left), ne-eqb _ _ (c .before .before .before .before .before .if3 .left), ne-eqb _ _ (c .before .before .before .before .if4 .left), ne-eqb _ _ (c .before .before .before .if5 .left), ne-eqb _ _ (c .before .before .if6 .left), ne-eqb _ _ (c .before .if7 .left), c .if8 .left), omega arith)

@@ -12,28 +12,22 @@ use Rattle.cpu.proofs.fields.fc_override.Reads as fc-override-reads
 use Rattle.cpu.proofs.fields.has_fc_override.Reads as has-fc-override-reads
 use Rattle.frames.proofs.codes.state_code.Reads as state-code-reads
 
--- src/codes.rt:60:8
 has-fc-override-requires : tie.Need-has-fc-override-requires
 has-fc-override-requires c κs = search needs
 
--- src/codes.rt:61:17
 fc-override-requires : tie.Need-fc-override-requires
 fc-override-requires c κs = search needs
 
--- src/codes.rt:61:16
 cast-result : tie.Need-cast-result
 cast-result c = search needs
 
--- src/codes.rt:61:9
 returns : tie.Need-returns
 unfolding faultCode
 returns c = (simp (sym (c .before .before .has-fc-override .ensures) ∙ c .before .if1 .taken) (omega arith), omega arith)
 
--- src/codes.rt:63:5
 state-code-requires : tie.Need-state-code-requires
 state-code-requires c κs = search needs
 
--- src/codes.rt:57:1
 returns-2 : tie.Need-returns-2
 unfolding faultCode
 returns-2 c = (simp (sym (c .before .before .has-fc-override .ensures) ∙ c .before .if1 .left) (omega arith), omega arith)

@@ -13,43 +13,33 @@ use Rattle.frames.proofs.codes.direction_060.Reads as direction-060-rea
 use Rattle.frames.proofs.codes.number_if.Reads as number-if-reads
 use Rattle.frames.proofs.codes.size_060.Reads as size-060-reads
 
--- src/codes.rt:189:5
 direction-060-requires : tie.Need-direction-060-requires
 direction-060-requires c κs = search needs
 
--- src/codes.rt:189:28
 size-060-requires : tie.Need-size-060-requires
 size-060-requires c κs = search needs
 
--- src/codes.rt:189:5
 add-result : tie.Need-add-result
 add-result c = search needs
 
--- src/codes.rt:189:45
 mul-result : tie.Need-mul-result
 mul-result c = search needs
 
--- src/codes.rt:189:5
 add-result-2 : tie.Need-add-result-2
 add-result-2 c = search needs
 
--- src/codes.rt:189:62
 number-if-requires : tie.Need-number-if-requires
 number-if-requires c κs = search needs
 
--- src/codes.rt:189:5
 add-result-3 : tie.Need-add-result-3
 add-result-3 c = search needs
 
--- src/codes.rt:189:94
 cause-bit-requires : tie.Need-cause-bit-requires
 cause-bit-requires c κs = search needs
 
--- src/codes.rt:189:5
 add-result-4 : tie.Need-add-result-4
 add-result-4 c = search needs
 
--- src/codes.rt:186:1
 returns : tie.Need-returns
 unfolding fslw060
 returns c = cc

@@ -8,22 +8,18 @@ use Rattle.frames.proofs.codes.function_code.Tie as tie
 use Rattle.frames.proofs.codes.function_code.Reads as reads
 use Rattle.frames.proofs.codes.function_code.Lts as lts
 
--- src/codes.rt:33:13
 returns : tie.Need-returns
 unfolding functionCode
 returns c = (simp (c .before .if1 .taken, c .if2 .taken), omega arith)
 
--- src/codes.rt:35:9
 returns-2 : tie.Need-returns-2
 unfolding functionCode
 returns-2 c = (simp (c .before .if1 .taken, c .if2 .left), omega arith)
 
--- src/codes.rt:38:9
 returns-3 : tie.Need-returns-3
 unfolding functionCode
 returns-3 c = (simp (c .before .if1 .left, c .if3 .taken), omega arith)
 
--- src/codes.rt:28:1
 returns-4 : tie.Need-returns-4
 unfolding functionCode
 returns-4 c = (simp (c .before .if1 .left, c .if3 .left), omega arith)

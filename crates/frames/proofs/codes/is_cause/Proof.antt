@@ -8,12 +8,10 @@ use Rattle.frames.proofs.codes.is_cause.Tie as tie
 use Rattle.frames.proofs.codes.is_cause.Reads as reads
 use Rattle.frames.proofs.codes.is_cause.Lts as lts
 
--- src/codes.rt:100:1
 returns : tie.Need-returns
 unfolding isCause
 returns c = simp (le-leb _ _ (c .if1 .taken))
 
--- src/codes.rt:100:1
 returns-2 : tie.Need-returns-2
 unfolding isCause
 returns-2 c = simp (lt-leb _ _ (c .if1 .left))

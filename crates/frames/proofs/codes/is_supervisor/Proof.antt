@@ -8,7 +8,6 @@ use Rattle.frames.proofs.codes.is_supervisor.Tie as tie
 use Rattle.frames.proofs.codes.is_supervisor.Reads as reads
 use Rattle.frames.proofs.codes.is_supervisor.Lts as lts
 
--- src/codes.rt:43:1
 returns : tie.Need-returns
 unfolding isSupervisor
 returns c = refl

@@ -8,22 +8,18 @@ use Rattle.frames.proofs.codes.size_020.Tie as tie
 use Rattle.frames.proofs.codes.size_020.Reads as reads
 use Rattle.frames.proofs.codes.size_020.Lts as lts
 
--- src/codes.rt:78:9
 returns : tie.Need-returns
 unfolding size020
 returns c = (simp (eq-eqb _ _ (c .if1 .taken)), omega arith)
 
--- src/codes.rt:81:9
 returns-2 : tie.Need-returns-2
 unfolding size020
 returns-2 c = (simp (ne-eqb _ _ (c .before .if1 .left), eq-eqb _ _ (c .if2 .taken)), omega arith)
 
--- src/codes.rt:84:9
 returns-3 : tie.Need-returns-3
 unfolding size020
 returns-3 c = (simp (ne-eqb _ _ (c .before .before .if1 .left), ne-eqb _ _ (c .before .if2 .left), eq-eqb _ _ (c .if3 .taken)), omega arith)
 
--- src/codes.rt:74:1
 returns-4 : tie.Need-returns-4
 unfolding size020
 returns-4 c = (simp (ne-eqb _ _ (c .before .before .if1 .left), ne-eqb _ _ (c .before .if2 .left), ne-eqb _ _ (c .if3 .left)), omega arith)

@@ -8,17 +8,14 @@ use Rattle.frames.proofs.codes.size_040.Tie as tie
 use Rattle.frames.proofs.codes.size_040.Reads as reads
 use Rattle.frames.proofs.codes.size_040.Lts as lts
 
--- src/codes.rt:110:9
 returns : tie.Need-returns
 unfolding size040
 returns c = (simp (eq-eqb _ _ (c .if1 .taken)), omega arith)
 
--- src/codes.rt:113:9
 returns-2 : tie.Need-returns-2
 unfolding size040
 returns-2 c = (simp (ne-eqb _ _ (c .before .if1 .left), eq-eqb _ _ (c .if2 .taken)), omega arith)
 
--- src/codes.rt:106:1
 returns-3 : tie.Need-returns-3
 unfolding size040
 returns-3 c = (simp (ne-eqb _ _ (c .before .if1 .left), ne-eqb _ _ (c .if2 .left)), omega arith)

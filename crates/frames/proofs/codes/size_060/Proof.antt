@@ -8,17 +8,14 @@ use Rattle.frames.proofs.codes.size_060.Tie as tie
 use Rattle.frames.proofs.codes.size_060.Reads as reads
 use Rattle.frames.proofs.codes.size_060.Lts as lts
 
--- src/codes.rt:168:9
 returns : tie.Need-returns
 unfolding size060
 returns c = (simp (eq-eqb _ _ (c .if1 .taken)), omega arith)
 
--- src/codes.rt:171:9
 returns-2 : tie.Need-returns-2
 unfolding size060
 returns-2 c = (simp (ne-eqb _ _ (c .before .if1 .left), eq-eqb _ _ (c .if2 .taken)), omega arith)
 
--- src/codes.rt:164:1
 returns-3 : tie.Need-returns-3
 unfolding size060
 returns-3 c = (simp (ne-eqb _ _ (c .before .if1 .left), ne-eqb _ _ (c .if2 .left)), omega arith)

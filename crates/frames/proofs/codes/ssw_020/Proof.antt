@@ -11,36 +11,28 @@ use Rattle.frames.proofs.codes.ssw_020.Lts as lts
 use Rattle.frames.proofs.codes.number_unless.Reads as number-unless-reads
 use Rattle.frames.proofs.codes.size_020.Reads as size-020-reads
 
--- src/codes.rt:95:16
 add-result : tie.Need-add-result
 add-result c = search needs
 
--- src/codes.rt:95:9
 returns : tie.Need-returns
 unfolding ssw020
 returns c = simp (c .if1 .taken)
 
--- src/codes.rt:97:5
 add-result-2 : tie.Need-add-result-2
 add-result-2 c = search needs
 
--- src/codes.rt:97:16
 number-unless-requires : tie.Need-number-unless-requires
 number-unless-requires c κs = search needs
 
--- src/codes.rt:97:5
 add-result-3 : tie.Need-add-result-3
 add-result-3 c = search needs
 
--- src/codes.rt:97:43
 size-020-requires : tie.Need-size-020-requires
 size-020-requires c κs = search needs
 
--- src/codes.rt:97:5
 add-result-4 : tie.Need-add-result-4
 add-result-4 c = search needs
 
--- src/codes.rt:90:1
 returns-2 : tie.Need-returns-2
 unfolding ssw020
 returns-2 c = simp (c .before .before .if1 .left) (omega arith)

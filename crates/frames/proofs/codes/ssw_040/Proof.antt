@@ -13,35 +13,27 @@ use Rattle.frames.proofs.codes.number_if.Reads as number-if-reads
 use Rattle.frames.proofs.codes.number_unless.Reads as number-unless-reads
 use Rattle.frames.proofs.codes.size_040.Reads as size-040-reads
 
--- src/codes.rt:123:5
 number-unless-requires : tie.Need-number-unless-requires
 number-unless-requires c κs = search needs
 
--- src/codes.rt:123:43
 is-cause-requires : tie.Need-is-cause-requires
 is-cause-requires c κs = search needs
 
--- src/codes.rt:123:33
 number-if-requires : tie.Need-number-if-requires
 number-if-requires c κs = search needs
 
--- src/codes.rt:123:5
 add-result : tie.Need-add-result
 add-result c = search needs
 
--- src/codes.rt:123:68
 size-040-requires : tie.Need-size-040-requires
 size-040-requires c κs = search needs
 
--- src/codes.rt:123:5
 add-result-2 : tie.Need-add-result-2
 add-result-2 c = search needs
 
--- src/codes.rt:123:5
 add-result-3 : tie.Need-add-result-3
 add-result-3 c = search needs
 
--- src/codes.rt:119:1
 returns : tie.Need-returns
 unfolding ssw040
 returns c = cc

@@ -11,15 +11,12 @@ use Rattle.frames.proofs.codes.state_code.Lts as lts
 use Rattle.frames.proofs.codes.function_code.Reads as function-code-reads
 use Rattle.frames.proofs.codes.is_supervisor.Reads as is-supervisor-reads
 
--- src/codes.rt:53:19
 is-supervisor-requires : tie.Need-is-supervisor-requires
 is-supervisor-requires c κs = search needs
 
--- src/codes.rt:53:5
 function-code-requires : tie.Need-function-code-requires
 function-code-requires c κs = search needs
 
--- src/codes.rt:50:1
 returns : tie.Need-returns
 unfolding stateCode
 returns c = (cc (c .before .is-supervisor .ensures, c .function-code .ensures .0), omega arith)

@@ -10,23 +10,18 @@ use Rattle.frames.proofs.codes.status_word.Reads as reads
 use Rattle.frames.proofs.codes.status_word.Lts as lts
 use Rattle.frames.proofs.codes.number_unless.Reads as number-unless-reads
 
--- src/codes.rt:71:10
 number-unless-requires : tie.Need-number-unless-requires
 number-unless-requires c κs = search needs
 
--- src/codes.rt:71:5
 add-result : tie.Need-add-result
 add-result c = search needs
 
--- src/codes.rt:71:37
 number-unless-requires-2 : tie.Need-number-unless-requires-2
 number-unless-requires-2 c κs = search needs
 
--- src/codes.rt:71:5
 add-result-2 : tie.Need-add-result-2
 add-result-2 c = search needs
 
--- src/codes.rt:67:1
 returns : tie.Need-returns
 unfolding statusWord
 returns c = cc (c .before .number-unless .ensures .0, c .number-unless2 .ensures .0)

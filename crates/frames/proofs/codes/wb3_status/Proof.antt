@@ -11,23 +11,18 @@ use Rattle.frames.proofs.codes.wb3_status.Lts as lts
 use Rattle.frames.proofs.codes.number_if.Reads as number-if-reads
 use Rattle.frames.proofs.codes.size_040.Reads as size-040-reads
 
--- src/codes.rt:131:28
 size-040-requires : tie.Need-size-040-requires
 size-040-requires c κs = search needs
 
--- src/codes.rt:131:22
 add-number-if : tie.Need-add-number-if
 add-number-if c = search needs
 
--- src/codes.rt:131:22
 add-number-if-2 : tie.Need-add-number-if-2
 add-number-if-2 c = search needs
 
--- src/codes.rt:131:5
 number-if-requires : tie.Need-number-if-requires
 number-if-requires c κs = search needs
 
--- src/codes.rt:127:1
 returns : tie.Need-returns
 unfolding wb3s
 returns c = cc

@@ -10,27 +10,21 @@ use Rattle.memory.proofs.bytes.get_long.Reads as reads
 use Rattle.memory.proofs.bytes.get_long.Lts as lts
 use Rattle.memory.proofs.bytes.get_word.Reads as get-word-reads
 
--- src/bytes.rt:40:5
 get-word-requires : tie.Need-get-word-requires
 get-word-requires c κs = search needs
 
--- src/bytes.rt:40:5
 mul-result : tie.Need-mul-result
 mul-result c = search needs
 
--- src/bytes.rt:40:51
 add-get-word : tie.Need-add-get-word
 add-get-word c = search needs
 
--- src/bytes.rt:40:35
 get-word-requires-2 : tie.Need-get-word-requires-2
 get-word-requires-2 c κs = search needs
 
--- src/bytes.rt:40:5
 add-result : tie.Need-add-result
 add-result c = search needs
 
--- src/bytes.rt:36:1
 returns : tie.Need-returns
 unfolding getLong
 returns c = cc

@@ -10,35 +10,27 @@ use Rattle.memory.proofs.bytes.get_word.Reads as reads
 use Rattle.memory.proofs.bytes.get_word.Lts as lts
 use Rattle.memory.proofs.bytes.wide.Reads as wide-reads
 
--- src/bytes.rt:33:10
 shared-slice-read-wide : tie.Need-shared-slice-read-wide
 shared-slice-read-wide c = search needs
 
--- src/bytes.rt:33:5
 wide-requires : tie.Need-wide-requires
 wide-requires c κs = search needs
 
--- src/bytes.rt:33:5
 mul-result : tie.Need-mul-result
 mul-result c = search needs
 
--- src/bytes.rt:33:40
 add-wide : tie.Need-add-wide
 add-wide c = search needs
 
--- src/bytes.rt:33:34
 shared-slice-read-wide-2 : tie.Need-shared-slice-read-wide-2
 shared-slice-read-wide-2 c = search needs
 
--- src/bytes.rt:33:29
 wide-requires-2 : tie.Need-wide-requires-2
 wide-requires-2 c κs = search needs
 
--- src/bytes.rt:33:5
 add-result : tie.Need-add-result
 add-result c = search needs
 
--- src/bytes.rt:29:1
 returns : tie.Need-returns
 unfolding getWord
 returns c = search needs

@@ -10,31 +10,24 @@ use Rattle.memory.proofs.bytes.put_long.Reads as reads
 use Rattle.memory.proofs.bytes.put_long.Lts as lts
 use Rattle.memory.proofs.bytes.put_word.Reads as put-word-reads
 
--- src/bytes.rt:19:25
 cast-put-word : tie.Need-cast-put-word
 cast-put-word c = search needs
 
--- src/bytes.rt:19:5
 put-word-requires : tie.Need-put-word-requires
 put-word-requires c κs = search needs
 
--- src/bytes.rt:20:21
 add-put-word : tie.Need-add-put-word
 add-put-word c = search needs
 
--- src/bytes.rt:20:29
 cast-put-word-2 : tie.Need-cast-put-word-2
 cast-put-word-2 c = search needs
 
--- src/bytes.rt:20:5
 put-word-requires-2 : tie.Need-put-word-requires-2
 put-word-requires-2 c κs = search needs
 
--- src/bytes.rt:15:1
 same-length : tie.Need-same-length
 same-length c = search needs
 
--- src/bytes.rt:15:1
 returns : tie.Need-returns
 unfolding putLong
 returns c = cc (c .before .before .before .before .before .before .put-word .ensures, c .before .before .put-word2 .ensures)

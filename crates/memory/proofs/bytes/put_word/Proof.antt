@@ -9,31 +9,24 @@ use Rattle.memory.proofs.bytes.put_word.Tie as tie
 use Rattle.memory.proofs.bytes.put_word.Reads as reads
 use Rattle.memory.proofs.bytes.put_word.Lts as lts
 
--- src/bytes.rt:11:17
 cast-store : tie.Need-cast-store
 cast-store c = search needs
 
--- src/bytes.rt:11:5
 slice-write-store : tie.Need-slice-write-store
 slice-write-store c = search needs
 
--- src/bytes.rt:12:21
 cast-store-2 : tie.Need-cast-store-2
 cast-store-2 c = search needs
 
--- src/bytes.rt:12:11
 add-store : tie.Need-add-store
 add-store c = search needs
 
--- src/bytes.rt:12:5
 slice-write-store-2 : tie.Need-slice-write-store-2
 slice-write-store-2 c = simp length-set (omega arith)
 
--- src/bytes.rt:7:1
 same-length : tie.Need-same-length
 same-length c = search needs
 
--- src/bytes.rt:7:1
 returns : tie.Need-returns
 unfolding putWord
 returns c = refl

@@ -9,56 +9,43 @@ use Rattle.memory.proofs.log.put_event.Tie as tie
 use Rattle.memory.proofs.log.put_event.Reads as reads
 use Rattle.memory.proofs.log.put_event.Lts as lts
 
--- src/log.rt:10:14
 mul-at : tie.Need-mul-at
 mul-at c = search needs
 
--- src/log.rt:11:8
 add-if1 : tie.Need-add-if1
 add-if1 c = search needs
 
--- src/log.rt:12:9
 mul-log : tie.Need-mul-log
 mul-log c = search needs
 
--- src/log.rt:12:9
 slice-write-log : tie.Need-slice-write-log
 slice-write-log c = search needs
 
--- src/log.rt:13:13
 add-log : tie.Need-add-log
 add-log c = search needs
 
--- src/log.rt:13:9
 mul-log-2 : tie.Need-mul-log-2
 mul-log-2 c = search needs
 
--- src/log.rt:13:9
 slice-write-log-2 : tie.Need-slice-write-log-2
 slice-write-log-2 c = simp length-set (omega arith)
 
--- src/log.rt:14:13
 add-log-2 : tie.Need-add-log-2
 add-log-2 c = search needs
 
--- src/log.rt:14:9
 mul-log-3 : tie.Need-mul-log-3
 mul-log-3 c = search needs
 
--- src/log.rt:14:9
 slice-write-log-3 : tie.Need-slice-write-log-3
 slice-write-log-3 c = search needs
 
--- src/log.rt:7:1
 same-length : tie.Need-same-length
 same-length c = search needs
 
--- src/log.rt:7:1
 returns : tie.Need-returns
 unfolding noteLog
 returns c = simp (lt-ltb _ _ (c .if1 .taken))
 
--- src/log.rt:7:1
 returns-2 : tie.Need-returns-2
 unfolding noteLog
 returns-2 c = simp (le-ltb _ _ (c .if1 .left))

@@ -27,35 +27,27 @@ clear-of-below t =
 abbrev clear-of-claims : ℕ → clear-of-lts.Claims
 clear-of-claims t = (window-meets-reads.Asked, window-meets-reads.Learnt, clear-of-below t, clear-of.Post)
 
--- src/windows.rt:35:9
 clear-of-returns : (t : ℕ) → clear-of-lts.Need-returns (clear-of-claims t) (clear-of-at t) clear-of.Post
 clear-of-returns t c = clear-of-way _ _ _ _ (c .if1 .taken)
 
--- src/windows.rt:37:14
 clear-of-sub-k : (t : ℕ) → clear-of-lts.Need-sub-k (clear-of-claims t) (clear-of-at t) clear-of.Post
 clear-of-sub-k t c = search needs
 
--- src/windows.rt:37:13
 clear-of-cast-k : (t : ℕ) → clear-of-lts.Need-cast-k (clear-of-claims t) (clear-of-at t) clear-of.Post
 clear-of-cast-k t c = search needs
 
--- src/windows.rt:38:8
 clear-of-window-meets-requires : (t : ℕ) → clear-of-lts.Need-window-meets-requires (clear-of-claims t) (clear-of-at t) clear-of.Post
 clear-of-window-meets-requires t c κs = search needs
 
--- src/windows.rt:39:9
 clear-of-returns-2 : (t : ℕ) → clear-of-lts.Need-returns-2 (clear-of-claims t) (clear-of-at t) clear-of.Post
 clear-of-returns-2 t c = clear-of-way-2 _ _ _ _ _ (c .before .before .if1 .left) (c .before .window-meets .ensures) (c .if2 .taken)
 
--- src/windows.rt:41:17
 clear-of-sub-clear-of : (t : ℕ) → clear-of-lts.Need-sub-clear-of (clear-of-claims t) (clear-of-at t) clear-of.Post
 clear-of-sub-clear-of t c = search needs
 
--- src/windows.rt:41:5
 clear-of-clear-of-requires : (t : ℕ) → clear-of-lts.Need-clear-of-requires (clear-of-claims t) (clear-of-at t) clear-of.Post
 clear-of-clear-of-requires t c κs = search needs
 
--- src/windows.rt:30:1
 clear-of-returns-3 : (t : ℕ) → clear-of-lts.Need-returns-3 (clear-of-claims t) (clear-of-at t) clear-of.Post
 clear-of-returns-3 t c = clear-of-way-3 _ _ _ _ _ _ (c .before .before .before .if1 .left) (c .before .before .window-meets .ensures) (c .before .if2 .left) (c .clear-of .ensures)
 

@@ -9,20 +9,16 @@ use Rattle.memory.proofs.windows.in_store.Tie as tie
 use Rattle.memory.proofs.windows.in_store.Reads as reads
 use Rattle.memory.proofs.windows.in_store.Lts as lts
 
--- src/windows.rt:59:9
 returns : tie.Need-returns
 unfolding inStore
 returns c = simp (lt-ltb _ _ (c .if1 .taken))
 
--- src/windows.rt:61:5
 cast-result : tie.Need-cast-result
 cast-result c = search needs
 
--- src/windows.rt:61:5
 add-result : tie.Need-add-result
 add-result c = search needs
 
--- src/windows.rt:55:1
 returns-2 : tie.Need-returns-2
 unfolding inStore
 returns-2 c = simp (le-ltb _ _ (c .before .if1 .left))

@@ -10,31 +10,24 @@ use Rattle.memory.proofs.windows.in_store.Reads as in-store-reads
 use Rattle.memory.proofs.windows.wide.Reads as wide-reads
 use Rattle.memory.proofs.windows.windows_in_use.Reads as windows-in-use-reads
 
--- src/windows.rt:67:8
 in-store-requires : tie.Need-in-store-requires
 in-store-requires c κs = search needs
 
--- src/windows.rt:68:28
 windows-in-use-requires : tie.Need-windows-in-use-requires
 windows-in-use-requires c κs = search needs
 
--- src/windows.rt:68:47
 wide-requires : tie.Need-wide-requires
 wide-requires c κs = search needs
 
--- src/windows.rt:68:56
 wide-requires-2 : tie.Need-wide-requires-2
 wide-requires-2 c κs = search needs
 
--- src/windows.rt:68:9
 clear-of-requires : tie.Need-clear-of-requires
 clear-of-requires c κs = search needs
 
--- src/windows.rt:68:9
 returns : tie.Need-returns
 returns c = is-served-way _ _ _ _ _ _ _ _ _ (c .before .before .before .before .before .in-store .ensures) (c .before .before .before .before .if1 .taken) (c .before .before .before .windows-in-use .ensures .0) (c .before .before .wide .ensures .0) (c .before .wide2 .ensures .0) (c .clear-of .ensures)
 
--- src/windows.rt:64:1
 returns-2 : tie.Need-returns-2
 returns-2 c = is-served-way-2 _ _ _ _ _ (c .before .in-store .ensures) (c .if1 .left)
 

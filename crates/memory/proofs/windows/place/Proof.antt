@@ -9,16 +9,13 @@ use Rattle.memory.proofs.windows.place.Tie as tie
 use Rattle.memory.proofs.windows.place.Reads as reads
 use Rattle.memory.proofs.windows.place.Lts as lts
 
--- src/windows.rt:78:9
 returns : tie.Need-returns
 unfolding placeOf
 returns c = simp (lt-ltb _ _ (c .if1 .taken))
 
--- src/windows.rt:80:5
 cast-result : tie.Need-cast-result
 cast-result c = search needs
 
--- src/windows.rt:74:1
 returns-2 : tie.Need-returns-2
 unfolding placeOf
 returns-2 c = simp (le-ltb _ _ (c .before .if1 .left))

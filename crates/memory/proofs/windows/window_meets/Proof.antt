@@ -11,47 +11,36 @@ use Rattle.memory.proofs.windows.window_meets.Reads as reads
 use Rattle.memory.proofs.windows.window_meets.Lts as lts
 use Rattle.memory.proofs.windows.wide.Reads as wide-reads
 
--- src/windows.rt:18:21
 mul-wide : tie.Need-mul-wide
 mul-wide c = search needs
 
--- src/windows.rt:18:21
 element-copy-out-wide : tie.Need-element-copy-out-wide
 element-copy-out-wide c = search needs
 
--- src/windows.rt:18:9
 wide-requires : tie.Need-wide-requires
 wide-requires c κs = search needs
 
--- src/windows.rt:19:21
 mul-wide-2 : tie.Need-mul-wide-2
 mul-wide-2 c = search needs
 
--- src/windows.rt:19:21
 element-copy-out-wide-2 : tie.Need-element-copy-out-wide-2
 element-copy-out-wide-2 c = search needs
 
--- src/windows.rt:19:9
 wide-requires-2 : tie.Need-wide-requires-2
 wide-requires-2 c κs = search needs
 
--- src/windows.rt:21:9
 returns : tie.Need-returns
 returns c = window-empty _ _ _ _ _ (c .before .wide2 .ensures .0) (c .if1 .taken)
 
--- src/windows.rt:23:12
 add-if2 : tie.Need-add-if2
 add-if2 c = search needs
 
--- src/windows.rt:24:23
 add-result : tie.Need-add-result
 add-result c = search needs
 
--- src/windows.rt:24:9
 returns-2 : tie.Need-returns-2
 returns-2 c = window-meets _ _ _ _ _ _ (c .before .before .before .before .wide .ensures .0) (c .before .before .wide2 .ensures .0) (c .before .if1 .left) (c .if2 .taken)
 
--- src/windows.rt:14:1
 returns-3 : tie.Need-returns-3
 returns-3 c = window-past _ _ _ _ _ _ (c .before .before .before .before .wide .ensures .0) (c .before .before .wide2 .ensures .0) (c .before .if1 .left) (c .if2 .left)
 

@@ -8,12 +8,10 @@ use Rattle.memory.proofs.windows.windows_in_use.Tie as tie
 use Rattle.memory.proofs.windows.windows_in_use.Reads as reads
 use Rattle.memory.proofs.windows.windows_in_use.Lts as lts
 
--- src/windows.rt:49:9
 returns : tie.Need-returns
 unfolding windowsInUse
 returns c = simp (lt-ltb _ _ (c .if1 .taken)) (omega arith)
 
--- src/windows.rt:45:1
 returns-2 : tie.Need-returns-2
 unfolding windowsInUse
 returns-2 c = simp (le-ltb _ _ (c .if1 .left)) (omega arith)

@@ -10,11 +10,9 @@ use Rattle.requests.proofs.interrupts.charge_interrupt.Reads as reads
 use Rattle.requests.proofs.interrupts.charge_interrupt.Lts as lts
 use Rattle.requests.proofs.interrupts.charged.Reads as charged-reads
 
--- src/interrupts.rt:129:9
 charged-requires : tie.Need-charged-requires
 charged-requires c κs = search needs
 
--- src/interrupts.rt:126:1
 returns : tie.Need-returns
 unfolding chargeInterrupt
 returns c = cc (c .charged .ensures)

@@ -14,11 +14,9 @@ use Rattle.requests.proofs.interrupts.charged.Reads as reads
 use Rattle.requests.proofs.interrupts.charged.Lts as lts
 use Rattle.requests.proofs.interrupts.less_cycles.Reads as less-cycles-reads
 
--- src/interrupts.rt:119:9
 less-cycles-requires : tie.Need-less-cycles-requires
 less-cycles-requires c κs = search needs
 
--- src/interrupts.rt:116:1
 returns : tie.Need-returns
 unfolding charged
 returns c =

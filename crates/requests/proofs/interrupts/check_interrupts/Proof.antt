@@ -8,12 +8,10 @@ use Rattle.requests.proofs.interrupts.check_interrupts.Tie as tie
 use Rattle.requests.proofs.interrupts.check_interrupts.Reads as reads
 use Rattle.requests.proofs.interrupts.check_interrupts.Lts as lts
 
--- src/interrupts.rt:38:9
 returns : tie.Need-returns
 unfolding checkInterrupts
 returns c = simp (eq-eqb _ _ (c .if1 .taken))
 
--- src/interrupts.rt:34:1
 returns-2 : tie.Need-returns-2
 unfolding checkInterrupts
 returns-2 c = simp (ne-eqb _ _ (c .before .before .if1 .left))

@@ -8,7 +8,6 @@ use Rattle.requests.proofs.interrupts.clear_level.Tie as tie
 use Rattle.requests.proofs.interrupts.clear_level.Reads as reads
 use Rattle.requests.proofs.interrupts.clear_level.Lts as lts
 
--- src/interrupts.rt:23:1
 returns : tie.Need-returns
 unfolding clearLevel
 returns c = refl

@@ -14,11 +14,9 @@ use Rattle.requests.proofs.interrupts.flow_has_room.Reads as reads
 use Rattle.requests.proofs.interrupts.flow_has_room.Lts as lts
 use Rattle.requests.proofs.interrupts.has_room.Reads as has-room-reads
 
--- src/interrupts.rt:79:5
 has-room-requires : tie.Need-has-room-requires
 has-room-requires c κs = search needs
 
--- src/interrupts.rt:76:1
 returns : tie.Need-returns
 returns c =
     let back = toZ-ofZ {w = w32} {z = c .before .before .args .f .«cycles_remaining»} (record { sfits = c .before .struct-told .given .1 .1 .1 .1 .1 .1 .1 .1 .1 .1 .1 .0 .1 }) in

@@ -10,11 +10,9 @@ use Rattle.requests.proofs.interrupts.has_cycles.Reads as reads
 use Rattle.requests.proofs.interrupts.has_cycles.Lts as lts
 use Rattle.requests.proofs.interrupts.flow_has_room.Reads as flow-has-room-reads
 
--- src/interrupts.rt:73:5
 flow-has-room-requires : tie.Need-flow-has-room-requires
 flow-has-room-requires c κs = search needs
 
--- src/interrupts.rt:70:1
 returns : tie.Need-returns
 unfolding hasCycles
 returns c = cc (c .flow-has-room .ensures)

@@ -9,11 +9,9 @@ use Rattle.requests.proofs.interrupts.mask_level.Tie as tie
 use Rattle.requests.proofs.interrupts.mask_level.Reads as reads
 use Rattle.requests.proofs.interrupts.mask_level.Lts as lts
 
--- src/interrupts.rt:54:5
 cast-result : tie.Need-cast-result
 cast-result c = search needs
 
--- src/interrupts.rt:51:1
 returns : tie.Need-returns
 unfolding maskLevel
 returns c = search needs

@@ -9,11 +9,9 @@ use Rattle.requests.proofs.interrupts.pending_level.Tie as tie
 use Rattle.requests.proofs.interrupts.pending_level.Reads as reads
 use Rattle.requests.proofs.interrupts.pending_level.Lts as lts
 
--- src/interrupts.rt:47:5
 cast-result : tie.Need-cast-result
 cast-result c = search needs
 
--- src/interrupts.rt:44:1
 returns : tie.Need-returns
 unfolding pendingLevel
 returns c = search needs

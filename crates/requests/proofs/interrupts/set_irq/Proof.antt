@@ -8,7 +8,6 @@ use Rattle.requests.proofs.interrupts.set_irq.Tie as tie
 use Rattle.requests.proofs.interrupts.set_irq.Reads as reads
 use Rattle.requests.proofs.interrupts.set_irq.Lts as lts
 
--- src/interrupts.rt:11:1
 returns : tie.Need-returns
 unfolding setIrq
 returns c = refl

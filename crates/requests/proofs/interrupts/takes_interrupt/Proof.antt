@@ -11,20 +11,16 @@ use Rattle.requests.proofs.interrupts.takes_interrupt.Lts as lts
 use Rattle.requests.proofs.interrupts.mask_level.Reads as mask-level-reads
 use Rattle.requests.proofs.interrupts.pending_level.Reads as pending-level-reads
 
--- src/interrupts.rt:61:9
 pending-level-requires : tie.Need-pending-level-requires
 pending-level-requires c κs = search needs
 
--- src/interrupts.rt:63:9
 returns : tie.Need-returns
 unfolding takesInterrupt
 returns c = simp (eq-eqb _ _ (sym (c .before .pending-level .ensures .0) ∙ c .if1 .taken))
 
--- src/interrupts.rt:65:5
 mask-level-requires : tie.Need-mask-level-requires
 mask-level-requires c κs = search needs
 
--- src/interrupts.rt:58:1
 returns-2 : tie.Need-returns-2
 unfolding takesInterrupt
 returns-2 c = rw (← c .before .before .pending-level .ensures .0, ← c .mask-level .ensures .0, ne-eqb _ _ (c .before .if1 .left))

@@ -8,17 +8,14 @@ use Rattle.requests.proofs.trace.asks_trace.Tie as tie
 use Rattle.requests.proofs.trace.asks_trace.Reads as reads
 use Rattle.requests.proofs.trace.asks_trace.Lts as lts
 
--- src/trace.rt:26:9
 returns : tie.Need-returns
 unfolding asksTrace
 returns c = simp (eq-eqb _ _ (c .if1 .taken))
 
--- src/trace.rt:29:9
 returns-2 : tie.Need-returns-2
 unfolding asksTrace
 returns-2 c = simp (ne-eqb _ _ (c .before .before .if1 .left), eq-eqb _ _ (c .if2 .taken))
 
--- src/trace.rt:22:1
 returns-3 : tie.Need-returns-3
 unfolding asksTrace
 returns-3 c = simp (ne-eqb _ _ (c .before .before .if1 .left), ne-eqb _ _ (c .if2 .left))

@@ -11,15 +11,12 @@ use Rattle.requests.proofs.trace.check_trace.Lts as lts
 use Rattle.requests.proofs.trace.asks_trace.Reads as asks-trace-reads
 use Rattle.requests.proofs.trace.set_change_of_flow.Reads as set-change-of-flow-reads
 
--- src/trace.rt:17:16
 asks-trace-requires : tie.Need-asks-trace-requires
 asks-trace-requires c κs = search needs
 
--- src/trace.rt:18:14
 set-change-of-flow-requires : tie.Need-set-change-of-flow-requires
 set-change-of-flow-requires c κs = search needs
 
--- src/trace.rt:13:1
 returns : tie.Need-returns
 unfolding checkTrace
 returns c = cc (c .before .asks-trace .ensures, c .set-change-of-flow .ensures)

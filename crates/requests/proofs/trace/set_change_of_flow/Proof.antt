@@ -8,7 +8,6 @@ use Rattle.requests.proofs.trace.set_change_of_flow.Tie as tie
 use Rattle.requests.proofs.trace.set_change_of_flow.Reads as reads
 use Rattle.requests.proofs.trace.set_change_of_flow.Lts as lts
 
--- src/trace.rt:55:1
 returns : tie.Need-returns
 unfolding setChangeOfFlow
 returns c = refl

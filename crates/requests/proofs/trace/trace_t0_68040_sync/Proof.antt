@@ -12,19 +12,15 @@ use Rattle.requests.proofs.trace.trace_t0_68040_sync.Lts as lts
 use Rattle.requests.proofs.trace.set_change_of_flow.Reads as set-change-of-flow-reads
 use Rattle.types.proofs.is_040.Reads as is-040-reads
 
--- src/trace.rt:48:8
 is-040-requires : tie.Need-is-040-requires
 is-040-requires c κs = search needs
 
--- src/trace.rt:49:9
 set-change-of-flow-requires : tie.Need-set-change-of-flow-requires
 set-change-of-flow-requires c κs = search needs
 
--- src/trace.rt:49:9
 returns : tie.Need-returns
 returns c = sync-traced _ _ _ (c .before .before .is-040 .ensures) (c .before .if1 .taken) (c .set-change-of-flow .ensures)
 
--- src/trace.rt:45:1
 returns-2 : tie.Need-returns-2
 unfolding traceT068040Sync
 returns-2 c = simp (sym (c .before .is-040 .ensures) ∙ c .if1 .left)

@@ -12,20 +12,16 @@ use Rattle.requests.proofs.trace.trace_t0_sr_write.Lts as lts
 use Rattle.requests.proofs.trace.set_change_of_flow.Reads as set-change-of-flow-reads
 use Rattle.types.proofs.is_pre_68020.Reads as is-pre-68020-reads
 
--- src/trace.rt:38:8
 is-pre-68020-requires : tie.Need-is-pre-68020-requires
 is-pre-68020-requires c κs = search needs
 
--- src/trace.rt:39:9
 returns : tie.Need-returns
 unfolding traceT0SrWrite
 returns c = simp (sym (c .before .is-pre-68020 .ensures) ∙ c .if1 .taken)
 
--- src/trace.rt:41:5
 set-change-of-flow-requires : tie.Need-set-change-of-flow-requires
 set-change-of-flow-requires c κs = search needs
 
--- src/trace.rt:35:1
 returns-2 : tie.Need-returns-2
 returns-2 c = write-traced _ _ _ (c .before .before .is-pre-68020 .ensures) (c .before .if1 .left) (c .set-change-of-flow .ensures)
 

@@ -11,15 +11,12 @@ use Rattle.status.proofs.banks.enter_supervisor.Lts as lts
 use Rattle.status.proofs.banks.set_s_flag.Reads as set-s-flag-reads
 use Rattle.status.proofs.clear_trace.Reads as clear-trace-reads
 
--- src/banks.rt:94:9
 set-s-flag-requires : tie.Need-set-s-flag-requires
 set-s-flag-requires c κs = search needs
 
--- src/banks.rt:95:5
 clear-trace-requires : tie.Need-clear-trace-requires
 clear-trace-requires c κs = search needs
 
--- src/banks.rt:91:1
 returns : tie.Need-returns
 unfolding enterSupervisor
 returns c = cc (c .before .set-s-flag .ensures, c .clear-trace .ensures)

@@ -8,7 +8,6 @@ use Rattle.status.proofs.banks.put_s.Tie as tie
 use Rattle.status.proofs.banks.put_s.Reads as reads
 use Rattle.status.proofs.banks.put_s.Lts as lts
 
--- src/banks.rt:50:1
 returns : tie.Need-returns
 unfolding putS
 returns c = refl

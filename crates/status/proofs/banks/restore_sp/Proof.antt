@@ -10,23 +10,18 @@ use Rattle.status.proofs.banks.restore_sp.Reads as reads
 use Rattle.status.proofs.banks.restore_sp.Lts as lts
 use Rattle.status.proofs.banks.sp_index.Reads as sp-index-reads
 
--- src/banks.rt:40:9
 sp-index-requires : tie.Need-sp-index-requires
 sp-index-requires c κs = search needs
 
--- src/banks.rt:42:13
 mul-v : tie.Need-mul-v
 mul-v c = search needs
 
--- src/banks.rt:42:13
 element-copy-out-v : tie.Need-element-copy-out-v
 element-copy-out-v c = search needs
 
--- src/banks.rt:43:5
 element-write-regs : tie.Need-element-write-regs
 element-write-regs c = search needs
 
--- src/banks.rt:37:1
 returns : tie.Need-returns
 unfolding restoreSp
 returns c = cc

@@ -12,19 +12,15 @@ use Rattle.status.proofs.banks.backup_sp.Reads as backup-sp-reads
 use Rattle.status.proofs.banks.put_s.Reads as put-s-reads
 use Rattle.status.proofs.banks.restore_sp.Reads as restore-sp-reads
 
--- src/banks.rt:76:9
 backup-sp-requires : tie.Need-backup-sp-requires
 backup-sp-requires c κs = search needs
 
--- src/banks.rt:77:9
 put-s-requires : tie.Need-put-s-requires
 put-s-requires c κs = search needs
 
--- src/banks.rt:78:5
 restore-sp-requires : tie.Need-restore-sp-requires
 restore-sp-requires c κs = search needs
 
--- src/banks.rt:73:1
 returns : tie.Need-returns
 unfolding setSFlag
 returns c = cc (c .before .before .backup-sp .ensures, c .before .put-s .ensures, c .restore-sp .ensures)

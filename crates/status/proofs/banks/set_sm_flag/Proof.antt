@@ -12,19 +12,15 @@ use Rattle.status.proofs.banks.backup_sp.Reads as backup-sp-reads
 use Rattle.status.proofs.banks.restore_sp.Reads as restore-sp-reads
 use Rattle.status.proofs.banks.set_sm_flag_nosp.Reads as set-sm-flag-nosp-reads
 
--- src/banks.rt:85:9
 backup-sp-requires : tie.Need-backup-sp-requires
 backup-sp-requires c κs = search needs
 
--- src/banks.rt:86:9
 set-sm-flag-nosp-requires : tie.Need-set-sm-flag-nosp-requires
 set-sm-flag-nosp-requires c κs = search needs
 
--- src/banks.rt:87:5
 restore-sp-requires : tie.Need-restore-sp-requires
 restore-sp-requires c κs = search needs
 
--- src/banks.rt:82:1
 returns : tie.Need-returns
 unfolding setSmFlag
 returns c = cc (c .before .before .backup-sp .ensures, c .before .set-sm-flag-nosp .ensures, c .restore-sp .ensures)

@@ -9,15 +9,12 @@ use Rattle.status.proofs.banks.set_sm_flag_nosp.Tie as tie
 use Rattle.status.proofs.banks.set_sm_flag_nosp.Reads as reads
 use Rattle.status.proofs.banks.set_sm_flag_nosp.Lts as lts
 
--- src/banks.rt:65:20
 mul-flags : tie.Need-mul-flags
 mul-flags c = search needs
 
--- src/banks.rt:66:20
 mul-flags-2 : tie.Need-mul-flags-2
 mul-flags-2 c = search needs
 
--- src/banks.rt:61:1
 returns : tie.Need-returns
 unfolding setSmFlagNosp
 returns c = refl

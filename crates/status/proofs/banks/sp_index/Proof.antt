@@ -10,26 +10,21 @@ use Rattle.status.proofs.banks.sp_index.Reads as reads
 use Rattle.status.proofs.banks.sp_index.Lts as lts
 use Rattle.types.proofs.is_060.Reads as is-060-reads
 
--- src/banks.rt:12:9
 returns : tie.Need-returns
 unfolding spIndex
 returns c = simp (eq-eqb _ _ (c .if1 .taken)) (omega arith)
 
--- src/banks.rt:14:8
 is-060-requires : tie.Need-is-060-requires
 is-060-requires c κs = search needs
 
--- src/banks.rt:15:9
 returns-2 : tie.Need-returns-2
 unfolding spIndex
 returns-2 c = simp (ne-eqb _ _ (c .before .before .if1 .left), sym (c .before .is-060 .ensures) ∙ c .if2 .taken) (omega arith)
 
--- src/banks.rt:18:9
 returns-3 : tie.Need-returns-3
 unfolding spIndex
 returns-3 c = simp (ne-eqb _ _ (c .before .before .before .before .if1 .left), sym (c .before .before .before .is-060 .ensures) ∙ c .before .before .if2 .left, eq-eqb _ _ (c .if3 .taken)) (omega arith)
 
--- src/banks.rt:8:1
 returns-4 : tie.Need-returns-4
 unfolding spIndex
 returns-4 c = simp (ne-eqb _ _ (c .before .before .before .before .if1 .left), sym (c .before .before .before .is-060 .ensures) ∙ c .before .before .if2 .left, ne-eqb _ _ (c .if3 .left)) (omega arith)
