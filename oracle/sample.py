@@ -4,7 +4,7 @@
 Takes the examples beside it (examples.txt) but returns and walks, then cases of `oracle gen SEED ..` whose store has at most 512 bytes
 and whose log has at most 192 words, asks `oracle run` for each answer, and writes them to OUT (crates/replay/data/sample.bin), with how
 it was done in README.txt beside it: of the generated ones so many that are accepted, spread evenly over the calls and the kinds, then
-so many that are refused, spread over the numbers, then the calls and the kinds.
+so many that are refused, spread over the numbers, then the calls and the kinds. tools/sample.sh has the seed and the counts.
 ORACLE is the binary, by default target/oracle/release/oracle. The same seed, counts and oracle give the same bytes.
 
 A case is two bytes of length (high byte first) and so many bytes: numbers of one to five bytes. A byte below 251 is the number;
@@ -15,7 +15,7 @@ A case is two bytes of length (high byte first) and so many bytes: numbers of on
   bytes      pairs: the bytes of the store that the call changed
   log        the words of the events, three each
 Pairs are a count, and for each how far on its place is from the one before (the first: from 0) and its value; the log is a count and
-its words. The words' places are WORDS below and in crates/replay/src/record.rt. Every fourth case starts with a count of events in
+its words. The words' places are those below and in crates/recorded/src/record.rt. Every fourth case starts with a count of events in
 its bus, as an earlier call would leave it: an accepted call does not mind it, a refused one leaves it.
 """
 import collections
@@ -50,6 +50,8 @@ PLAIN = [('dar', 0, 16), ('dar_save', 16, 16), ('sp', 32, 8), ('ppc', 40, 1), ('
 OPTIONS = [('instruction_exception_vector', 69, 1), ('last_exception_vector', 71, 1), ('mmu_fc_override', 74, 1),
            ('fault_resume', 77, 18)]
 KIND, CYCLES = 45, 51
+# What an answer may say; the status follows from the flags, and there are no rows.
+ANSWERED = {'refused', 'ans', 'nev', 'ev', 'rows', 'chg', 'status', 'kind', 'cycles_remaining'} | {x[0] for x in PLAIN + OPTIONS}
 BASE, WINDOWS, STARTS, LENGTHS, RESPONSES, EVENTS, LENGTH, FILL = 96, 97, 98, 106, 114, 122, 123, 124
 # What the call says: its refusal, answer and number of events. EVENTS above is the count that the bus holds.
 REFUSED, ANSWER, SAID_EVENTS = 125, 126, 127
@@ -161,7 +163,10 @@ def encode(f, o, held):
     store = bytearray(filled)
     lay(store, n, f['patch'])
     after = list(words)
+    if not set(o) <= ANSWERED:
+        raise SystemExit('sample.py: an answer that says more: %s' % (set(o) - ANSWERED))
     put_record(after, o)
+    after[KIND] = int(o.get('kind', f['kind']))
     after[SAID_EVENTS] = int(o['nev'])
     after[REFUSED] = int(o['refused'])
     if after[REFUSED] == 0:
@@ -279,7 +284,7 @@ def main():
         lifted = hashlib.sha256(file.read()).hexdigest()
     lines = ['sample.bin: %d recorded answers of the oracle, %d of them refusals, %d bytes. The format is at the head of oracle/sample.py.'
              % (len(chosen), sum(counts['number'].values()) - counts['number'][0], len(data)),
-             'Made by: oracle/sample.py %s %d %d %s' % (seed, accepted, refused, os.path.relpath(os.path.abspath(out), ROOT)),
+             'Made by: tools/sample.sh (oracle/sample.py %s %d %d)' % (seed, accepted, refused),
              'from the %d examples of oracle/examples.txt that are no return and no walk, and the cases of `oracle gen %s %d` with a store of'
              % (len(shown), seed, made),
              'at most %d bytes and a log of at most %d words, answered by `oracle run`.' % (SMALL, LOG),

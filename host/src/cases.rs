@@ -416,8 +416,11 @@ macro_rules! names {
             $(($name, $set),)*
         ];
 
-        /// The fields that differ, each after a space.
+        /// The kind and the fields that differ, each after a space.
         fn show_changed(out: &mut Vec<u8>, before: &Record, after: &Record) {
+            if before.cpu_type != after.cpu_type {
+                write!(out, " kind={}", after.cpu_type).unwrap();
+            }
             $(if before.$f != after.$f {
                 out.extend_from_slice(concat!(" ", stringify!($f), "=").as_bytes());
                 after.$f.show(out);
@@ -612,5 +615,53 @@ fn show_changes(out: &mut Vec<u8>, before: &[u8], after: &[u8]) {
     }
     if out.len() == start {
         out.push(b'-');
+    }
+}
+
+#[cfg(test)]
+mod tests {
+    use super::*;
+    use crate::record::tests::any;
+    use std::collections::{BTreeMap, BTreeSet};
+
+    /// The fields by their names in the text, as the derived text has them: all that there are.
+    fn fields(record: &Record) -> BTreeMap<String, String> {
+        let text = format!("{record:#?}");
+        let mut fields: BTreeMap<String, String> = BTreeMap::new();
+        let mut last = String::new();
+        for line in text.lines() {
+            if let Some(field) = line.strip_prefix("    ")
+                && !field.starts_with([' ', ']', ')', '}'])
+            {
+                let name = field.split(':').next().unwrap();
+                last = if name == "cpu_type" { "kind" } else { name }.into();
+            }
+            fields.entry(last.clone()).or_default().push_str(line);
+        }
+        fields
+    }
+
+    #[test]
+    fn every_field_that_differs_is_shown() {
+        let mut number = 7u32;
+        let mut next = || {
+            number = number.wrapping_mul(1_664_525).wrapping_add(1_013_904_223);
+            number
+        };
+        let mut seen = BTreeSet::new();
+        for _ in 0..100 {
+            let (before, after) = (any(&mut next), any(&mut next));
+            let (old, new) = (fields(&before), fields(&after));
+            let differing: BTreeSet<_> =
+                old.keys().filter(|&n| old[n] != new[n]).cloned().collect();
+            let mut out = vec![];
+            show_changed(&mut out, &before, &after);
+            let text = String::from_utf8(out).unwrap();
+            let shown = text.split(' ').skip(1).map(|part| part.split('=').next().unwrap().into());
+            assert_eq!(shown.collect::<BTreeSet<String>>(), differing);
+            seen.extend(differing);
+        }
+        assert_eq!(seen.len(), 37, "{seen:?}");
+        assert!(seen.contains("kind"));
     }
 }

@@ -81,6 +81,7 @@ pub fn run(case: &Case) -> Outcome {
         rows: vec![],
         changes: vec![],
         status: 0,
+        kind: case.kind,
         record: case.record.clone(),
     };
     if out.refused == 0 {
@@ -111,6 +112,7 @@ fn lifted_call(case: &Case, out: &mut Outcome) {
     let mut bus = case.store.bus(before.clone(), case.log);
     let mut core = case.record.to_core(case.kind);
     out.answer = perform(&mut core, &mut bus, case.call);
+    out.kind = core.cpu_type as u8;
     out.record = Record::from_core(&core);
     out.changes = changes(&before, &bus);
     out.events = bus.events;

@@ -77,6 +77,8 @@ pub struct Outcome {
     pub changes: Vec<(u32, Vec<u8>)>,
     /// `get_sr` after the call.
     pub status: u16,
+    /// The kind after the call.
+    pub kind: u8,
     /// The record after the call.
     pub record: Record,
 }

@@ -38,6 +38,7 @@ fn turns(case: &Case, count: u32, act: impl Fn(&mut CpuCore, &mut Bus) -> i64) -
         changes: calls::changes(&before, &bus),
         events: bus.events,
         status: leaf::get_sr(&record),
+        kind: core.cpu_type as u8,
         record,
     }
 }

@@ -415,6 +415,9 @@ pub fn format(case: &Case, o: &Outcome) -> String {
     out.push_str(" chg=");
     listed(&mut out, &o.changes, |out, (at, bytes)| show_bytes(out, *at, bytes));
     write!(out, " status={:x}", o.status).unwrap();
+    if o.kind != case.kind {
+        write!(out, " kind={}", o.kind).unwrap();
+    }
     show_changed(&mut out, &case.record, &o.record);
     out
 }

@@ -275,6 +275,15 @@ fn record_is_complete() {
 }
 
 #[test]
+fn a_kind_that_changed_is_shown() {
+    let case = case("call=trap:1 kind=2");
+    let mut o = run(&case);
+    assert!(!format(&case, &o).contains("kind="));
+    o.kind = 3;
+    assert!(format(&case, &o).contains(" status=2700 kind=3 dar="));
+}
+
+#[test]
 fn lines_not_understood() {
     for line in [
         "call=trap kind=2",

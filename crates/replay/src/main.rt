@@ -1,12 +1,12 @@
-// Replays recorded answers of the oracle (oracle/sample.py makes data/sample.bin): each case is a call on the proved code, and its
-// answer, the number of events, each event word, the whole record and the whole store must be those that the oracle gave.
+// Replays recorded answers of the oracle (tools/sample.sh makes data/sample.bin): each case is a call on the proved code, and its
+// answer, the number of events, each event word, the whole record and the whole store must be those that the oracle gave, and the
+// log behind the events as it was. It uses `boundary`, `recorded` for the form of a case and `same` for
+// the verdict; nothing uses it.
 use boundary::RawAnswer;
 use boundary::RawCall;
 use memory::Core;
-
-mod list; // numbers and lists of a case
-mod record; // words to a record and back
-mod same; // whether two lists are the same
+use recorded::list;
+use recorded::record;
 
 fn call_of(w: [u32; 136]) -> RawCall {
     RawCall {
@@ -65,32 +65,32 @@ fn put_answer(w: &mut [u32; 136], r: RawAnswer, cycles: u32) {
     w[127] = r.events;
 }
 
-// Whether the call leaves what was recorded.
+// Whether the call leaves what was recorded. The log that is lent holds words other than 0, on which the events come to lie.
 fn is_same(b: &[u8]) -> bool {
     let mut w = [0u32; 136];
     let mut store = [0u8; 0x10000];
+    let mut log = [0u32; 192];
     let p = list::words(b, 0, &mut w);
     list::fill(&mut store, w[124]);
+    list::fill_log(&mut log, w[124]);
     let q = list::bytes(b, p, &mut store);
     let mut want = w;
     let mut want_store = store;
-    let mut want_log = [0u32; 192];
+    let mut want_log = log;
     let x = list::words(b, q, &mut want);
     let y = list::bytes(b, x, &mut want_store);
     let z = list::row(b, y, &mut want_log);
-    let mut log = [0u32; 192];
     let r = call_case(w, &mut store, &mut log);
     put_answer(&mut w, r, want[51]);
-    if z != b.len() {
-        return false;
-    }
-    if !same::same_case(&w, &want) {
-        return false;
-    }
-    if !same::same_log(&log, &want_log) {
-        return false;
-    }
-    same::same_store(&store, &want_store)
+    same::same_case(
+        z == b.len(),
+        &w,
+        &want,
+        &log,
+        &want_log,
+        &store,
+        &want_store,
+    )
 }
 
 // What was replayed so far: cases, those that differ, and the number of the first that does, from 1.

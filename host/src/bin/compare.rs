@@ -215,8 +215,7 @@ impl Shared<'_> {
         {
             count(&mut tally.refused, number, 1);
         }
-        let errors = found.starts_with(b"error: ") && expected.starts_with("error: ");
-        if found == expected.as_bytes() || errors {
+        if found == expected.as_bytes() {
             return;
         }
         count(&mut tally.differing, name, 1);

@@ -1,4 +1,5 @@
 // The words of a case and the record and bus of a core: word by word, at fixed places, which oracle/sample.py has too.
+use crate::list;
 use cpu::Cpu;
 use cpu::Fault;
 use cpu::Flags;
@@ -63,45 +64,18 @@ fn kept(some: bool, n: u32) -> u32 {
     0
 }
 
+fn kept_row(some: bool, row: [u32; 16]) -> [u32; 16] {
+    if some {
+        return row;
+    }
+    [0; 16]
+}
+
 fn regs_of(w: [u32; 136]) -> Regs {
     Regs {
-        dar: [
-            w[0],
-            w[1],
-            w[2],
-            w[3],
-            w[4],
-            w[5],
-            w[6],
-            w[7],
-            w[8],
-            w[9],
-            w[10],
-            w[11],
-            w[12],
-            w[13],
-            w[14],
-            w[15],
-        ],
-        dar_save: [
-            w[16],
-            w[17],
-            w[18],
-            w[19],
-            w[20],
-            w[21],
-            w[22],
-            w[23],
-            w[24],
-            w[25],
-            w[26],
-            w[27],
-            w[28],
-            w[29],
-            w[30],
-            w[31],
-        ],
-        sp: [w[32], w[33], w[34], w[35], w[36], w[37], w[38], w[39]],
+        dar: list::row_of_16(w, 0),
+        dar_save: list::row_of_16(w, 16),
+        sp: list::row_of_8(w, 32),
     }
 }
 
@@ -177,24 +151,7 @@ fn resume_of(w: [u32; 136]) -> Resume {
         some: flag(w[77]),
         pc: w[78],
         sr: low_word(w[79]),
-        dar: [
-            w[80],
-            w[81],
-            w[82],
-            w[83],
-            w[84],
-            w[85],
-            w[86],
-            w[87],
-            w[88],
-            w[89],
-            w[90],
-            w[91],
-            w[92],
-            w[93],
-            w[94],
-            w[95],
-        ],
+        dar: list::row_of_16(w, 80),
     }
 }
 
@@ -213,33 +170,15 @@ fn bus_of(w: [u32; 136]) -> Bus {
     Bus {
         base: w[96],
         windows: w[97],
-        starts: [w[98], w[99], w[100], w[101], w[102], w[103], w[104], w[105]],
-        lengths: [
-            w[106],
-            w[107],
-            w[108],
-            w[109],
-            w[110],
-            w[111],
-            w[112],
-            w[113],
-        ],
-        responses: [
-            w[114],
-            w[115],
-            w[116],
-            w[117],
-            w[118],
-            w[119],
-            w[120],
-            w[121],
-        ],
+        starts: list::row_of_8(w, 98),
+        lengths: list::row_of_8(w, 106),
+        responses: list::row_of_8(w, 114),
         events: w[122],
     }
 }
 
 // The core that a case starts from.
-pub(crate) fn core_of(w: [u32; 136]) -> Core {
+pub fn core_of(w: [u32; 136]) -> Core {
     Core {
         cpu: cpu_of(w),
         bus: bus_of(w),
@@ -248,51 +187,11 @@ pub(crate) fn core_of(w: [u32; 136]) -> Core {
 
 fn put_regs(w: &mut [u32; 136], c: Regs) {
     let dar = c.dar;
-    w[0] = dar[0];
-    w[1] = dar[1];
-    w[2] = dar[2];
-    w[3] = dar[3];
-    w[4] = dar[4];
-    w[5] = dar[5];
-    w[6] = dar[6];
-    w[7] = dar[7];
-    w[8] = dar[8];
-    w[9] = dar[9];
-    w[10] = dar[10];
-    w[11] = dar[11];
-    w[12] = dar[12];
-    w[13] = dar[13];
-    w[14] = dar[14];
-    w[15] = dar[15];
-}
-
-fn put_saved(w: &mut [u32; 136], c: Regs) {
-    let saved = c.dar_save;
-    w[16] = saved[0];
-    w[17] = saved[1];
-    w[18] = saved[2];
-    w[19] = saved[3];
-    w[20] = saved[4];
-    w[21] = saved[5];
-    w[22] = saved[6];
-    w[23] = saved[7];
-    w[24] = saved[8];
-    w[25] = saved[9];
-    w[26] = saved[10];
-    w[27] = saved[11];
-    w[28] = saved[12];
-    w[29] = saved[13];
-    w[30] = saved[14];
-    w[31] = saved[15];
+    list::put_row(w, 0, &dar);
+    let dar_save = c.dar_save;
+    list::put_row(w, 16, &dar_save);
     let sp = c.sp;
-    w[32] = sp[0];
-    w[33] = sp[1];
-    w[34] = sp[2];
-    w[35] = sp[3];
-    w[36] = sp[4];
-    w[37] = sp[5];
-    w[38] = sp[6];
-    w[39] = sp[7];
+    list::put_row(w, 32, &sp);
 }
 
 fn put_flow(w: &mut [u32; 136], c: Flow, cycles: u32) {
@@ -354,60 +253,24 @@ fn put_resume(w: &mut [u32; 136], c: Resume) {
     w[78] = kept(some, c.pc);
     w[79] = kept(some, wide_word(c.sr));
     let dar = c.dar;
-    w[80] = kept(some, dar[0]);
-    w[81] = kept(some, dar[1]);
-    w[82] = kept(some, dar[2]);
-    w[83] = kept(some, dar[3]);
-    w[84] = kept(some, dar[4]);
-    w[85] = kept(some, dar[5]);
-    w[86] = kept(some, dar[6]);
-    w[87] = kept(some, dar[7]);
-    w[88] = kept(some, dar[8]);
-    w[89] = kept(some, dar[9]);
-    w[90] = kept(some, dar[10]);
-    w[91] = kept(some, dar[11]);
-    w[92] = kept(some, dar[12]);
-    w[93] = kept(some, dar[13]);
-    w[94] = kept(some, dar[14]);
-    w[95] = kept(some, dar[15]);
+    let row = kept_row(some, dar);
+    list::put_row(w, 80, &row);
 }
 
 fn put_bus(w: &mut [u32; 136], c: Bus) {
     w[96] = c.base;
     w[97] = c.windows;
     let starts = c.starts;
-    w[98] = starts[0];
-    w[99] = starts[1];
-    w[100] = starts[2];
-    w[101] = starts[3];
-    w[102] = starts[4];
-    w[103] = starts[5];
-    w[104] = starts[6];
-    w[105] = starts[7];
+    list::put_row(w, 98, &starts);
     let lengths = c.lengths;
-    w[106] = lengths[0];
-    w[107] = lengths[1];
-    w[108] = lengths[2];
-    w[109] = lengths[3];
-    w[110] = lengths[4];
-    w[111] = lengths[5];
-    w[112] = lengths[6];
-    w[113] = lengths[7];
+    list::put_row(w, 106, &lengths);
     let responses = c.responses;
-    w[114] = responses[0];
-    w[115] = responses[1];
-    w[116] = responses[2];
-    w[117] = responses[3];
-    w[118] = responses[4];
-    w[119] = responses[5];
-    w[120] = responses[6];
-    w[121] = responses[7];
+    list::put_row(w, 114, &responses);
     w[122] = c.events;
 }
 
 fn put_cpu(w: &mut [u32; 136], c: Cpu, cycles: u32) {
     put_regs(w, c.regs);
-    put_saved(w, c.regs);
     put_flow(w, c.flow, cycles);
     put_flags(w, c.flags);
     put_queue(w, c.queue);
@@ -416,7 +279,7 @@ fn put_cpu(w: &mut [u32; 136], c: Cpu, cycles: u32) {
 }
 
 // The core that a call left, laid over the words of its case. The cycles that remain are held to the word `cycles`.
-pub(crate) fn put_core(w: &mut [u32; 136], m: Core, cycles: u32) {
+pub fn put_core(w: &mut [u32; 136], m: Core, cycles: u32) {
     put_cpu(w, m.cpu, cycles);
     put_bus(w, m.bus);
 }

@@ -1,8 +1,8 @@
--- `replay::list::row` is safe and ends: the measure is the words that are left. Assumes nothing.
+-- `recorded::list::row` is safe and ends: the measure is the words that are left. Assumes nothing.
 use Prim.Native.Nat.{_-_}
 use borrow.Author.Needs.{needs}
-use Rattle.replay.proofs.list.row.Statement.{statement}
-use Rattle.replay.proofs.list.row.Tie as tie
+use Rattle.recorded.proofs.list.row.Statement.{statement}
+use Rattle.recorded.proofs.list.row.Tie as tie
 
 abbrev Inv-loop : tie.InvT-loop
 Inv-loop b at w₀ count p₀ k₀ w p k = Unit

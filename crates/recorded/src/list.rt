@@ -29,7 +29,7 @@ fn plus(at: usize, n: usize) -> usize {
 }
 
 // Two bytes, the high one first.
-pub(crate) fn word(b: &[u8], at: usize) -> u32
+pub fn word(b: &[u8], at: usize) -> u32
     ensures { λ r. ⌜ r < 0x10000 ⌝ }
 {
     byte(b, at) * 256 + byte(b, plus(at, 1))
@@ -40,7 +40,7 @@ fn long(b: &[u8], at: usize) -> u32 {
 }
 
 // A byte below 251 is the number itself; 251 stands for all ones; 252, 253 and 254 come before one, two and four bytes.
-pub(crate) fn number(b: &[u8], at: usize) -> Taken {
+pub fn number(b: &[u8], at: usize) -> Taken {
     let first = byte(b, at);
     let from = plus(at, 1);
     if first < 251 {
@@ -73,11 +73,21 @@ pub(crate) fn number(b: &[u8], at: usize) -> Taken {
     }
 }
 
-fn set_word(w: &mut [u32], i: u32, v: u32) {
-    let at = i as usize;
+fn word_at(w: &[u32], at: usize) -> u32 {
+    if at < w.len() {
+        return w[at];
+    }
+    0
+}
+
+fn put_word(w: &mut [u32], at: usize, v: u32) {
     if at < w.len() {
         w[at] = v;
     }
+}
+
+fn set_word(w: &mut [u32], i: u32, v: u32) {
+    put_word(w, i as usize, v);
 }
 
 fn set_byte(s: &mut [u8], i: u32, v: u32) {
@@ -87,8 +97,38 @@ fn set_byte(s: &mut [u8], i: u32, v: u32) {
     }
 }
 
+// So many words of a case, from a place on.
+pub fn row_of_16(w: [u32; 136], at: usize) -> [u32; 16] {
+    let mut row = [0u32; 16];
+    let mut i = 0;
+    while i < 16 {
+        put_word(&mut row, i, word_at(&w, plus(at, i)));
+        i += 1;
+    }
+    row
+}
+
+pub fn row_of_8(w: [u32; 136], at: usize) -> [u32; 8] {
+    let mut row = [0u32; 8];
+    let mut i = 0;
+    while i < 8 {
+        put_word(&mut row, i, word_at(&w, plus(at, i)));
+        i += 1;
+    }
+    row
+}
+
+// A row laid over the words of a case, from a place on.
+pub fn put_row(w: &mut [u32; 136], at: usize, row: &[u32]) {
+    let mut i = 0;
+    while i < row.len() {
+        put_word(w, plus(at, i), row[i]);
+        i += 1;
+    }
+}
+
 // A count, then so many pairs: how far on from the last place, and the word there.
-pub(crate) fn words(b: &[u8], at: usize, w: &mut [u32; 136]) -> usize {
+pub fn words(b: &[u8], at: usize, w: &mut [u32; 136]) -> usize {
     let n = number(b, at);
     let count = n.value;
     let mut p = n.next;
@@ -106,7 +146,7 @@ pub(crate) fn words(b: &[u8], at: usize, w: &mut [u32; 136]) -> usize {
 }
 
 // The same of bytes.
-pub(crate) fn bytes(b: &[u8], at: usize, s: &mut [u8; 0x10000]) -> usize {
+pub fn bytes(b: &[u8], at: usize, s: &mut [u8; 0x10000]) -> usize {
     let n = number(b, at);
     let count = n.value;
     let mut p = n.next;
@@ -124,7 +164,7 @@ pub(crate) fn bytes(b: &[u8], at: usize, s: &mut [u8; 0x10000]) -> usize {
 }
 
 // A count, then so many words, from the first place on.
-pub(crate) fn row(b: &[u8], at: usize, w: &mut [u32; 192]) -> usize {
+pub fn row(b: &[u8], at: usize, w: &mut [u32; 192]) -> usize {
     let n = number(b, at);
     let count = n.value;
     let mut p = n.next;
@@ -147,10 +187,25 @@ fn filler(i: u32, fill: u32) -> u32 {
     n ^ (i / 256)
 }
 
-pub(crate) fn fill(s: &mut [u8; 0x10000], fill: u32) {
+pub fn fill(s: &mut [u8; 0x10000], fill: u32) {
     let mut i: u32 = 0;
     while i < 0x10000 {
         set_byte(s, i, filler(i, fill));
+        i += 1;
+    }
+}
+
+// The word that a log has at a place before the call.
+fn unwritten(i: u32, fill: u32) -> u32
+    ensures { λ r. ⌜ 0 < r ⌝ }
+{
+    0xA5000000 + fill % 256 * 0x10000 + i % 0x10000
+}
+
+pub fn fill_log(w: &mut [u32; 192], fill: u32) {
+    let mut i: u32 = 0;
+    while i < 192 {
+        set_word(w, i, unwritten(i, fill));
         i += 1;
     }
 }

@@ -1,0 +1,62 @@
+//! That the comparison notices what differs.
+
+use m68k_host::cases::Cases;
+use std::io::Write;
+use std::process::{Command, Stdio};
+
+const INPUT: &str = "call=trap:f kind=2 a7=8000 pc=1000 ppc=ffe status=2700 patch=bc:00002000";
+
+/// What the proved code answers.
+fn answer(input: &str) -> String {
+    let mut out = vec![];
+    Cases::new().answer(input, &mut out);
+    String::from_utf8(out).unwrap()
+}
+
+/// Whether the program finds that the recorded answer is that of the proved code.
+fn is_same(input: &str, recorded: &str) -> bool {
+    let mut child = Command::new(env!("CARGO_BIN_EXE_compare"))
+        .args(["--file", "-"])
+        .stdin(Stdio::piped())
+        .stdout(Stdio::piped())
+        .spawn()
+        .unwrap();
+    writeln!(child.stdin.take().unwrap(), "{input} => {recorded}").unwrap();
+    let done = child.wait_with_output().unwrap();
+    let text = String::from_utf8(done.stdout).unwrap();
+    let differences = if done.status.success() { 0 } else { 1 };
+    assert_eq!(done.status.code(), Some(differences), "{text}");
+    assert!(text.contains(&format!("compare: 1 cases, {differences} differences, ")), "{text}");
+    done.status.success()
+}
+
+#[test]
+fn every_part_of_an_answer_counts() {
+    let right = answer(INPUT);
+    assert!(is_same(INPUT, &right));
+    let parts: Vec<&str> = right.split(' ').collect();
+    assert!(parts.len() > 10, "{right}");
+    for left_out in 0..parts.len() {
+        let kept: Vec<&str> =
+            (0..parts.len()).filter(|&i| i != left_out).map(|i| parts[i]).collect();
+        assert!(!is_same(INPUT, &kept.join(" ")), "{}", parts[left_out]);
+    }
+}
+
+#[test]
+fn the_kind_counts() {
+    let right = answer(INPUT);
+    let other = right.replace(" status=2700 ", " status=2700 kind=3 ");
+    assert_ne!(other, right);
+    assert!(!is_same(INPUT, &other));
+}
+
+#[test]
+fn errors_are_the_same_only_if_they_say_the_same() {
+    let input = "call=nothing kind=2";
+    assert_eq!(answer(input), "error: `nothing` is no call");
+    assert!(is_same(input, "error: `nothing` is no call"));
+    assert!(!is_same(input, "error: no kind"));
+    assert!(!is_same(input, &answer(INPUT)));
+    assert!(!is_same(INPUT, "error: `nothing` is no call"));
+}
