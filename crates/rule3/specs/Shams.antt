@@ -2,7 +2,7 @@
 -- hold; the list that shows it meets every premise.
 use Prim.Native.Nat.{ℕ, zero, suc, _+_, _-_}
 use mathlib.Core.Path.{_≡_, refl, sym, _∙_}
-use mathlib.Core.Bool.{Bool, true, false, cond, not}
+use mathlib.Core.Bool.{Bool, true, false, cond, not, _&&_}
 use mathlib.Core.List.{List, [], _∷_}
 use native.Mathlib.Omega.{arith}
 use borrow.Author.Tests.{ltb-true}
@@ -10,8 +10,8 @@ use lib.Dec.{eqb, ltb}
 use lib.ListN.{getD, set}
 use Rattle.cpu.specs.declared.Cpu.{Cpu}
 use Rattle.cpu.specs.Groups.{withMFlag}
-use Rattle.cpu.specs.Fields.{a7Of, setA7}
-use Rattle.calls.specs.declared.Call.the-variants.{Trap}
+use Rattle.cpu.specs.Fields.{kindOf, a7Of, setA7}
+use Rattle.calls.specs.declared.Call.the-variants.{Trap, CheckAndServiceInterrupts}
 use Rattle.nest.specs.Nest.{Step, entry, end, depth, Entered, refused, untaken, taken, Returned, denied, returned, Walked, Rule3}
 use Rattle.entered.specs.Machines.{Direct, Room}
 use Rattle.rule3.specs.Checked.{Engine, machineOf, real, premisesTest, premises-tested}
@@ -93,6 +93,20 @@ stays = record { enter = real .enter; giveBack = λ r s. stuck (a7Of r) (real .g
 pub stays-caught : Rule3 (machineOf stays) → ⊥
 unfolding nested
 stays-caught = caught stays (traps stays) (start 4 0x2000 0x180 0x100 0 0x140 0) room refl refl refl
+
+-- ---- one that clears M on the 68060 by switching stacks
+
+abbrev switched : Cpu → Entered Cpu Room → Entered Cpu Room
+switched c (refused n) = refused n
+switched c (untaken r s) = untaken r s
+switched c (taken r s) = taken (cond (eqb (kindOf c) 11 && not (eqb (c .flags .«m_flag») 0)) (setA7 r (getD (r .regs .sp) 6 0)) r) s
+
+abbrev switches : Engine
+switches = record { enter = λ c r s. switched r (real .enter c r s); giveBack = real .giveBack; walk = real .walk }
+
+pub switches-caught : Rule3 (machineOf switches) → ⊥
+unfolding nested
+switches-caught = caught switches (entry (record { call = CheckAndServiceInterrupts; is = refl }) ∷ []) (start 11 0x3000 0x180 0x100 0 0x1C0 7) room refl refl refl
 
 -- ---- a walk that stops one row early
 
