@@ -23,6 +23,10 @@ if ! cargo build -q --release --offline --manifest-path "$here/Cargo.toml"; then
     exit 1
 fi
 echo "oracle: built target/oracle/release/oracle"
+if [ "$test" = yes ] && ! python3 "$here/lift_test.py" -q; then
+    echo "oracle: error: a test of the lifting failed"
+    exit 1
+fi
 if [ "$test" = yes ] && ! cargo test -q --release --offline --manifest-path "$here/Cargo.toml"; then
     echo "oracle: error: a test failed"
     exit 1

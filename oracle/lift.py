@@ -1,5 +1,5 @@
 #!/usr/bin/env python3
-"""Lift the taken items of the Rust crate, by name and unchanged, into one generated file.
+"""Lift the taken items of the Rust crate, by name and unchanged but for the named edits below, into one generated file.
 
 usage: lift.py [--record] [SRC_DIR [OUT_FILE]]
 
@@ -61,6 +61,10 @@ NEEDS = {
 
 # A child module reaches the private functions of the module that it stands in.
 CHILD = {"cpu": "reach_cpu.rs", "execute": "reach_execute.rs", "exceptions": "reach_exceptions.rs"}
+
+# What is altered in the lifted text, and nothing else is: name, module, item, old text, new text. The old text stands in the item
+# exactly once. LIFTED.txt has the items as they are in the crate, and below them the names of the edits.
+EDITS = []
 
 
 class Bad(Exception):
@@ -238,6 +242,21 @@ def assemble(lifted):
     return "\n".join(out) + "\n"
 
 
+def edited(lifted, edits):
+    """The items with each edit made at the one place where its old text stands."""
+    out = [(module, list(items)) for module, items in lifted]
+    for name, module, item, old, new in edits:
+        places = [(items, i) for m, items in out if m == module for i, one in enumerate(items) if one[1] == item]
+        if len(places) != 1:
+            raise Bad("edit %s: %s.rs has %d items %s" % (name, module, len(places), item))
+        items, i = places[0]
+        what, _, text = items[i]
+        if text.count(old) != 1:
+            raise Bad("edit %s: its old text stands %d times in %s of %s.rs" % (name, text.count(old), item, module))
+        items[i] = (what, item, text.replace(old, new))
+    return out
+
+
 def stubs():
     """The stubs, as stubs.rs marks them: lines `// stub: NAME - REASON`."""
     with open(STUBS, encoding="utf-8") as f:
@@ -255,6 +274,10 @@ def listing(lifted):
             out.append("src/core/%s.rs %s %d %s" % (module, label, lines, digest))
     out.append("# stubs, with the reason")
     out += ["stub %s" % s for s in stubs()]
+    if EDITS:
+        out.append("# edits, made after this text was compared")
+    out += ["edit %s src/core/%s.rs %s %s" % (name, module, item, hashlib.sha256((old + "\0" + new).encode()).hexdigest())
+            for name, module, item, old, new in EDITS]
     return "\n".join(out) + "\n"
 
 
@@ -305,11 +328,12 @@ def main(args):
                 f.write(text)
         else:
             compare(text)
+        altered = edited(lifted, EDITS)
     except Bad as e:
         print("lift: error: %s" % e)
         return 1
-    write(out, assemble(lifted))
-    print("lift: %d items" % sum(len(items) for _, items in lifted))
+    write(out, assemble(altered))
+    print("lift: %d items, edits: %s" % (sum(len(items) for _, items in lifted), " ".join(e[0] for e in EDITS) or "none"))
     return 0
 
 

@@ -353,7 +353,7 @@ def main(args):
     if not os.path.isdir(os.path.join(src, "src", "core")) or not shutil.which("cargo"):
         print("mutate: left out: the Rust source or cargo is not there")
         return 3
-    lifted = lift.lift(src)
+    lifted = lift.edited(lift.lift(src), lift.EDITS)
     faults = list(every_fault(lifted))
     for row in EQUIVALENT:
         if not any(matches(row, f) for f in faults):

@@ -4,7 +4,8 @@
 Takes the examples beside it (examples.txt) but returns and walks, then cases of `oracle gen SEED ..` whose store has at most 512 bytes
 and whose log has at most 192 words, asks `oracle run` for each answer, and writes them to OUT (crates/replay/data/sample.bin), with how
 it was done in README.txt beside it: of the generated ones so many that are accepted, spread evenly over the calls and the kinds, then
-so many that are refused, spread over the numbers, then the calls and the kinds. tools/sample.sh has the seed and the counts.
+so many that are refused, spread over the numbers, then the calls and the kinds. Some of the answers stand in spoiled.bin beside it too,
+with one thing wrong each. tools/sample.sh has the seed and the counts.
 ORACLE is the binary, by default target/oracle/release/oracle. The same seed, counts and oracle give the same bytes.
 
 A case is two bytes of length (high byte first) and so many bytes: numbers of one to five bytes. A byte below 251 is the number;
@@ -111,14 +112,14 @@ def start_words(f):
     return words
 
 
+def fill_byte(i, fill):
+    return ((i * 31 + fill) ^ (i >> 8)) & 0xFF if fill else 0
+
+
 def filling(f):
     fill = int(f['fill'], 16)
     n = int(f['len'])
-    store = bytearray(min(n, STORE))
-    if fill:
-        for i in range(len(store)):
-            store[i] = ((i * 31 + fill) ^ (i >> 8)) & 0xFF
-    return store, n
+    return bytearray(fill_byte(i, fill) for i in range(min(n, STORE))), n
 
 
 def lay(store, n, text):
@@ -155,8 +156,12 @@ def pairs(old, new):
     return number(count) + out
 
 
-def encode(f, o, held):
-    """The bytes of a case that starts with a count of events in its bus."""
+# A case and its answer: the words, the filling, the store with the patches; the words and the store after the call, the log's words.
+Case = collections.namedtuple('Case', 'words filled store after changed log')
+
+
+def case_of(f, o, held):
+    """A case that starts with a count of events in its bus, and its answer."""
     words = start_words(f)
     words[EVENTS] = held
     filled, n = filling(f)
@@ -177,9 +182,52 @@ def encode(f, o, held):
     log = [int(x, 16) for e in items(o['ev']) for x in e.split(':')]
     if len(log) != 3 * after[SAID_EVENTS] or len(log) > LOG:
         raise SystemExit('sample.py: %d log words of %d events' % (len(log), after[SAID_EVENTS]))
-    case = pairs([0] * WORDS, words) + pairs(filled, store) + pairs(words, after) + pairs(store, changed)
-    case += number(len(log)) + b''.join(number(x) for x in log)
-    return case
+    return Case(words, filled, store, after, changed, log)
+
+
+def encode(case):
+    out = pairs([0] * WORDS, case.words) + pairs(case.filled, case.store) + pairs(case.words, case.after)
+    out += pairs(case.store, case.changed) + number(len(case.log)) + b''.join(number(x) for x in case.log)
+    return out
+
+
+def framed(data):
+    if len(data) > CASE:
+        raise SystemExit('sample.py: a case of %d bytes' % len(data))
+    return len(data).to_bytes(2, 'big') + data
+
+
+def spoiled(cases):
+    """Answers with one thing wrong each, for which the replay must say that they differ: every word of a case; words of the log, one
+    that lacks, one behind the events, the last one; bytes of the store, the last that is lent and the last of all among them; a case
+    that ends a byte early or late."""
+    # The places of the store are those of its 65,536 bytes, and a log has room behind its events.
+    cases = (c for c in cases if c.after[REFUSED] == 0 and 3 <= len(c.log) < LOG and len(c.store) > 0)
+
+    def other(values, at):
+        return values[:at] + type(values)([values[at] ^ 1]) + values[at + 1:]
+
+    for at in range(WORDS):
+        c = next(cases)
+        yield encode(c._replace(after=other(c.after, at)))
+    for at in (0, 1, 2, -1):
+        c = next(cases)
+        yield encode(c._replace(log=other(c.log, at % len(c.log))))
+    c = next(cases)
+    yield encode(c._replace(log=c.log[:-1]))
+    c = next(cases)
+    yield encode(c._replace(log=c.log + [0]))
+    c = next(cases)
+    unwritten = [0xA5000000 + c.words[FILL] % 256 * 0x10000 + i for i in range(len(c.log), LOG)]
+    yield encode(c._replace(log=c.log + other(unwritten, -1 % len(unwritten))))
+    for at in (0, -1):
+        c = next(cases)
+        yield encode(c._replace(changed=other(c.changed, at % len(c.changed))))
+    c = next(cases)
+    rest = bytearray(fill_byte(i, c.words[FILL]) for i in range(len(c.store), STORE))
+    yield encode(c._replace(store=c.store + rest, changed=c.changed + other(rest, -1 % len(rest)), filled=c.filled + rest))
+    yield encode(next(cases))[:-1]
+    yield encode(next(cases)) + b'\0'
 
 
 def wanted(f, most):
@@ -266,20 +314,21 @@ def main():
     shown = examples()
     chosen = shown + chosen
     answers = run(oracle, ['run'], '\n'.join(chosen) + '\n')
-    data = bytearray()
+    data, cases = bytearray(), []
     counts = collections.defaultdict(collections.Counter)
     for i, (given, answer) in enumerate(zip(chosen, answers, strict=True)):
         f, o = complete(fields(given)), fields(answer)
-        case = encode(f, o, 0 if i % 4 else 1 + i % 300)
-        if len(case) > CASE:
-            raise SystemExit('sample.py: a case of %d bytes: %s' % (len(case), given))
-        data += len(case).to_bytes(2, 'big') + case
+        cases.append(case_of(f, o, 0 if i % 4 else 1 + i % 300))
+        data += framed(encode(cases[-1]))
         answered = 'refused' if int(o['refused']) else 'accepted'
         counts['call'][(CALLS.index(f['call'].split(':')[0]), answered)] += 1
         counts['kind'][(int(f['kind']), answered)] += 1
         counts['number'][int(o['refused'])] += 1
     with open(out, 'wb') as file:
         file.write(data)
+    wrong = [framed(case) for case in spoiled(iter(cases))]
+    with open(os.path.join(os.path.dirname(os.path.abspath(out)), 'spoiled.bin'), 'wb') as file:
+        file.write(b''.join(wrong))
     with open(os.path.join(HERE, 'LIFTED.txt'), 'rb') as file:
         lifted = hashlib.sha256(file.read()).hexdigest()
     lines = ['sample.bin: %d recorded answers of the oracle, %d of them refusals, %d bytes. The format is at the head of oracle/sample.py.'
@@ -289,6 +338,8 @@ def main():
              % (len(shown), seed, made),
              'at most %d bytes and a log of at most %d words, answered by `oracle run`.' % (SMALL, LOG),
              'SHA-256 of sample.bin: ' + hashlib.sha256(data).hexdigest(),
+             'spoiled.bin: %d of these answers with one thing wrong each, on which the replay must find as many differences.' % len(wrong),
+             'SHA-256 of spoiled.bin: ' + hashlib.sha256(b''.join(wrong)).hexdigest(),
              'SHA-256 of oracle/LIFTED.txt (what the oracle runs): ' + lifted,
              '', 'Cases by call, accepted and refused:']
     lines += ['  %-30s %5d %5d' % (c, counts['call'][(i, 'accepted')], counts['call'][(i, 'refused')]) for i, c in enumerate(CALLS)]

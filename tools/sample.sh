@@ -1,6 +1,6 @@
 #!/usr/bin/env bash
 # sample.sh SOURCE [--check|--record]: builds the oracle from the Rust at SOURCE and makes the recorded answers of crates/replay anew
-# from their seed, in target/sample: sample.bin and README.txt. With --check it fails unless both are, byte for byte, those in
+# from their seed, in target/sample: sample.bin, spoiled.bin and README.txt. With --check it fails unless all are, byte for byte, those in
 # crates/replay/data; with --record it puts them there.
 set -euo pipefail
 cd "$(dirname "${BASH_SOURCE[0]}")/.."
@@ -13,7 +13,7 @@ oracle/build.sh "$source_of_rust"
 rm -rf target/sample
 mkdir -p target/sample
 python3 oracle/sample.py $seed $accepted $refused target/sample/sample.bin
-for file in sample.bin README.txt; do
+for file in sample.bin spoiled.bin README.txt; do
   if [ "$what" = --record ]; then
     cp "target/sample/$file" "$data/$file"
   elif [ "$what" = --check ] && ! cmp "target/sample/$file" "$data/$file"; then

@@ -1,7 +1,6 @@
 // Replays recorded answers of the oracle (tools/sample.sh makes data/sample.bin): each case is a call on the proved code, and its
 // answer, the number of events, each event word, the whole record and the whole store must be those that the oracle gave, and the
-// log behind the events as it was. It uses `boundary`, `recorded` for the form of a case and `same` for
-// the verdict; nothing uses it.
+// log behind the events as it was. It uses `boundary`, `recorded` for the form of a case and `same` for the verdict; nothing uses it.
 use boundary::RawAnswer;
 use boundary::RawCall;
 use memory::Core;
@@ -183,6 +182,13 @@ fn report(t: Tally) {
     }
 }
 
+fn replay_all(fd: i32) {
+    let t = replay(fd);
+    libc::close(fd);
+    report(t);
+}
+
+// The recorded answers, and then spoiled ones, on each of which it must find a difference.
 fn main() {
     let path = b"sample.bin";
     let fd = os::open_read(path);
@@ -190,7 +196,13 @@ fn main() {
         os::fail(path);
         return;
     }
-    let t = replay(fd);
-    libc::close(fd);
-    report(t);
+    replay_all(fd);
+    let spoiled = b"spoiled.bin";
+    let other = os::open_read(spoiled);
+    if other < 0 {
+        os::fail(spoiled);
+        return;
+    }
+    io::write_all(1, b"spoiled answers: ");
+    replay_all(other);
 }
