@@ -13,7 +13,7 @@ import tempfile
 
 sys.path.insert(0, os.path.dirname(os.path.abspath(__file__)))
 from facts import Places, lts_path  # noqa: E402
-from scaffold import ROOT, blocks, dev  # noqa: E402
+from scaffold import ROOT, away, blocks, dev  # noqa: E402
 
 
 def answer(places, need, definition, laws):
@@ -59,8 +59,11 @@ def main():
     p.add_argument("--generated", help="a folder that `rt dev CRATE --generated` wrote")
     a = p.parse_args()
     own = os.path.join(ROOT, "crates", a.crate, "proofs", a.function, "Proof.antt")
-    if not a.reuse and os.path.exists(own):
-        os.remove(own)
+    with away([own] if not a.reuse else []):
+        fill(a, own)
+
+
+def fill(a, own):
     printed = open(a.reuse, encoding="utf-8").read() if a.reuse else dev(a.crate)
     generated = a.generated or tempfile.mkdtemp()
     if not a.generated:

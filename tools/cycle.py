@@ -13,7 +13,7 @@ HERE = os.path.dirname(os.path.abspath(__file__))
 ROOT = os.path.dirname(HERE)
 sys.path.insert(0, HERE)
 from facts import Places, lts_path  # noqa: E402
-from scaffold import blocks, dev  # noqa: E402
+from scaffold import away, blocks, dev  # noqa: E402
 
 
 def start_path(places, record):
@@ -45,8 +45,13 @@ def write_cycle(a, wanted, plans, functions):
     cycle = "+" + "+".join(sorted(f.name for f in wanted))
     folder = os.path.join(ROOT, "crates", a.crate, "proofs", module, cycle)
     path = os.path.join(folder, "Proof.antt")
-    if os.path.exists(path):
-        os.remove(path)
+    with away([path]):
+        fill_cycle(a, wanted, plans, functions, ranks, members, cycle, path)
+    print(*[x for x in dev(a.crate).split("\n") if ": error" in x or (x.startswith(("fn ", "logic=")) and ": proved" not in x)][:40], sep="\n")
+
+
+def fill_cycle(a, wanted, plans, functions, ranks, members, cycle, path):
+    import ways as W
     out = dev(a.crate)
     generated = tempfile.mkdtemp()
     dev(a.crate, "--generated", generated)
@@ -97,10 +102,9 @@ def write_cycle(a, wanted, plans, functions):
             text = re.sub(rf"^({re.escape(line)} t c(?: κs)? = ).*$", lambda m: m.group(1) + got, text, flags=re.M)
     head = "use mathlib.Core.Path.{_≡_, refl, _∙_}\nuse native.Mathlib.Omega.{arith}\nuse borrow.Author.Needs.{needs}\nuse Prim.Native.Nat.{_+_, _*_}\n"
     head += f"use Rattle.{a.crate}.proofs.{a.laws}.{{{', '.join(dict.fromkeys(names))}}}\n"
-    os.makedirs(folder, exist_ok=True)
+    os.makedirs(os.path.dirname(path), exist_ok=True)
     text = text.replace("use borrow.Author.Needs.{needs}\n", "", 1)
     open(path, "w", encoding="utf-8").write(head + text)
-    print(*[x for x in dev(a.crate).split("\n") if ": error" in x or (x.startswith(("fn ", "logic=")) and ": proved" not in x)][:40], sep="\n")
 
 
 def has_requires(functions, callee, crate):

@@ -14,7 +14,7 @@ import tempfile
 
 sys.path.insert(0, os.path.dirname(os.path.abspath(__file__)))
 from facts import Places, lts_path  # noqa: E402
-from scaffold import ROOT, blocks, dev  # noqa: E402
+from scaffold import ROOT, away, blocks, dev  # noqa: E402
 from ways import Walker, constants, deps, read_functions, uses  # noqa: E402
 
 HEAD = """-- The rows of the table of calls by number, by tools/rows.py: a law for each arm of the code.
@@ -89,8 +89,11 @@ def main():
     for path, text in texts(a.crate, a.laws, [a.function]).items():
         write(path, text)
     own = os.path.join(ROOT, "crates", a.crate, "proofs", a.function, "Proof.antt")
-    if os.path.exists(own):
-        os.remove(own)
+    with away([own]):
+        fill(a, own)
+
+
+def fill(a, own):
     printed, generated = dev(a.crate), tempfile.mkdtemp()
     dev(a.crate, "--generated", generated)
     places, count = Places(lts_path(generated, a.crate, a.function)), len(arms(a.crate, a.function))

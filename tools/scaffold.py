@@ -6,6 +6,7 @@ hole `?` for a person. An answer is only a proposal: the check decides. `returns
 function's contract names; tests on the way become `ltb`, `leb` and `eqb` facts, calls become what they ensure.
 """
 import argparse
+import contextlib
 import os
 import re
 import subprocess
@@ -44,6 +45,25 @@ def blocks(out):
                     body.append(lines[at][4:])
                 at += 1
             yield m.group(1), body
+
+
+@contextlib.contextmanager
+def away(paths):
+    """Takes proof files away, so that the check prints them; those that nobody wrote by the end are put back."""
+    kept = {}
+    for path in filter(os.path.exists, paths):
+        with open(path, encoding="utf-8") as file:
+            kept[path] = file.read()
+        os.remove(path)
+    try:
+        yield
+    finally:
+        for path, text in kept.items():
+            if not os.path.exists(path):
+                os.makedirs(os.path.dirname(path), exist_ok=True)
+                with open(path, "w", encoding="utf-8") as file:
+                    file.write(text)
+                print(f"{os.path.relpath(path, ROOT)}: left as it was; the check does not ask for it")
 
 
 def sources(crate):

@@ -1,16 +1,13 @@
+use mathlib.Core.Path.{_≡_, refl, _∙_}
 use Rattle.refusals.proofs.Ways.{odd-base-way, odd-base-way-2}
-use mathlib.Core.Path.{_≡_, refl, sym, _∙_}
-use native.Mathlib.Omega.{arith}
-use lib.ListN.{length-set}
-use borrow.Author.Tests.{lt-ltb, le-ltb, le-leb, lt-leb, eq-eqb, ne-eqb}
 use borrow.Author.Needs.{needs}
 use Rattle.refusals.proofs.odd_base.Statement.{statement}
 use Rattle.refusals.proofs.odd_base.Tie as tie
 use Rattle.refusals.proofs.odd_base.Reads as reads
 use Rattle.refusals.proofs.odd_base.Lts as lts
-use Rattle.refusals.proofs.odd.Reads as odd-reads
 use Rattle.cpu.proofs.fields.aligned_kind.Reads as aligned-kind-reads
 use Rattle.cpu.proofs.fields.vbr.Reads as vbr-reads
+use Rattle.refusals.proofs.odd.Reads as odd-reads
 
 aligned-kind-requires : tie.Need-aligned-kind-requires
 aligned-kind-requires c κs = search needs

@@ -1,8 +1,5 @@
+use mathlib.Core.Path.{_≡_, refl, _∙_}
 use Rattle.refusals.proofs.Ways.{refusal-way, refusal-way-2, refusal-way-3, refusal-way-4, refusal-way-5, refusal-way-6, refusal-way-7, refusal-way-8, refusal-way-9, refusal-way-10}
-use mathlib.Core.Path.{_≡_, refl, sym, _∙_}
-use native.Mathlib.Omega.{arith}
-use lib.ListN.{length-set}
-use borrow.Author.Tests.{lt-ltb, le-ltb, le-leb, lt-leb, eq-eqb, ne-eqb}
 use borrow.Author.Needs.{needs}
 use Rattle.refusals.proofs.refusal.Statement.{statement}
 use Rattle.refusals.proofs.refusal.Tie as tie
