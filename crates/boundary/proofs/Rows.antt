@@ -10,6 +10,7 @@ use Rattle.boundary.specs.declared.RawCall.{RawCall}
 use Rattle.calls.specs.declared.Call.the-variants.{ExceptionAddressError, ExceptionBusError, Push16, SetIrq, TakeTrapException, Trap, TriggerAddressError, TriggerBusError, Write16}
 use Rattle.types.specs.Causes.{causeOf}
 use Rattle.types.specs.declared.FaultCause.{FaultCause}
+use borrow.Author.Tests.{ne-eqb}
 
 pub row : (c : RawCall) (k : ℕ) → c .number ≡ k → find k (callsOf c) ≡ decode c
 unfolding decode

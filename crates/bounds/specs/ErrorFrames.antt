@@ -8,8 +8,7 @@ use Rattle.types.specs.Kinds.{pick, isPre68020, is040, is060}
 use Rattle.cpu.specs.declared.Cpu.{Cpu}
 use Rattle.cpu.specs.Fields.{kindOf}
 use Rattle.frames.specs.declared.Frame.{Frame}
-use Rattle.frames.specs.Frames.{fieldAt, frame68000, frame8, frame2, frame0, frame4, frame7, frame11, addressFrame, busFrame}
-use Rattle.steps.specs.Steps.{isCounted, isRaw}
+use Rattle.frames.specs.Frames.{fieldAt, frame68000, frame8, frame2, frame0, frame4, frame7, frame11, addressFrame, busFrame, isCounted, isRaw}
 use Rattle.bounds.specs.Skeleton.{afterFields, anyGuarded, pick-one}
 
 -- the fields that are written: those that are only counted are not

@@ -10,26 +10,26 @@ use Rattle.cpu.specs.Fields.{a7Of, setA7, isFaulted, inException, causeNumberOf
 use Rattle.status.specs.Status.{keepResume, clearTrace}
 use Rattle.status.specs.Banks.{enterSupervisor, setSFlag, restoreSp, putS, backupSp}
 use Rattle.cpu.specs.Clocks.{setClocks, clearPrefetch, firstWord, secondWord}
-use Rattle.memory.specs.World.{World, reply, widthOf, putCpu, withCpu, noted, stored, flush, release, rawWrite, rawRead}
+use Rattle.memory.specs.World.{World, reply, widthOf, putCpu, withCpu, noted, stored, flush, release, rawWrite, rawRead, cpuOf, step}
 use Rattle.frames.specs.declared.Field.{Field}
 use Rattle.frames.specs.declared.Frame.{Frame}
-use Rattle.frames.specs.Frames.{fieldAt, busFrame, addressFrame}
-use Rattle.steps.specs.Steps.{beginBus, beginAddress, enterBusError, isCounted, isRaw}
-use Rattle.faults.specs.Faults.{Request, busError, addressError, Raise, cpuOf, on, readAt, writeAt, stackField, pushField, pushFields, pushFrame, jumpVector, prefetchFirst, prefetchSecond, exceptionAddressError, exceptionBusError, closed, ended, raiseBus, raiseAddress, trigger}
+use Rattle.frames.specs.Frames.{fieldAt, busFrame, addressFrame, isCounted, isRaw}
+use Rattle.steps.specs.Steps.{beginBus, beginAddress, enterBusError, closeBus}
+use Rattle.faults.specs.Faults.{busError, addressError, Raise, readAt, writeAt, stackField, pushField, pushFields, pushFrame, jumpVector, prefetchFirst, prefetchSecond, exceptionAddressError, exceptionBusError, raiseBus, raiseAddress, trigger, Fault}
 use Rattle.bounds.specs.Skeleton.{Steps, Raises, pick-one, pick-when, flush-ways, write-ways, read-ways, clocks-ways, pushFields-good, jump-good, prefetchFirst-good, prefetchSecond-good, frame-good}
 
 abbrev pub Faulted : World → Type 0
 Faulted w = isFaulted (cpuOf w) ≡ true
 
-halts : (w : World) → Faulted (on w (halted (cpuOf w)))
+halts : (w : World) → Faulted (withCpu w (halted (cpuOf w)))
 unfolding isFaulted halted putCpu
 halts w = refl
 
-closes : (w : World) → Faulted (closed w)
+closes : (w : World) → Faulted (step closeBus w)
 unfolding isFaulted putCpu setException keepResume
 closes w = refl
 
-ends : (w : World) → Faulted (ended w)
+ends : (w : World) → Faulted (step keepResume w)
 unfolding isFaulted putCpu keepResume
 ends w = refl
 
@@ -42,15 +42,15 @@ unfolding raiseAddress
 address-ends w x p = pick-when Faulted (isFaulted (cpuOf w)) (λ h. h) (λ h. p)
 
 -- after a trigger the record is faulted, at any level and from any world
-pub trigger-faulted : (n : ℕ) (w : World) (q : Request) → isFaulted (trigger n w q .core .cpu) ≡ true
+pub trigger-faulted : (n : ℕ) (w : World) (q : Fault) → isFaulted (trigger n w q .core .cpu) ≡ true
 unfolding trigger
 trigger-faulted zero w (busError a wr i z) = bus-ends w _ (halts w)
-trigger-faulted (suc n) w (busError a wr i z) = bus-ends w _ (closes (exceptionBusError (trigger n) (on w (beginBus (cpuOf w))) a wr i z (causeNumberOf (cpuOf w))))
+trigger-faulted (suc n) w (busError a wr i z) = bus-ends w _ (closes (exceptionBusError (trigger n) (withCpu w (beginBus (cpuOf w))) a wr i z (causeNumberOf (cpuOf w))))
 trigger-faulted zero w (addressError a wr i) = address-ends w _ (halts w)
-trigger-faulted (suc n) w (addressError a wr i) = address-ends w _ (ends (exceptionAddressError (trigger n) (on w (beginAddress (cpuOf w))) a wr i))
+trigger-faulted (suc n) w (addressError a wr i) = address-ends w _ (ends (exceptionAddressError (trigger n) (withCpu w (beginAddress (cpuOf w))) a wr i))
 
 -- on a faulted record a trigger does nothing
-pub trigger-none : (n : ℕ) (w : World) (q : Request) → isFaulted (w .core .cpu) ≡ true → trigger n w q ≡ w
+pub trigger-none : (n : ℕ) (w : World) (q : Fault) → isFaulted (w .core .cpu) ≡ true → trigger n w q ≡ w
 unfolding trigger raiseBus raiseAddress
 trigger-none zero w (busError a wr i z) h = rw h
 trigger-none (suc n) w (busError a wr i z) h = rw h
@@ -78,9 +78,9 @@ module _ (t : Raise) where
   stack-none w f r h = pick-one (λ x. x ≡ w) (isCounted f) refl (rw r (write-none w _ (f .long) (f .value) h))
 
   -- a push only lowers A7
-  pub push-none : (w : World) (f : Field) → isRaw f ≡ false → isFaulted (w .core .cpu) ≡ true → pushField t w f ≡ on w (lowerA7 (cpuOf w) (widthOf (f .long)))
+  pub push-none : (w : World) (f : Field) → isRaw f ≡ false → isFaulted (w .core .cpu) ≡ true → pushField t w f ≡ withCpu w (lowerA7 (cpuOf w) (widthOf (f .long)))
   unfolding pushField putCpu
-  push-none w f r h = stack-none (on w (lowerA7 (cpuOf w) (widthOf (f .long)))) f r (lower-faulted (cpuOf w) (widthOf (f .long)) ∙ h)
+  push-none w f r h = stack-none (withCpu w (lowerA7 (cpuOf w) (widthOf (f .long)))) f r (lower-faulted (cpuOf w) (widthOf (f .long)) ∙ h)
 
 -- whether one of the first k fields is pushed by a raw access
 unfoldable pub anyRaw : Frame → ℕ → Bool
@@ -113,11 +113,11 @@ lowered-a7 c f (suc k) =
     (r .0, r .1 ∙ set-twice c _ (r .0))
 
 -- a frame with no raw field, pushed on a faulted record: store, log and bus are as they were, and of the record only A7 is lowered
-pub fields-none : (t : Raise) (w : World) (f : Frame) (k : ℕ) → anyRaw f k ≡ false → isFaulted (w .core .cpu) ≡ true → pushFields t w f k ≡ on w (lowered (cpuOf w) f k)
+pub fields-none : (t : Raise) (w : World) (f : Frame) (k : ℕ) → anyRaw f k ≡ false → isFaulted (w .core .cpu) ≡ true → pushFields t w f k ≡ withCpu w (lowered (cpuOf w) f k)
 unfolding pushFields lowered anyRaw putCpu
 fields-none t w f zero r h = refl
 fields-none t w f (suc k) r h =
-    let x : World = on w (lowerA7 (cpuOf w) (widthOf (fieldAt f k .long))) in
+    let x : World = withCpu w (lowerA7 (cpuOf w) (widthOf (fieldAt f k .long))) in
     let e = either-false (isRaw (fieldAt f k)) (anyRaw f k) r in
     ap (λ y. pushFields t y f k) (push-none t w (fieldAt f k) (e .0) h) ∙ fields-none t x f k (e .1) (lower-faulted (cpuOf w) (widthOf (fieldAt f k .long)) ∙ h)
 
@@ -126,7 +126,7 @@ abbrev Stays : ℕ → World → Type 0
 Stays n w = Faulted w
 
 flushes : (n : ℕ) (w : World) → Stays n w → Stays n (flush w)
-unfolding isFaulted noted withCpu putCpu setClocks
+unfolding isFaulted noted putCpu setClocks
 flushes n w p = flush-ways Faulted w (λ h. p) p
 
 writes : (n : ℕ) (w : World) (a : ℕ) (g : Bool) (v : ℕ) → Stays n w → Stays (suc n) (rawWrite w a g v)
@@ -144,11 +144,11 @@ steps = record { weaken = λ n w p. p; flushes = flushes; lowers = λ n w g p. p
 raises : (n : ℕ) → Raises Stays (λ a. Unit {0}) true (trigger n) (trigger n)
 raises n = record { fetching = λ m w p h. refl; bus = λ m w a wr i z p. (refl, trigger-faulted n w (busError a wr i z)); odd = λ m w a wr i p o h. (refl, trigger-faulted n w _); vector = λ m w v p. tt }
 
-enter-faulted : (w : World) → Faulted w → Faulted (on w (enterSupervisor (cpuOf w)))
+enter-faulted : (w : World) → Faulted w → Faulted (withCpu w (enterSupervisor (cpuOf w)))
 unfolding putCpu isFaulted enterSupervisor clearTrace setSFlag restoreSp putS backupSp
 enter-faulted w p = p
 
-enter-bus-faulted : (w : World) → Faulted w → Faulted (on w (enterBusError (cpuOf w)))
+enter-bus-faulted : (w : World) → Faulted w → Faulted (withCpu w (enterBusError (cpuOf w)))
 unfolding putCpu isFaulted enterBusError clearFcOverride enterSupervisor clearTrace setSFlag restoreSp putS backupSp
 enter-bus-faulted w p = p
 
@@ -176,9 +176,9 @@ module _ (n : ℕ) (w : World) (h : isFaulted (w .core .cpu) ≡ true) where
 -- through an address error entry that is called
 pub entryAddress-faulted : (n : ℕ) (w : World) (a : ℕ) (wr i : Bool) → isFaulted (w .core .cpu) ≡ true → isFaulted (exceptionAddressError (trigger n) w a wr i .core .cpu) ≡ true
 unfolding exceptionAddressError
-entryAddress-faulted n w a wr i h = frame-faulted n (on w (enterSupervisor (cpuOf w))) (enter-faulted w h) (addressFrame (cpuOf w) a wr i) 3
+entryAddress-faulted n w a wr i h = frame-faulted n (withCpu w (enterSupervisor (cpuOf w))) (enter-faulted w h) (addressFrame (cpuOf w) a wr i) 3
 
 -- through a bus error entry that is called
 pub entryBus-faulted : (n : ℕ) (w : World) (a : ℕ) (wr i : Bool) (z cause : ℕ) → isFaulted (w .core .cpu) ≡ true → isFaulted (exceptionBusError (trigger n) w a wr i z cause .core .cpu) ≡ true
 unfolding exceptionBusError
-entryBus-faulted n w a wr i z cause h = frame-faulted n (on w (enterBusError (cpuOf w))) (enter-bus-faulted w h) (busFrame (cpuOf w) a wr i z cause) 2
+entryBus-faulted n w a wr i z cause h = frame-faulted n (withCpu w (enterBusError (cpuOf w))) (enter-bus-faulted w h) (busFrame (cpuOf w) a wr i z cause) 2

@@ -12,9 +12,8 @@ use Rattle.status.specs.Banks.{enterSupervisor, setSFlag, restoreSp, putS, back
 use Rattle.cpu.specs.Clocks.{hasClocks, clocksOf, prefetchEnabled, setClocks, internalCycles, clearPrefetch, firstWord, secondWord}
 use Rattle.memory.specs.Log.{noteLog, counted}
 use Rattle.memory.specs.LogLaws.{Event, replay, spell, replay-spell, Spells}
-use Rattle.memory.specs.World.{World, putCpu, withCpu, noted, stored, flush, release, rawWrite, rawRead}
-use Rattle.steps.specs.Steps.{beginBus, beginAddress, enterBusError}
-use Rattle.faults.specs.Faults.{cpuOf, on, closed, ended}
+use Rattle.memory.specs.World.{World, putCpu, withCpu, noted, stored, flush, release, rawWrite, rawRead, cpuOf, step}
+use Rattle.steps.specs.Steps.{beginBus, beginAddress, enterBusError, closeBus}
 use Rattle.bounds.specs.Skeleton.{Steps, more, flush-ways, write-ways, read-ways, clocks-ways}
 
 -- what may still be logged: the clocks that wait, and one trigger's cost while the record is not faulted
@@ -49,7 +48,7 @@ one-low false = omega arith
 
 module _ (c : ℕ) (l : List ℕ) where
   flushes : (n : ℕ) (w : World) → Books c l n w → Books c l n (flush w)
-  unfolding noted withCpu putCpu counted setClocks hasClocks isFaulted
+  unfolding noted putCpu counted setClocks hasClocks isFaulted
   flushes n w p = flush-ways (Books c l n) w (λ h. enter 5 0 (clocksOf (cpuOf w)) (omega arith) (rw h at p)) p
 
   writes : (n : ℕ) (w : World) (a : ℕ) (g : Bool) (v : ℕ) → Books c l n w → Books c l (suc n) (rawWrite w a g v)
@@ -69,17 +68,17 @@ module _ (c : ℕ) (l : List ℕ) where
   unfolding release
   releases n w p = noted-books n w 7 0 0 p
 
-  clocked : (q : Bool) (n : ℕ) (w : World) (v : ℕ) → q ≡ true → Books c l n w → Books c l (more q n) (on w (setClocks (cpuOf w) ((clocksOf (cpuOf w) + v) % 2 ^ 32)))
+  clocked : (q : Bool) (n : ℕ) (w : World) (v : ℕ) → q ≡ true → Books c l n w → Books c l (more q n) (withCpu w (setClocks (cpuOf w) ((clocksOf (cpuOf w) + v) % 2 ^ 32)))
   unfolding setClocks putCpu isFaulted
   clocked q n w v h p = rw h (pay (let z = one-low (hasClocks (setClocks (cpuOf w) ((clocksOf (cpuOf w) + v) % 2 ^ 32))) in omega arith) p)
 
-  idle : (q : Bool) (n : ℕ) (w : World) → Books c l n w → Books c l (more q n) (on w (cpuOf w))
+  idle : (q : Bool) (n : ℕ) (w : World) → Books c l n w → Books c l (more q n) (withCpu w (cpuOf w))
   unfolding putCpu
   idle true n w p = pay (omega arith) p
   idle false n w p = p
 
   -- clocks that begin to wait are an event to come, on the kinds with a queue
-  pub clocks-books : (q : Bool) (n : ℕ) (w : World) (v : ℕ) → (prefetchEnabled (cpuOf w) ≡ true → q ≡ true) → Books c l n w → Books c l (more q n) (on w (internalCycles (cpuOf w) v))
+  pub clocks-books : (q : Bool) (n : ℕ) (w : World) (v : ℕ) → (prefetchEnabled (cpuOf w) ≡ true → q ≡ true) → Books c l n w → Books c l (more q n) (withCpu w (internalCycles (cpuOf w) v))
   clocks-books q n w v h p = clocks-ways (Books c l (more q n)) w v (λ e. clocked q n w v (h e) p) (idle q n w p)
 
   -- each step pays for its own event
@@ -92,39 +91,39 @@ module _ (c : ℕ) (l : List ℕ) where
   afford n w h p = let z = (rw h at p) .cost in omega arith
 
   -- a trigger of a bus error begins, from a record that is not faulted
-  pub begin-bus : (d n m : ℕ) (w : World) → isFaulted (cpuOf w) ≡ false → d + n ≤ c + m → Books c l n w → Books d l m (on w (beginBus (cpuOf w)))
+  pub begin-bus : (d n m : ℕ) (w : World) → isFaulted (cpuOf w) ≡ false → d + n ≤ c + m → Books c l n w → Books d l m (withCpu w (beginBus (cpuOf w)))
   unfolding beginBus clearCause setException restoreRegisters restoreSr setSrNointNosp putCpu hasClocks isFaulted
   begin-bus d n m w h e p = rw h (pay (omega arith) (rw h at p))
 
   -- a trigger of an address error begins
-  pub begin-address : (d n m : ℕ) (w : World) → isFaulted (cpuOf w) ≡ false → d + n ≤ c + m → Books c l n w → Books d l m (on w (beginAddress (cpuOf w)))
+  pub begin-address : (d n m : ℕ) (w : World) → isFaulted (cpuOf w) ≡ false → d + n ≤ c + m → Books c l n w → Books d l m (withCpu w (beginAddress (cpuOf w)))
   unfolding beginAddress restoreRegisters restoreSr setSrNointNosp putCpu hasClocks isFaulted
   begin-address d n m w h e p = rw h (pay (omega arith) (rw h at p))
 
   -- a halt costs nothing
-  pub halted-books : (n : ℕ) (w : World) → Books c l n w → Books c l n (on w (halted (cpuOf w)))
+  pub halted-books : (n : ℕ) (w : World) → Books c l n w → Books c l n (withCpu w (halted (cpuOf w)))
   unfolding halted putCpu hasClocks isFaulted
   halted-books n w p = pay (omega arith) p
 
   -- nor does supervisor state
-  pub super-books : (n : ℕ) (w : World) → Books c l n w → Books c l n (on w (enterSupervisor (cpuOf w)))
+  pub super-books : (n : ℕ) (w : World) → Books c l n w → Books c l n (withCpu w (enterSupervisor (cpuOf w)))
   unfolding putCpu hasClocks isFaulted enterSupervisor clearTrace setSFlag restoreSp putS backupSp
   super-books n w p = p
 
   -- nor does that of a bus error entry
-  pub super-bus-books : (n : ℕ) (w : World) → Books c l n w → Books c l n (on w (enterBusError (cpuOf w)))
+  pub super-bus-books : (n : ℕ) (w : World) → Books c l n w → Books c l n (withCpu w (enterBusError (cpuOf w)))
   unfolding putCpu hasClocks isFaulted enterBusError clearFcOverride enterSupervisor clearTrace setSFlag restoreSp putS backupSp
   super-bus-books n w p = p
 
   -- a trigger of a bus error ends: nothing more is due but the clocks
-  pub closed-books : (d n m : ℕ) (w : World) → m ≤ n → Books c l m w → Books d l n (closed w)
+  pub close-bus-books : (d n m : ℕ) (w : World) → m ≤ n → Books c l m w → Books d l n (step closeBus w)
   unfolding keepResume setException putCpu hasClocks isFaulted
-  closed-books d n m w e p = pay (omega arith) p
+  close-bus-books d n m w e p = pay (omega arith) p
 
   -- a trigger of an address error ends
-  pub ended-books : (d n m : ℕ) (w : World) → m ≤ n → Books c l m w → Books d l n (ended w)
+  pub close-address-books : (d n m : ℕ) (w : World) → m ≤ n → Books c l m w → Books d l n (step keepResume w)
   unfolding keepResume putCpu hasClocks isFaulted
-  ended-books d n m w e p = pay (omega arith) p
+  close-address-books d n m w e p = pay (omega arith) p
 
 -- at the start there is no event: the clocks and one trigger may come
 pub start : (c : ℕ) (w : World) → w .core .bus .events ≡ 0 → Books c (w .log) (suc c) w

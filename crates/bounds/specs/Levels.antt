@@ -11,12 +11,12 @@ use Rattle.cpu.specs.Fields.{kindOf, vbrOf, addressOf, checksAlignment, isFault
 use Rattle.status.specs.Status.{keepResume, clearTrace, restoreSr, setSrNointNosp}
 use Rattle.status.specs.Banks.{enterSupervisor, setSFlag, restoreSp, putS, backupSp}
 use Rattle.cpu.specs.Clocks.{prefetchEnabled, setClocks, clearPrefetch, firstWord, secondWord}
-use Rattle.memory.specs.World.{World, putCpu, withCpu, noted, stored, flush, release, rawWrite, rawRead}
+use Rattle.memory.specs.World.{World, putCpu, withCpu, noted, stored, flush, release, rawWrite, rawRead, cpuOf, step}
 use Rattle.frames.specs.declared.Field.{Field}
 use Rattle.frames.specs.declared.Frame.{Frame}
 use Rattle.frames.specs.Frames.{busFrame, addressFrame}
-use Rattle.steps.specs.Steps.{refusesOdd, vectorAddress, beginBus, beginAddress, enterBusError}
-use Rattle.faults.specs.Faults.{Request, busError, addressError, Raise, cpuOf, on, readAt, writeAt, pushField, pushFields, pushExceptionFrame68000, pushFrame, jumpVector, prefetchFirst, prefetchSecond, exceptionAddressError, exceptionBusError, closed, ended, raiseBus, raiseAddress, trigger, entered}
+use Rattle.steps.specs.Steps.{refusesOdd, vectorAddress, beginBus, beginAddress, enterBusError, closeBus}
+use Rattle.faults.specs.Faults.{busError, addressError, Raise, readAt, writeAt, pushField, pushFields, pushExceptionFrame68000, pushFrame, jumpVector, prefetchFirst, prefetchSecond, exceptionAddressError, exceptionBusError, raiseBus, raiseAddress, trigger, entered, Fault}
 use Rattle.bounds.specs.Skeleton.{Good, Steps, Raises, pick-if, pick-one, flush-ways, write-ways, read-ways, clocks-ways, guardRead-good, guardWrite-good, pushed-good, pushFields-good, stacked-good, pushShort-good, jump-good, prefetchFirst-good, prefetchSecond-good, frame-good}
 use Rattle.bounds.specs.ErrorFrames.{address-plain, bus-plain}
 
@@ -91,7 +91,7 @@ vector-safe k c v p h = let e : vbrOf c % 2 ≡ 0 = p h in omega arith
 
 module _ (k : ℕ) (Exc : Bool → Type 0) where
   flushes : (n : ℕ) (w : World) → Kept k Exc n w → Kept k Exc n (flush w)
-  unfolding noted withCpu putCpu setClocks kindOf vbrOf inException
+  unfolding noted putCpu setClocks kindOf vbrOf inException
   flushes n w p = flush-ways (Kept k Exc n) w (λ h. p) p
 
   writes : (n : ℕ) (w : World) (a : ℕ) (g : Bool) (v : ℕ) → Kept k Exc n w → Kept k Exc (suc n) (rawWrite w a g v)
@@ -117,34 +117,34 @@ module _ (k : ℕ) (Exc : Bool → Type 0) where
       go false e = clash {b = false} e refl
 
   -- a halt keeps it
-  pub halted-kept : (w : World) → Kept k Exc 0 w → Kept k Exc 0 (on w (halted (cpuOf w)))
+  pub halted-kept : (w : World) → Kept k Exc 0 w → Kept k Exc 0 (withCpu w (halted (cpuOf w)))
   unfolding halted putCpu kindOf vbrOf inException
   halted-kept w p = p
 
   -- so does the first step of a trigger of an address error
-  pub address-kept : (w : World) → Kept k Exc 0 w → Kept k Exc 0 (on w (beginAddress (cpuOf w)))
+  pub address-kept : (w : World) → Kept k Exc 0 w → Kept k Exc 0 (withCpu w (beginAddress (cpuOf w)))
   unfolding beginAddress restoreRegisters restoreSr setSrNointNosp putCpu kindOf vbrOf inException
   address-kept w p = p
 
   -- a trigger of a bus error begins an entry
-  pub bus-kept : (w : World) → Kept k Exc 0 w → Kept k Set 0 (on w (beginBus (cpuOf w)))
+  pub bus-kept : (w : World) → Kept k Exc 0 w → Kept k Set 0 (withCpu w (beginBus (cpuOf w)))
   unfolding beginBus clearCause setException restoreRegisters restoreSr setSrNointNosp putCpu kindOf vbrOf inException
   bus-kept w p = record { same = p .same; base = p .base; state = refl }
 
   -- supervisor state keeps it
-  pub super-kept : (w : World) → Kept k Exc 0 w → Kept k Exc 0 (on w (enterSupervisor (cpuOf w)))
+  pub super-kept : (w : World) → Kept k Exc 0 w → Kept k Exc 0 (withCpu w (enterSupervisor (cpuOf w)))
   unfolding putCpu kindOf vbrOf inException enterSupervisor clearTrace setSFlag restoreSp putS backupSp
   super-kept w p = p
 
   -- so does that of a bus error entry
-  pub super-bus-kept : (w : World) → Kept k Exc 0 w → Kept k Exc 0 (on w (enterBusError (cpuOf w)))
+  pub super-bus-kept : (w : World) → Kept k Exc 0 w → Kept k Exc 0 (withCpu w (enterBusError (cpuOf w)))
   unfolding putCpu kindOf vbrOf inException enterBusError clearFcOverride enterSupervisor clearTrace setSFlag restoreSp putS backupSp
   super-bus-kept w p = p
 
   -- a trigger of an address error ends
-  pub ended-kept : (w : World) → Kept k Exc 0 w → Kept k Exc 0 (ended w)
+  pub close-address-kept : (w : World) → Kept k Exc 0 w → Kept k Exc 0 (step keepResume w)
   unfolding keepResume putCpu kindOf vbrOf inException
-  ended-kept w p = p
+  close-address-kept w p = p
 
   -- an error entry, from ways to raise a bus fault that agree: what an address fault does there is not asked
   module _ (t u : Raise) (T : Raises (Kept k Exc) (Safe k) (isPrefetchKind k) t u) where
@@ -152,29 +152,29 @@ module _ (k : ℕ) (Exc : Bool → Type 0) where
     pub entryAddress-good : (w : World) (a : ℕ) (wr i : Bool) → Kept k Exc 0 w → Good (Kept k Exc) 0 (exceptionAddressError t w a wr i) (exceptionAddressError u w a wr i)
     unfolding exceptionAddressError
     entryAddress-good w a wr i p =
-        frame-good (Kept k Exc) (Safe k) (isPrefetchKind k) t u steps T 0 (on w (enterSupervisor (cpuOf w))) (addressFrame (cpuOf w) a wr i) 3
+        frame-good (Kept k Exc) (Safe k) (isPrefetchKind k) t u steps T 0 (withCpu w (enterSupervisor (cpuOf w))) (addressFrame (cpuOf w) a wr i) 3
         (λ h. clash h (address-plain (cpuOf w) a wr i)) (super-kept w p)
 
     -- so is a bus error entry
     pub entryBus-good : (w : World) (a : ℕ) (wr i : Bool) (z cause : ℕ) → Kept k Exc 0 w → Good (Kept k Exc) 0 (exceptionBusError t w a wr i z cause) (exceptionBusError u w a wr i z cause)
     unfolding exceptionBusError
     entryBus-good w a wr i z cause p =
-        frame-good (Kept k Exc) (Safe k) (isPrefetchKind k) t u steps T 0 (on w (enterBusError (cpuOf w))) (busFrame (cpuOf w) a wr i z cause) 2
+        frame-good (Kept k Exc) (Safe k) (isPrefetchKind k) t u steps T 0 (withCpu w (enterBusError (cpuOf w))) (busFrame (cpuOf w) a wr i z cause) 2
         (λ h m x g e. clash h (bus-plain (cpuOf w) a wr i z cause (ap isPre68020 (p .same) ∙ e))) (super-bus-kept w p)
 
 -- a trigger of a bus error ends
-pub closed-kept : (k : ℕ) (w : World) → Kept k Set 0 w → Kept k Either 0 (closed w)
+pub close-bus-kept : (k : ℕ) (w : World) → Kept k Set 0 w → Kept k Either 0 (step closeBus w)
 unfolding keepResume setException putCpu kindOf vbrOf inException
-closed-kept k w p = record { same = p .same; base = p .base; state = tt }
+close-bus-kept k w p = record { same = p .same; base = p .base; state = tt }
 
 -- THE EQUATIONS OF THE RECURSION: t on the left, and v inside
 pub record Unrolls (t v : Raise) : Type 0 where
-  pub bus : (w : World) (a : ℕ) (wr i : Bool) (z : ℕ) → Domain w → t w (busError a wr i z) ≡ raiseBus w (closed (exceptionBusError v (on w (beginBus (cpuOf w))) a wr i z (causeNumberOf (cpuOf w))))
-  pub address : (w : World) (a : ℕ) (wr i : Bool) → Domain w → t w (addressError a wr i) ≡ raiseAddress w (ended (exceptionAddressError v (on w (beginAddress (cpuOf w))) a wr i))
+  pub bus : (w : World) (a : ℕ) (wr i : Bool) (z : ℕ) → Domain w → t w (busError a wr i z) ≡ raiseBus w (step closeBus (exceptionBusError v (withCpu w (beginBus (cpuOf w))) a wr i z (causeNumberOf (cpuOf w))))
+  pub address : (w : World) (a : ℕ) (wr i : Bool) → Domain w → t w (addressError a wr i) ≡ raiseAddress w (step keepResume (exceptionAddressError v (withCpu w (beginAddress (cpuOf w))) a wr i))
 
 -- while an entry is under way a bus fault halts
 abbrev pub Halts : Raise → Type 0
-Halts t = (w : World) (a : ℕ) (wr i : Bool) (z : ℕ) → Domain w → inException (cpuOf w) ≡ true → t w (busError a wr i z) ≡ pick (isFaulted (cpuOf w)) w (on w (halted (cpuOf w)))
+Halts t = (w : World) (a : ℕ) (wr i : Bool) (z : ℕ) → Domain w → inException (cpuOf w) ≡ true → t w (busError a wr i z) ≡ pick (isFaulted (cpuOf w)) w (withCpu w (halted (cpuOf w)))
 
 -- what meets the equations halts
 pub unrolled-halts : (t v : Raise) → Unrolls t v → Halts t
@@ -206,24 +206,24 @@ module _ (k : ℕ) where
   pub raises-in : (t u : Raise) → Halts t → Halts u → Raises (Kept k Set) (Safe k) (isPrefetchKind k) t u
   raises-in t u f g = raises-of Set t u (halts-good t u f g)
 
-  closing : {x y : World} → Good (Kept k Set) 0 x y → Good (Kept k Either) 0 (closed x) (closed y)
-  closing {x} {y} g = (ap closed (g .0), closed-kept k x (g .1))
+  closing : {x y : World} → Good (Kept k Set) 0 x y → Good (Kept k Either) 0 (step closeBus x) (step closeBus y)
+  closing {x} {y} g = (ap (step closeBus) (g .0), close-bus-kept k x (g .1))
 
-  ending : (Exc : Bool → Type 0) {x y : World} → Good (Kept k Exc) 0 x y → Good (Kept k Exc) 0 (ended x) (ended y)
-  ending Exc {x} {y} g = (ap ended (g .0), ended-kept k Exc x (g .1))
+  ending : (Exc : Bool → Type 0) {x y : World} → Good (Kept k Exc) 0 x y → Good (Kept k Exc) 0 (step keepResume x) (step keepResume y)
+  ending Exc {x} {y} g = (ap (step keepResume) (g .0), close-address-kept k Exc x (g .1))
 
-  bus-body : (v x : Raise) → Raises (Kept k Set) (Safe k) (isPrefetchKind k) v x → (w : World) (a : ℕ) (wr i : Bool) (z cause : ℕ) → Kept k Either 0 w → Good (Kept k Either) 0 (raiseBus w (closed (exceptionBusError v (on w (beginBus (cpuOf w))) a wr i z cause))) (raiseBus w (closed (exceptionBusError x (on w (beginBus (cpuOf w))) a wr i z cause)))
+  bus-body : (v x : Raise) → Raises (Kept k Set) (Safe k) (isPrefetchKind k) v x → (w : World) (a : ℕ) (wr i : Bool) (z cause : ℕ) → Kept k Either 0 w → Good (Kept k Either) 0 (raiseBus w (step closeBus (exceptionBusError v (withCpu w (beginBus (cpuOf w))) a wr i z cause))) (raiseBus w (step closeBus (exceptionBusError x (withCpu w (beginBus (cpuOf w))) a wr i z cause)))
   unfolding raiseBus
   bus-body v x T w a wr i z cause p =
       pick-if (Good (Kept k Either) 0) (isFaulted (cpuOf w)) (λ h. (refl, p))
       (λ h. pick-if (Good (Kept k Either) 0) (inException (cpuOf w)) (λ h. (refl, halted-kept k Either w p))
-      (λ h. closing (entryBus-good k Set v x T (on w (beginBus (cpuOf w))) a wr i z cause (bus-kept k Either w p))))
+      (λ h. closing (entryBus-good k Set v x T (withCpu w (beginBus (cpuOf w))) a wr i z cause (bus-kept k Either w p))))
 
-  address-body : (Exc : Bool → Type 0) (v x : Raise) → Raises (Kept k Exc) (Safe k) (isPrefetchKind k) v x → (w : World) (a : ℕ) (wr i : Bool) → Kept k Exc 0 w → Good (Kept k Exc) 0 (raiseAddress w (ended (exceptionAddressError v (on w (beginAddress (cpuOf w))) a wr i))) (raiseAddress w (ended (exceptionAddressError x (on w (beginAddress (cpuOf w))) a wr i)))
+  address-body : (Exc : Bool → Type 0) (v x : Raise) → Raises (Kept k Exc) (Safe k) (isPrefetchKind k) v x → (w : World) (a : ℕ) (wr i : Bool) → Kept k Exc 0 w → Good (Kept k Exc) 0 (raiseAddress w (step keepResume (exceptionAddressError v (withCpu w (beginAddress (cpuOf w))) a wr i))) (raiseAddress w (step keepResume (exceptionAddressError x (withCpu w (beginAddress (cpuOf w))) a wr i)))
   unfolding raiseAddress
   address-body Exc v x T w a wr i p =
       pick-if (Good (Kept k Exc) 0) (isFaulted (cpuOf w)) (λ h. (refl, p))
-      (λ h. ending Exc (entryAddress-good k Exc v x T (on w (beginAddress (cpuOf w))) a wr i (address-kept k Exc w p)))
+      (λ h. ending Exc (entryAddress-good k Exc v x T (withCpu w (beginAddress (cpuOf w))) a wr i (address-kept k Exc w p)))
 
   same : (Exc : Bool → Type 0) {x y a b : World} → a ≡ x → b ≡ y → Good (Kept k Exc) 0 x y → Good (Kept k Exc) 0 a b
   same Exc e f g = (e ∙ g .0 ∙ sym f, rw e (g .1))
@@ -262,7 +262,7 @@ module _ (k : ℕ) where
   level-set n m = record { fetching = fetching k Set; bus = λ l w a wr i z p. level-in (suc n) (suc m) .bus l w a wr i z p; odd = λ l w a wr i p o h. address-any (trigger (suc n)) (trigger n) (trigger (suc m)) (trigger m) (level-unrolls n) (level-unrolls m) Set (level-in n m) w (addressOf (cpuOf w) a) wr i p; vector = λ l w v p. tt }
 
 -- THE LEVELS: two are enough for every trigger
-pub levels : (n : ℕ) (w : World) (q : Request) → Domain w → trigger (suc (suc n)) w q ≡ trigger 2 w q
+pub levels : (n : ℕ) (w : World) (q : Fault) → Domain w → trigger (suc (suc n)) w q ≡ trigger 2 w q
 levels n w (busError a wr i z) d = level-any (kindOf (cpuOf w)) n 0 .bus 0 w a wr i z (inside w d) .0
 levels n w (addressError a wr i) d =
     address-any (kindOf (cpuOf w)) (trigger (suc (suc n))) (trigger (suc n)) (trigger 2) (trigger 1) (level-unrolls (suc n)) (level-unrolls 1) Either (level-bus (kindOf (cpuOf w)) n 0) w a wr i (inside w d) .0

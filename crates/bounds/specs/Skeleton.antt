@@ -6,12 +6,12 @@ use mathlib.Core.List.{List}
 use Rattle.types.specs.Kinds.{pick, either}
 use Rattle.cpu.specs.Fields.{pcOf, a7Of, addressOf, isFaulted, setPc, setWdata, startVector, lowerA7, oddPc}
 use Rattle.cpu.specs.Clocks.{hasClocks, clocksOf, setClocks, prefetchEnabled, oneFetched, internalCycles, clearPrefetch, firstWord, secondWord}
-use Rattle.memory.specs.World.{World, Attempt, reply, widthOf, noted, stored, withCpu, served, readValue, flush, release, rawWrite, rawRead, tryWrite, tryRead}
+use Rattle.memory.specs.World.{World, Attempt, reply, widthOf, noted, stored, withCpu, served, readValue, flush, release, rawWrite, rawRead, tryWrite, tryRead, cpuOf}
 use Rattle.frames.specs.declared.Field.{Field}
 use Rattle.frames.specs.declared.Frame.{Frame}
-use Rattle.frames.specs.Frames.{fieldAt}
-use Rattle.steps.specs.Steps.{refusesOdd, vectorAddress, isCounted, isRaw}
-use Rattle.faults.specs.Faults.{busError, addressError, Raise, cpuOf, on, readOr, prefetchRead, keptFirst, firstFrom, prefetchFirst, keptSecond, secondFrom, prefetchSecond, checkedRead, readAt, wrote, checkedWrite, writeAt, stackField, pushField, pushFields, pushFrame, shortWrites, pushExceptionFrame68000, vectorRead, refill, jumpTo, jumpVector}
+use Rattle.frames.specs.Frames.{fieldAt, isCounted, isRaw}
+use Rattle.steps.specs.Steps.{refusesOdd, vectorAddress}
+use Rattle.faults.specs.Faults.{busError, addressError, Raise, readOr, prefetchRead, keptFirst, firstFrom, prefetchFirst, keptSecond, secondFrom, prefetchSecond, checkedRead, readAt, wrote, checkedWrite, writeAt, stackField, pushField, pushFields, pushFrame, shortWrites, pushExceptionFrame68000, vectorRead, refill, jumpTo, jumpVector}
 
 -- the two runs come to one world, and it has P at the cost n
 abbrev pub Good : (ℕ → World → Type 0) → ℕ → World → World → Type 0
@@ -47,17 +47,17 @@ anyGuarded f (suc k) = either (isGuarded (fieldAt f k)) (anyGuarded f k)
 pub record Steps (P : ℕ → World → Type 0) (q : Bool) : Type 0 where
   pub weaken : (n : ℕ) (w : World) → P n w → P (suc n) w
   pub flushes : (n : ℕ) (w : World) → P n w → P n (flush w)
-  pub lowers : (n : ℕ) (w : World) (v : ℕ) → P n w → P n (on w (lowerA7 (cpuOf w) v))
-  pub datum : (n : ℕ) (w : World) (v : ℕ) → P n w → P n (on w (setWdata (cpuOf w) v))
+  pub lowers : (n : ℕ) (w : World) (v : ℕ) → P n w → P n (withCpu w (lowerA7 (cpuOf w) v))
+  pub datum : (n : ℕ) (w : World) (v : ℕ) → P n w → P n (withCpu w (setWdata (cpuOf w) v))
   pub writes : (n : ℕ) (w : World) (a : ℕ) (g : Bool) (v : ℕ) → P n w → P (suc n) (rawWrite w a g v)
   pub reads : (n : ℕ) (w : World) (a : ℕ) (g : Bool) → P n w → P (suc n) (rawRead w a g)
   pub releases : (n : ℕ) (w : World) → P n w → P (suc n) (release w)
-  pub starts : (n : ℕ) (w : World) (v : ℕ) → P n w → P n (on w (startVector (cpuOf w) v))
-  pub goes : (n : ℕ) (w : World) (v : ℕ) → P n w → P n (on w (setPc (cpuOf w) v))
-  pub drops : (n : ℕ) (w : World) → P n w → P n (on w (clearPrefetch (cpuOf w)))
-  pub firsts : (n : ℕ) (w : World) (v : ℕ) → P n w → P n (on w (firstWord (cpuOf w) v))
-  pub seconds : (n : ℕ) (w : World) (v : ℕ) → P n w → P n (on w (secondWord (cpuOf w) v))
-  pub clocks : (n : ℕ) (w : World) → (prefetchEnabled (cpuOf w) ≡ true → q ≡ true) → P n w → P (more q n) (on w (internalCycles (cpuOf w) 2))
+  pub starts : (n : ℕ) (w : World) (v : ℕ) → P n w → P n (withCpu w (startVector (cpuOf w) v))
+  pub goes : (n : ℕ) (w : World) (v : ℕ) → P n w → P n (withCpu w (setPc (cpuOf w) v))
+  pub drops : (n : ℕ) (w : World) → P n w → P n (withCpu w (clearPrefetch (cpuOf w)))
+  pub firsts : (n : ℕ) (w : World) (v : ℕ) → P n w → P n (withCpu w (firstWord (cpuOf w) v))
+  pub seconds : (n : ℕ) (w : World) (v : ℕ) → P n w → P n (withCpu w (secondWord (cpuOf w) v))
+  pub clocks : (n : ℕ) (w : World) → (prefetchEnabled (cpuOf w) ≡ true → q ≡ true) → P n w → P (more q n) (withCpu w (internalCycles (cpuOf w) 2))
 
 -- the two ways to raise agree where P holds; `Ok` is what is known of an address that is pushed at or is a vector's
 pub record Raises (P : ℕ → World → Type 0) (Ok : ℕ → Type 0) (q : Bool) (t u : Raise) : Type 0 where
@@ -104,9 +104,9 @@ module _ (R : World → Type 0) (w : World) where
   read-ways a g f = f _ a (readValue w a g)
 
   -- clocks of internal processing: only where the queue is on
-  pub clocks-ways : (v : ℕ) → (prefetchEnabled (cpuOf w) ≡ true → R (on w (setClocks (cpuOf w) ((clocksOf (cpuOf w) + v) % 2 ^ 32)))) → R (on w (cpuOf w)) → R (on w (internalCycles (cpuOf w) v))
+  pub clocks-ways : (v : ℕ) → (prefetchEnabled (cpuOf w) ≡ true → R (withCpu w (setClocks (cpuOf w) ((clocksOf (cpuOf w) + v) % 2 ^ 32)))) → R (withCpu w (cpuOf w)) → R (withCpu w (internalCycles (cpuOf w) v))
   unfolding internalCycles
-  clocks-ways v p q = pick-when (λ c. R (on w c)) (prefetchEnabled (cpuOf w)) p (λ h. q)
+  clocks-ways v p q = pick-when (λ c. R (withCpu w c)) (prefetchEnabled (cpuOf w)) p (λ h. q)
 
 -- a second step from the one world that the first came to
 pub chain : (P : ℕ → World → Type 0) (n : ℕ) {A : Type 0} (f : A → World) {x y : A} {z : World} → x ≡ y → Good P n z (f x) → Good P n z (f y)
@@ -148,7 +148,7 @@ module _ (P : ℕ → World → Type 0) (Ok : ℕ → Type 0) (q : Bool) (t u : 
   unfolding pushField
   pushed-good n w f o p =
       let r = S .lowers n w (widthOf (f .long)) p in
-      stackField-good n (on w (lowerA7 (cpuOf w) (widthOf (f .long)))) f (λ h k. o h k n _ r) r
+      stackField-good n (withCpu w (lowerA7 (cpuOf w) (widthOf (f .long)))) f (λ h k. o h k n _ r) r
 
   -- the first k fields of a frame
   pub pushFields-good : (n : ℕ) (w : World) (f : Frame) (k : ℕ) → (anyGuarded f k ≡ true → (m : ℕ) (x : World) → P m x → Ok (a7Of (cpuOf x))) → P n w → Good P (afterFields f k n) (pushFields t w f k) (pushFields u w f k)
@@ -243,16 +243,16 @@ module _ (P : ℕ → World → Type 0) (Ok : ℕ → Type 0) (q : Bool) (t u : 
   unfolding refill
   refill-good n w p =
       let g = prefetchFirst-good n w p in
-      chain P (refills q n) (λ x. prefetchSecond u (on x (internalCycles (cpuOf x) 2))) (g .0)
+      chain P (refills q n) (λ x. prefetchSecond u (withCpu x (internalCycles (cpuOf x) 2))) (g .0)
       (prefetchSecond-good (more q (more q n)) _ (S .clocks (more q n) _ (T .fetching (more q n) _ (g .1)) (g .1)))
 
   vectorRead-good : (n : ℕ) (w : World) (v : ℕ) → P n w → GoodReply P (suc n) (vectorRead t w v) (vectorRead u w v)
   unfolding vectorRead
-  vectorRead-good n w v p = guardRead-good n (on w (startVector (cpuOf w) v)) _ true (S .starts n w v p) (T .vector n w v p)
+  vectorRead-good n w v p = guardRead-good n (withCpu w (startVector (cpuOf w) v)) _ true (S .starts n w v p) (T .vector n w v p)
 
   jumpTo-good : (n : ℕ) (x : Attempt) → P n (x .after) → Good P (refills q n) (jumpTo t x) (jumpTo u x)
   unfolding jumpTo
-  jumpTo-good n x p = refill-good n (on (x .after) (setPc (cpuOf (x .after)) (x .value))) (S .goes n (x .after) (x .value) p)
+  jumpTo-good n x p = refill-good n (withCpu (x .after) (setPc (cpuOf (x .after)) (x .value))) (S .goes n (x .after) (x .value) p)
 
   -- the jump to a vector
   pub jump-good : (n : ℕ) (w : World) (v : ℕ) → P n w → Good P (refills q (suc (suc n))) (jumpVector t w v) (jumpVector u w v)

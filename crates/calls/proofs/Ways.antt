@@ -10,8 +10,8 @@ use Rattle.cpu.specs.declared.Cpu.{Cpu}
 use Rattle.requests.specs.declared.trace.Traced.{Traced}
 use Rattle.memory.specs.declared.Core.{Core}
 use Rattle.memory.specs.declared.Reply.{Reply}
-use Rattle.memory.specs.World.{World, Attempt, world, reply, tried, putCpu}
-use Rattle.faults.specs.Faults.{on, raised, exceptionBusError}
+use Rattle.memory.specs.World.{World, Attempt, world, reply, tried, putCpu, withCpu}
+use Rattle.faults.specs.Faults.{raised, exceptionBusError}
 use Rattle.exceptions.specs.declared.Entered.{Entered}
 use Rattle.exceptions.specs.Exceptions.{Entry, entry}
 use Rattle.interrupts.specs.declared.Serviced.{Serviced}
@@ -72,9 +72,9 @@ pub traced-way : (m : Core) {x t : Traced} {r : Performed} {s l : List ℕ} → 
 unfolding ofTrace flag putCpu
 traced-way m {s = s} {l = l} h k = ap (λ r. answered (world (r .core) s l) (r .answer)) k ∙ ap (ofTrace (world m s l)) h
 
-pub noted-way : (m : Core) {c d : Cpu} {r : Performed} {s l : List ℕ} → c ≡ d → r ≡ record { core = putCpu m c; answer = Done (eventsOf m) } → answered (world (r .core) s l) (r .answer) ≡ plain (on (world m s l) d)
+pub noted-way : (m : Core) {c d : Cpu} {r : Performed} {s l : List ℕ} → c ≡ d → r ≡ record { core = putCpu m c; answer = Done (eventsOf m) } → answered (world (r .core) s l) (r .answer) ≡ plain (withCpu (world m s l) d)
 unfolding plain putCpu
-noted-way m {s = s} {l = l} h k = ap (λ r. answered (world (r .core) s l) (r .answer)) k ∙ ap (λ d. plain (on (world m s l) d)) h
+noted-way m {s = s} {l = l} h k = ap (λ r. answered (world (r .core) s l) (r .answer)) k ∙ ap (λ d. plain (withCpu (world m s l) d)) h
 
 pub flagged-way : {m : Core} {b d : Bool} {r : Performed} {s l : List ℕ} → b ≡ d → r ≡ record { core = m; answer = Flag b (eventsOf m) } → answered (world (r .core) s l) (r .answer) ≡ flag (world m s l) d
 unfolding flag

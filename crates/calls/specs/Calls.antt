@@ -5,15 +5,16 @@ use mathlib.Core.Bool.{Bool, true, false}
 use lib.Dec.{eqb}
 use lib.ListN.{length}
 use Rattle.types.specs.Kinds.{pick}
+use Rattle.types.specs.Vectors.{illegalInstruction, zeroDivide, chk, privilegeViolation, line1010, line1111}
 use Rattle.types.specs.Causes.{causeNumber}
 use Rattle.requests.specs.declared.trace.Traced.{Traced}
 use Rattle.requests.specs.Trace.{checkTrace}
 use Rattle.requests.specs.Interrupts.{setIrq, checkInterrupts}
 use Rattle.memory.specs.declared.Core.{Core}
 use Rattle.memory.specs.declared.Bus.{Bus}
-use Rattle.memory.specs.World.{World, Attempt, world}
+use Rattle.memory.specs.World.{World, Attempt, world, withCpu, cpuOf, step}
 use Rattle.frames.specs.Frames.{word, long}
-use Rattle.faults.specs.Faults.{cpuOf, on, raised, busError, addressError, readAt, writeAt, pushField, prefetchFirst, prefetchSecond, exceptionBusError, exceptionAddressError}
+use Rattle.faults.specs.Faults.{raised, busError, addressError, readAt, writeAt, pushField, prefetchFirst, prefetchSecond, exceptionBusError, exceptionAddressError}
 use Rattle.exceptions.specs.Exceptions.{Entry, takeException, takeGroup2, trap, exceptionTrace, takeRewound, takeFpUnimp060, takeFpDisabled060}
 use Rattle.interrupts.specs.Interrupts.{checkAndService}
 use Rattle.calls.specs.declared.Call.{Call}
@@ -78,30 +79,30 @@ unfoldable pub ofService : Attempt → Performance
 ofService x = flag (x .after) (x .ok)
 
 unfoldable pub ofTrace : World → Traced → Performance
-ofTrace w x = flag (on w (x .cpu)) (x .trace)
+ofTrace w x = flag (withCpu w (x .cpu)) (x .trace)
 
 -- a call that is not refused; error entries answer 50 cycles
 unfoldable pub run : World → Call → Performance
 run w (TakeException v) = ofEntry (takeException w v)
 run w (Trap n) = ofEntry (trap w n)
 run w (TakeGroup2Exception v) = ofEntry (takeGroup2 w v)
-run w ExceptionChk = ofEntry (takeGroup2 w 6)
-run w ExceptionZeroDivide = ofEntry (takeGroup2 w 5)
-run w ExceptionPrivilege = ofEntry (takeException w 8)
+run w ExceptionChk = ofEntry (takeGroup2 w chk)
+run w ExceptionZeroDivide = ofEntry (takeGroup2 w zeroDivide)
+run w ExceptionPrivilege = ofEntry (takeException w privilegeViolation)
 run w ExceptionTrace = ofEntry (exceptionTrace w)
 run w (ExceptionAddressError a write instruction) = cycles (exceptionAddressError raised w a write instruction) 50
 run w (ExceptionBusError a write instruction z cause) = cycles (exceptionBusError raised w a write instruction z (causeNumber cause)) 50
 run w (TakeFpUnimp060 ea) = ofEntry (takeFpUnimp060 w ea)
 run w TakeFpDisabled060 = ofEntry (takeFpDisabled060 w)
-run w TakeAlineException = ofEntry (takeRewound w 10)
-run w TakeFlineException = ofEntry (takeRewound w 11)
+run w TakeAlineException = ofEntry (takeRewound w line1010)
+run w TakeFlineException = ofEntry (takeRewound w line1111)
 run w (TakeTrapException n) = ofEntry (trap w n)
-run w TakeBkptException = ofEntry (takeRewound w 4)
-run w TakeIllegalException = ofEntry (takeRewound w 4)
+run w TakeBkptException = ofEntry (takeRewound w illegalInstruction)
+run w TakeIllegalException = ofEntry (takeRewound w illegalInstruction)
 run w (TriggerAddressError a write instruction) = plain (raised w (addressError a write instruction))
 run w (TriggerBusError a write instruction z) = plain (raised w (busError a write instruction z))
 run w CheckTrace = ofTrace w (checkTrace (cpuOf w))
-run w (SetIrq n) = plain (on w (setIrq (cpuOf w) n))
+run w (SetIrq n) = plain (step (λ c. setIrq c n) w)
 run w CheckInterrupts = flag w (checkInterrupts (cpuOf w))
 run w CheckAndServiceInterrupts = ofService (checkAndService w)
 run w (Read16 a) = ofRead (readAt raised w a false)

@@ -16,9 +16,8 @@ use Rattle.cpu.specs.Fields.{kindOf, inException}
 use Rattle.requests.specs.Trace.{checkTrace}
 use Rattle.requests.specs.Interrupts.{setIrq, takesInterrupt}
 use Rattle.memory.specs.LogLaws.{Event, spell}
-use Rattle.memory.specs.World.{World}
+use Rattle.memory.specs.World.{World, cpuOf}
 use Rattle.frames.specs.Frames.{word, long}
-use Rattle.faults.specs.Faults.{cpuOf}
 use Rattle.exceptions.specs.Exceptions.{takeException, trap, takeRewound, takeGroup2, exceptionTrace, takeFpUnimp060, takeFpDisabled060}
 use Rattle.interrupts.specs.Interrupts.{checkAndService}
 use Rattle.bounds.specs.Skeleton.{pick-one}

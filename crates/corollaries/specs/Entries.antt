@@ -11,12 +11,12 @@ use Rattle.cpu.specs.declared.Cpu.{Cpu}
 use Rattle.cpu.specs.Fields.{kindOf, vbrOf, pcOf, ppcOf, inException, halted, setException, rewindPc, noteFpiar, leaveStop}
 use Rattle.status.specs.Status.{statusOf}
 use Rattle.cpu.specs.Clocks.{setClocks, internalCycles}
-use Rattle.memory.specs.World.{World, putCpu}
-use Rattle.frames.specs.Frames.{fieldAt}
-use Rattle.steps.specs.Steps.{isCounted}
-use Rattle.faults.specs.Faults.{cpuOf, on, raised, jumpVector, pushFrame}
+use Rattle.memory.specs.World.{World, putCpu, cpuOf, withCpu}
+use Rattle.frames.specs.Frames.{fieldAt, isCounted}
+use Rattle.steps.specs.Steps.{stackedAddress, beginEntry, beginTrace}
+use Rattle.faults.specs.Faults.{raised, jumpVector, pushFrame}
 use Rattle.exceptions.specs.Frames.{formatWord, offsetWord, shortFrame, longFrame, disabledFrame}
-use Rattle.exceptions.specs.Exceptions.{entry, is68000, stackedAddress, supervised, stackShort, beginEntry, finished, taken, takeException, stackGroup2, takeGroup2, trap, beginTrace, exceptionTrace, takeRewound, stackUnimp, takeFpUnimp060, stackDisabled, takeFpDisabled060}
+use Rattle.exceptions.specs.Exceptions.{entry, supervised, stackShort, finished, taken, takeException, stackGroup2, takeGroup2, trap, exceptionTrace, takeRewound, stackUnimp, takeFpUnimp060, stackDisabled, takeFpDisabled060}
 use Rattle.bounds.specs.Skeleton.{Raises, afterFields, refills, pick-one, clocks-ways, pushShort-good, stacked-good, jump-good}
 use Rattle.bounds.specs.ErrorFrames.{busWrites, addressWrites}
 use Rattle.bounds.specs.Levels.{Domain, Kept, Any, Either, Set, inside, under, super-kept}
@@ -50,7 +50,7 @@ module _ (k : ℕ) (Exc : Bool → Type 0) (c : ℕ) (l : List ℕ) where
     pub stackShort-bill : (n : ℕ) (w : World) (pc format : ℕ) → Bill k Exc c l n w → Bill k Exc c l (suc (suc (suc n))) (stackShort w pc format)
     unfolding stackShort
     stackShort-bill n w pc format p =
-        pick-one (Bill k Exc c l (suc (suc (suc n)))) (is68000 (cpuOf w))
+        pick-one (Bill k Exc c l (suc (suc (suc n)))) (eqb (kindOf (cpuOf w)) 1)
         (pushShort-good (Bill k Exc c l) Any (isPrefetchKind k) raised raised (bill-steps k Exc c l) T (λ a. tt) n (supervised w) pc (statusOf (cpuOf w)) (super-bill n w p) .1)
         (short-bill n (supervised w) (statusOf (cpuOf w)) pc format (super-bill n w p))
 
@@ -76,12 +76,12 @@ module _ (k : ℕ) (Exc : Bool → Type 0) (c : ℕ) (l : List ℕ) where
     jump-bill n w v p = jump-good (Bill k Exc c l) Any (isPrefetchKind k) raised raised (bill-steps k Exc c l) T n w v p .1
 
 -- clocks are added before the first event, so they cost no more than clocks that wait
-pub clocks-start : (k : ℕ) (Exc : Bool → Type 0) (c : ℕ) (w : World) (v : ℕ) → w .core .bus .events ≡ 0 → Kept k Exc 0 w → Bill k Exc c (w .log) (suc c) (on w (internalCycles (cpuOf w) v))
+pub clocks-start : (k : ℕ) (Exc : Bool → Type 0) (c : ℕ) (w : World) (v : ℕ) → w .core .bus .events ≡ 0 → Kept k Exc 0 w → Bill k Exc c (w .log) (suc c) (withCpu w (internalCycles (cpuOf w) v))
 unfolding setClocks putCpu kindOf vbrOf inException
-clocks-start k Exc c w v s p = (clocks-ways (Kept k Exc 0) w v (λ h. p) p, start c (on w (internalCycles (cpuOf w) v)) s)
+clocks-start k Exc c w v s p = (clocks-ways (Kept k Exc 0) w v (λ h. p) p, start c (withCpu w (internalCycles (cpuOf w) v)) s)
 
 -- what is written stays when the record alone changes
-pub on-written : (m : ℕ) (l : List ℕ) (w : World) (c : Cpu) → Written m l w → Written m l (on w c)
+pub on-written : (m : ℕ) (l : List ℕ) (w : World) (c : Cpu) → Written m l w → Written m l (withCpu w c)
 unfolding putCpu
 on-written m l w c p = record { es = p .es; few = p .few; count = p .count; spells = record { count = p .spells .count; log = p .spells .log }; log = p .log }
 
@@ -130,15 +130,15 @@ module _ (w : World) (s : w .core .bus .events ≡ 0) (d : Domain w) where
   K = kindOf (cpuOf w)
 
   -- an entry that is taken: while it is under way a bus fault halts, so an address fault is all that may cost
-  taken-events : (v : ℕ) → Written (entryCost K (underCost K) 3) (w .log) (taken (on w (beginEntry (cpuOf w))) v)
+  taken-events : (v : ℕ) → Written (entryCost K (underCost K) 3) (w .log) (taken (withCpu w (beginEntry (cpuOf w))) v)
   unfolding taken finished beginEntry setException putCpu kindOf vbrOf inException
   taken-events v =
       let m = under-most K in
       let c : ℕ = underCost K in
       let l : List ℕ = w .log in
       let T = raises-set K l 1 in
-      let x : World = on w (setException (cpuOf w) true) in
-      let y : World = on x (internalCycles (cpuOf x) 4) in
+      let x : World = withCpu w (setException (cpuOf w) true) in
+      let y : World = withCpu x (internalCycles (cpuOf x) 4) in
       let p : Bill K Set c l (suc c) y = clocks-start K Set c x 4 s (record { same = refl; base = d; state = refl }) in
       let z : World = stackShort y (stackedAddress (cpuOf y) v) (offsetWord v) in
       on-written (entryCost K c 3) l (jumpVector raised z v) _ (jump-events K l Set c (suc (suc (suc (suc c)))) (entryCost K c 3) z v (omega arith) (omega arith) T (stackShort-bill K Set c l T (suc c) y (stackedAddress (cpuOf y) v) (offsetWord v) p))
@@ -148,10 +148,10 @@ module _ (w : World) (s : w .core .bus .events ≡ 0) (d : Domain w) where
   unfolding takeException
   takeException-events v = go (inException (cpuOf w))
     where
-      stopped : Written 0 (w .log) (on w (halted (cpuOf w)))
+      stopped : Written 0 (w .log) (withCpu w (halted (cpuOf w)))
       stopped = on-written 0 (w .log) w (halted (cpuOf w)) (none w s d)
 
-      go : (b : Bool) → Written (pick b 0 (entryCost K (underCost K) 3)) (w .log) (pick b (entry (on w (halted (cpuOf w))) 0) (entry (taken (on w (beginEntry (cpuOf w))) v) (exceptionCycles v)) .after)
+      go : (b : Bool) → Written (pick b 0 (entryCost K (underCost K) 3)) (w .log) (pick b (entry (withCpu w (halted (cpuOf w))) 0) (entry (taken (withCpu w (beginEntry (cpuOf w))) v) (exceptionCycles v)) .after)
       go true = stopped
       go false = taken-events v
 
@@ -179,7 +179,7 @@ module _ (w : World) (s : w .core .bus .events ≡ 0) (d : Domain w) where
   -- `exception_trace`
   pub exceptionTrace-events : Written (entryCost K (guardCost K) (group2Writes K)) (w .log) (exceptionTrace w .after)
   unfolding exceptionTrace beginTrace leaveStop putCpu kindOf vbrOf inException
-  exceptionTrace-events = group2-events (on w (internalCycles (leaveStop (cpuOf w)) 4)) 9 (clocks-start K Either (guardCost K) (on w (leaveStop (cpuOf w))) 4 s (record { same = refl; base = d; state = tt }))
+  exceptionTrace-events = group2-events (withCpu w (internalCycles (leaveStop (cpuOf w)) 4)) 9 (clocks-start K Either (guardCost K) (withCpu w (leaveStop (cpuOf w))) 4 s (record { same = refl; base = d; state = tt }))
 
   -- `take_fp_unimp_060`: four writes
   pub takeFpUnimp060-events : (ea : ℕ) → Written (entryCost K (guardCost K) 4) (w .log) (takeFpUnimp060 w ea .after)
@@ -189,7 +189,7 @@ module _ (w : World) (s : w .core .bus .events ≡ 0) (d : Domain w) where
       let c : ℕ = guardCost K in
       let l : List ℕ = w .log in
       let T = raises-any K l 0 in
-      let x : World = on w (noteFpiar (cpuOf w)) in
+      let x : World = withCpu w (noteFpiar (cpuOf w)) in
       let p : Bill K Either c l (suc c) x = (record { same = refl; base = d; state = tt }, start c x s) in
       jump-events K l Either c (suc (suc (suc (suc (suc c))))) (entryCost K c 4) (stackUnimp x ea) 11 (omega arith) (omega arith) T (long-bill K Either c l T (suc c) (supervised x) (statusOf (cpuOf x)) (pcOf (cpuOf x)) (formatWord 2 11) ea (super-bill K Either c l (suc c) x p))
 
@@ -211,7 +211,7 @@ module _ (w : World) (s : w .core .bus .events ≡ 0) (d : Domain w) where
 
   pub takeRewound-events : (v : ℕ) → Written (pick (inException (cpuOf w)) 0 (entryCost (kindOf (cpuOf w)) (underCost (kindOf (cpuOf w))) 3)) (w .log) (takeRewound w v .after)
   unfolding takeRewound rewindPc putCpu kindOf vbrOf inException
-  takeRewound-events v = takeException-events (on w (rewindPc (cpuOf w))) s d v
+  takeRewound-events v = takeException-events (withCpu w (rewindPc (cpuOf w))) s d v
 
 -- THE BOUNDS over all kinds: 22 where the entry is under way while it stacks (kind 2), else 37 and 38 (kinds 0, 3 to 6)
 pub taken-most : (k : ℕ) → entryCost k (underCost k) 3 ≤ 22

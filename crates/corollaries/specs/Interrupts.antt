@@ -15,10 +15,11 @@ use Rattle.status.specs.Banks.{enterSupervisor, setSFlag, restoreSp, putS, back
 use Rattle.cpu.specs.Clocks.{hasClocks, setClocks, internalCycles}
 use Rattle.requests.specs.Interrupts.{pendingLevel, maskLevel, takesInterrupt, clearLevel, chargeInterrupt, charged}
 use Rattle.requests.specs.Laws.{seven-taken, taken-above, taken-exceeds, exceeding-taken}
-use Rattle.memory.specs.World.{World, Attempt, tried, putCpu, noted, flush, responseOf, acknowledged}
-use Rattle.faults.specs.Faults.{cpuOf, on, raised, writeAt, jumpVector}
+use Rattle.memory.specs.World.{World, Attempt, tried, putCpu, noted, flush, responseOf, acknowledged, cpuOf, withCpu}
+use Rattle.faults.specs.Faults.{raised, writeAt, jumpVector}
 use Rattle.exceptions.specs.Frames.{formatWord, offsetWord}
-use Rattle.interrupts.specs.Interrupts.{vectorFrom, acknowledgeLevel, syncedAcknowledge, enterLevel, rest68000, from68000, frame68000Interrupt, writes68010, rest68010, frame68010Interrupt, restOther, frameOther, firstFrame, withS, throwaway, secondFrame, closed, ended, dispatched, serviceInterrupt, serviced, checkAndService}
+use Rattle.steps.specs.Steps.{enterLevel, withS, closeInterrupt}
+use Rattle.interrupts.specs.Interrupts.{vectorFrom, acknowledgeLevel, syncedAcknowledge, rest68000, from68000, writes68010, rest68010, restOther, firstFrame, throwaway, secondFrame, ended, dispatched, serviceInterrupt, serviced, checkAndService, pushInterrupt68000, pushInterrupt68010, pushInterruptOther}
 use Rattle.bounds.specs.Skeleton.{Raises, more, pick-one, clocks-ways, guardWrite-good}
 use Rattle.bounds.specs.ErrorFrames.{busWrites, addressWrites}
 use Rattle.bounds.specs.Levels.{Domain, Kept, Any, Either, clash, fetching}
@@ -41,11 +42,11 @@ module _ (k : ℕ) (c : ℕ) (l : List ℕ) where
   P = Bill k Either c l
 
   -- clocks that begin to wait cost one event
-  clocks-bill : (n : ℕ) (w : World) (v : ℕ) → P n w → P (suc n) (on w (internalCycles (cpuOf w) v))
+  clocks-bill : (n : ℕ) (w : World) (v : ℕ) → P n w → P (suc n) (withCpu w (internalCycles (cpuOf w) v))
   unfolding setClocks putCpu kindOf vbrOf inException
   clocks-bill n w v p =
       let h : more (isPrefetchKind k) n ≤ suc n = pick-one (λ x. x ≤ suc n) (isPrefetchKind k) (omega arith) (omega arith) in
-      more-bill k Either c l (on w (internalCycles (cpuOf w) v)) h (clocks-ways (Kept k Either 0) w v (λ e. p .0) (p .0), clocks-books c l (isPrefetchKind k) n w v (fetching k Either 0 w (p .0)) (p .1))
+      more-bill k Either c l (withCpu w (internalCycles (cpuOf w) v)) h (clocks-ways (Kept k Either 0) w v (λ e. p .0) (p .0), clocks-books c l (isPrefetchKind k) n w v (fetching k Either 0 w (p .0)) (p .1))
 
   -- the acknowledge is one event
   acknowledge-bill : (n : ℕ) (w : World) (level : ℕ) → P n w → P (suc n) (acknowledgeLevel w level .after)
@@ -53,9 +54,9 @@ module _ (k : ℕ) (c : ℕ) (l : List ℕ) where
   acknowledge-bill n w level p = (p .0, noted-books c l n w 6 level (responseOf (w .core .bus) level) (p .1))
 
   -- clocks, their flush and the acknowledge, where the clocks are paid for
-  synced-bill : (n : ℕ) (w : World) (v level : ℕ) → P n (on w (internalCycles (cpuOf w) v)) → P (suc n) (syncedAcknowledge w v level .after)
+  synced-bill : (n : ℕ) (w : World) (v level : ℕ) → P n (withCpu w (internalCycles (cpuOf w) v)) → P (suc n) (syncedAcknowledge w v level .after)
   unfolding syncedAcknowledge
-  synced-bill n w v level p = acknowledge-bill n (flush (on w (internalCycles (cpuOf w) v))) level (bill-steps k Either c l .flushes n (on w (internalCycles (cpuOf w) v)) p)
+  synced-bill n w v level p = acknowledge-bill n (flush (withCpu w (internalCycles (cpuOf w) v))) level (bill-steps k Either c l .flushes n (withCpu w (internalCycles (cpuOf w) v)) p)
 
   module _ (T : Raises P Any (isPrefetchKind k) raised raised) where
     -- a guarded write
@@ -86,28 +87,28 @@ module _ (k : ℕ) (c : ℕ) (l : List ℕ) where
 
     -- the first frame of each kind, from a world without events
     module _ (w : World) (s : w .core .bus .events ≡ 0) (e : w .log ≡ l) (q : Kept k Either 0 w) where
-      begun : (v : ℕ) → P (suc c) (on w (internalCycles (cpuOf w) v))
-      begun v = subst (λ z. Bill k Either c z (suc c) (on w (internalCycles (cpuOf w) v))) e (clocks-start k Either c w v s q)
+      begun : (v : ℕ) → P (suc c) (withCpu w (internalCycles (cpuOf w) v))
+      begun v = subst (λ z. Bill k Either c z (suc c) (withCpu w (internalCycles (cpuOf w) v))) e (clocks-start k Either c w v s q)
 
-      frame68000-bill : (pc sr level : ℕ) → P (suc c + 6) (frame68000Interrupt w pc sr level .after)
-      unfolding frame68000Interrupt putCpu
+      frame68000-bill : (pc sr level : ℕ) → P (suc c + 6) (pushInterrupt68000 w pc sr level .after)
+      unfolding pushInterrupt68000 putCpu
       frame68000-bill pc sr level =
-          let x : World = on w (internalCycles (cpuOf w) 6) in
-          more-bill k Either c l (frame68000Interrupt w pc sr level .after) (omega arith) (from68000-bill (suc c) (on x (lowerA7 (cpuOf x) 6)) (a7Of (lowerA7 (cpuOf x) 6)) pc sr level (bill-steps k Either c l .lowers (suc c) x 6 (begun 6)))
+          let x : World = withCpu w (internalCycles (cpuOf w) 6) in
+          more-bill k Either c l (pushInterrupt68000 w pc sr level .after) (omega arith) (from68000-bill (suc c) (withCpu x (lowerA7 (cpuOf x) 6)) (a7Of (lowerA7 (cpuOf x) 6)) pc sr level (bill-steps k Either c l .lowers (suc c) x 6 (begun 6)))
 
-      frame68010-bill : (pc sr level : ℕ) → P (suc c + 5) (frame68010Interrupt w pc sr level .after)
-      unfolding frame68010Interrupt
-      frame68010-bill pc sr level = more-bill k Either c l (frame68010Interrupt w pc sr level .after) (omega arith) (rest68010-bill _ pc sr (syncedAcknowledge w 12 level) (synced-bill (suc c) w 12 level (begun 12)))
+      frame68010-bill : (pc sr level : ℕ) → P (suc c + 5) (pushInterrupt68010 w pc sr level .after)
+      unfolding pushInterrupt68010
+      frame68010-bill pc sr level = more-bill k Either c l (pushInterrupt68010 w pc sr level .after) (omega arith) (rest68010-bill _ pc sr (syncedAcknowledge w 12 level) (synced-bill (suc c) w 12 level (begun 12)))
 
-      frameOther-bill : (pc sr level : ℕ) → P (suc c + 4) (frameOther w pc sr level .after)
-      unfolding frameOther
-      frameOther-bill pc sr level = more-bill k Either c l (frameOther w pc sr level .after) (omega arith) (restOther-bill _ pc sr (acknowledgeLevel w level) (acknowledge-bill (suc c) w level (q, subst (λ z. Books c z (suc c) w) e (start c w s))))
+      frameOther-bill : (pc sr level : ℕ) → P (suc c + 4) (pushInterruptOther w pc sr level .after)
+      unfolding pushInterruptOther
+      frameOther-bill pc sr level = more-bill k Either c l (pushInterruptOther w pc sr level .after) (omega arith) (restOther-bill _ pc sr (acknowledgeLevel w level) (acknowledge-bill (suc c) w level (q, subst (λ z. Books c z (suc c) w) e (start c w s))))
 
       firstFrame-bill : (pc sr level : ℕ) → P (suc c + firstCost k) (firstFrame w pc sr level .after)
       unfolding firstFrame
       firstFrame-bill pc sr level = subst (λ j. P (suc c + firstCost j) (firstFrame w pc sr level .after)) (q .same) (go (eqb (kindOf (cpuOf w)) 1) (eqb (kindOf (cpuOf w)) 2))
         where
-          go : (a b : Bool) → P (suc c + pick a 6 (pick b 5 4)) (pick a (frame68000Interrupt w pc sr level) (pick b (frame68010Interrupt w pc sr level) (frameOther w pc sr level)) .after)
+          go : (a b : Bool) → P (suc c + pick a 6 (pick b 5 4)) (pick a (pushInterrupt68000 w pc sr level) (pick b (pushInterrupt68010 w pc sr level) (pushInterruptOther w pc sr level)) .after)
           go true b = frame68000-bill pc sr level
           go false true = frame68010-bill pc sr level
           go false false = frameOther-bill pc sr level
@@ -115,23 +116,23 @@ module _ (k : ℕ) (c : ℕ) (l : List ℕ) where
     -- the second frame, on kinds 3 to 9 with M set
     throwaway-bill : (n : ℕ) (w : World) (pc sr v : ℕ) → P n w → P (suc (suc (suc n))) (throwaway w pc sr v)
     unfolding throwaway setSmFlag setSmFlagNosp restoreSp backupSp putCpu kindOf vbrOf inException hasClocks isFaulted
-    throwaway-bill n w pc sr v p = short-bill k Either c l T n (on w (setSmFlag (cpuOf w) 4)) (withS sr) pc (formatWord 1 v) p
+    throwaway-bill n w pc sr v p = short-bill k Either c l T n (withCpu w (setSmFlag (cpuOf w) 4)) (withS sr) pc (formatWord 1 v) p
 
-    cleared-bill : (n : ℕ) (w : World) → P n w → P n (on w (clearM (cpuOf w)))
+    cleared-bill : (n : ℕ) (w : World) → P n w → P n (withCpu w (clearM (cpuOf w)))
     unfolding clearM putCpu kindOf vbrOf inException hasClocks isFaulted
     cleared-bill n w p = p
 
     secondFrame-bill : (n : ℕ) (w : World) (pc sr v : ℕ) → P n w → P (n + secondCost k) (secondFrame w pc sr v)
     unfolding secondFrame
-    secondFrame-bill n w pc sr v p = pick-one (P (n + secondCost k)) (mIsSet (cpuOf w)) (subst (λ j. P (n + secondCost j) (pick (isEc020Plus (kindOf (cpuOf w))) (throwaway w pc sr v) (pick (is060 (kindOf (cpuOf w))) (on w (clearM (cpuOf w))) w))) (p .0 .same) (go (isEc020Plus (kindOf (cpuOf w))))) same
+    secondFrame-bill n w pc sr v p = pick-one (P (n + secondCost k)) (mIsSet (cpuOf w)) (subst (λ j. P (n + secondCost j) (pick (isEc020Plus (kindOf (cpuOf w))) (throwaway w pc sr v) (pick (is060 (kindOf (cpuOf w))) (withCpu w (clearM (cpuOf w))) w))) (p .0 .same) (go (isEc020Plus (kindOf (cpuOf w))))) same
       where
         same : P (n + secondCost k) w
         same = more-bill k Either c l w (omega arith) p
 
-        other : P (n + 0) (pick (is060 (kindOf (cpuOf w))) (on w (clearM (cpuOf w))) w)
-        other = more-bill k Either c l (pick (is060 (kindOf (cpuOf w))) (on w (clearM (cpuOf w))) w) (omega arith) (pick-one (P n) (is060 (kindOf (cpuOf w))) (cleared-bill n w p) p)
+        other : P (n + 0) (pick (is060 (kindOf (cpuOf w))) (withCpu w (clearM (cpuOf w))) w)
+        other = more-bill k Either c l (pick (is060 (kindOf (cpuOf w))) (withCpu w (clearM (cpuOf w))) w) (omega arith) (pick-one (P n) (is060 (kindOf (cpuOf w))) (cleared-bill n w p) p)
 
-        go : (b : Bool) → P (n + pick b 3 0) (pick b (throwaway w pc sr v) (pick (is060 (kindOf (cpuOf w))) (on w (clearM (cpuOf w))) w))
+        go : (b : Bool) → P (n + pick b 3 0) (pick b (throwaway w pc sr v) (pick (is060 (kindOf (cpuOf w))) (withCpu w (clearM (cpuOf w))) w))
         go true = more-bill k Either c l (throwaway w pc sr v) (omega arith) (throwaway-bill n w pc sr v p)
         go false = other
 
@@ -160,7 +161,7 @@ module _ (w : World) (s : w .core .bus .events ≡ 0) (d : Domain w) where
   K = kindOf (cpuOf w)
 
   -- supervisor state and the mask keep the kind and the vector base
-  level-kept : (level : ℕ) → Kept K Either 0 (on w (enterLevel (cpuOf w) level))
+  level-kept : (level : ℕ) → Kept K Either 0 (withCpu w (enterLevel (cpuOf w) level))
   unfolding enterLevel setIntMask enterSupervisor clearTrace setSFlag restoreSp putS backupSp putCpu kindOf vbrOf inException
   level-kept level = record { same = refl; base = d; state = tt }
 
@@ -174,9 +175,9 @@ module _ (w : World) (s : w .core .bus .events ≡ 0) (d : Domain w) where
       let T = raises-any K l 0 in
       let e : firstCost K ≤ 6 = pick-one (λ y. y ≤ 6) (eqb K 1) (omega arith) (pick-one (λ y. y ≤ 6) (eqb K 2) (omega arith) (omega arith)) in
       let f : secondCost K ≤ 3 = pick-one (λ y. y ≤ 3) (isEc020Plus K) (omega arith) (omega arith) in
-      let x : Attempt = firstFrame (on w (enterLevel (cpuOf w) level)) (pcOf (cpuOf w)) (statusOf (cpuOf w)) level in
+      let x : Attempt = firstFrame (withCpu w (enterLevel (cpuOf w) level)) (pcOf (cpuOf w)) (statusOf (cpuOf w)) level in
       let y : World = secondFrame (x .after) (pcOf (cpuOf w)) (statusOf (cpuOf w)) (x .value) in
-      let p : Bill K Either c l (suc c + firstCost K) (x .after) = firstFrame-bill K c l T (on w (enterLevel (cpuOf w) level)) s refl (level-kept level) (pcOf (cpuOf w)) (statusOf (cpuOf w)) level in
+      let p : Bill K Either c l (suc c + firstCost K) (x .after) = firstFrame-bill K c l T (withCpu w (enterLevel (cpuOf w) level)) s refl (level-kept level) (pcOf (cpuOf w)) (statusOf (cpuOf w)) level in
       on-written (interruptCost K) l (jumpVector raised y (x .value)) _
       (jump-events K l Either c (suc c + firstCost K + secondCost K) (interruptCost K) y (x .value) (omega arith) (omega arith) T (secondFrame-bill K c l T (suc c + firstCost K) (x .after) (pcOf (cpuOf w)) (statusOf (cpuOf w)) (x .value) p))
 
@@ -234,5 +235,5 @@ module _ (w : World) where
 
   -- where it is taken no level is pending after it, and `stopped` is 0, even if a fault halted on the way
   pub taken-after : checkAndService w .ok ≡ true → (cpuOf (checkAndService w .after) .flags .«int_level» ≡ 0) × (cpuOf (checkAndService w .after) .flow .stopped ≡ 0)
-  unfolding checkAndService serviced serviceInterrupt dispatched ended closed clearLevel chargeInterrupt charged clearStopped putCpu
+  unfolding checkAndService serviced serviceInterrupt dispatched ended closeInterrupt clearLevel chargeInterrupt charged clearStopped putCpu
   taken-after h = rw (sym answer-decides ∙ h) (refl, refl)

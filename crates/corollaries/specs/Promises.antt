@@ -5,8 +5,7 @@ use mathlib.Core.Path.{_≡_}
 use mathlib.Core.Bool.{true, false}
 use mathlib.Core.Logic.{_↔_}
 use Rattle.cpu.specs.Fields.{inException}
-use Rattle.memory.specs.World.{World}
-use Rattle.faults.specs.Faults.{cpuOf}
+use Rattle.memory.specs.World.{World, cpuOf}
 use Rattle.calls.specs.declared.Call.{Call}
 use Rattle.calls.specs.declared.Call.the-variants.{CheckAndServiceInterrupts}
 use Rattle.calls.specs.declared.Answer.the-variants.{Cycles, Refused}

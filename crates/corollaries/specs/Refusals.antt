@@ -14,8 +14,7 @@ use Rattle.types.specs.Kinds.{either, both, isPre68020}
 use Rattle.cpu.specs.Fields.{kindOf, vbrOf, checksAlignment, hasFcOverride, fcOverrideOf}
 use Rattle.requests.specs.Interrupts.{hasRoom, hasCycles}
 use Rattle.memory.specs.declared.Bus.{Bus}
-use Rattle.memory.specs.World.{World}
-use Rattle.faults.specs.Faults.{cpuOf}
+use Rattle.memory.specs.World.{World, cpuOf}
 use Rattle.bounds.specs.Levels.{Domain, clash}
 use Rattle.refusals.specs.Refusals.{badFlags, oddBase, badCycles, badCode, badStore, pastTop, anyPast, badWindows, shortLog, badVector, badKind, testsOf, refusalOf}
 use Rattle.refusals.specs.Laws.{outcomes, placeFrom, refusal-place}

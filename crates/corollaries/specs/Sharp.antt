@@ -18,11 +18,11 @@ use Rattle.memory.specs.Log.{noteLog, counted}
 use Rattle.memory.specs.Served.{meets, clearOf, windowsInUse, inStore, servedOf, placeOf}
 use Rattle.memory.specs.World.{World, world, putCpu, withCpu, stored, noted, served, written, fetched, rawWrite, tryWrite, readValue, rawRead, tryRead, flush, release, responseOf, acknowledged}
 use Rattle.faults.specs.Faults.{readOr, prefetchRead, keptFirst, firstFrom, prefetchFirst, keptSecond, secondFrom, prefetchSecond, checkedRead, readAt, wrote, checkedWrite, writeAt, stackField, pushField, pushFields, vectorRead, refill, jumpTo, jumpVector, pushFrame, exceptionAddressError, exceptionBusError, raiseBus, raiseAddress, trigger}
-use Rattle.frames.specs.Frames.{fieldAt, frame68000, frame8, frame2, frame0, frame4, frame7, frame11, addressFrame, busFrame}
-use Rattle.steps.specs.Steps.{refusesOdd, vectorAddress, beginBus, beginAddress, enterBusError, isCounted, isRaw}
-use Rattle.exceptions.specs.Exceptions.{is68000, stackShort, beginEntry, finished, taken, takeException, stackGroup2, takeGroup2, stackUnimp, takeFpUnimp060, stackDisabled, takeFpDisabled060}
+use Rattle.frames.specs.Frames.{fieldAt, frame68000, frame8, frame2, frame0, frame4, frame7, frame11, addressFrame, busFrame, isCounted, isRaw}
+use Rattle.steps.specs.Steps.{refusesOdd, vectorAddress, beginBus, beginAddress, enterBusError, beginEntry, iackVector, enterLevel, closeInterrupt}
+use Rattle.exceptions.specs.Exceptions.{stackShort, finished, taken, takeException, stackGroup2, takeGroup2, stackUnimp, takeFpUnimp060, stackDisabled, takeFpDisabled060}
 use Rattle.exceptions.specs.Frames.{shortFrame, longFrame, disabledFrame}
-use Rattle.interrupts.specs.Interrupts.{iackVector, vectorFrom, acknowledgeLevel, enterLevel, restOther, frameOther, firstFrame, throwaway, secondFrame, closed, ended, dispatched, serviceInterrupt, serviced, checkAndService}
+use Rattle.interrupts.specs.Interrupts.{vectorFrom, acknowledgeLevel, restOther, firstFrame, throwaway, secondFrame, ended, dispatched, serviceInterrupt, serviced, checkAndService, pushInterruptOther}
 use Rattle.refusals.specs.Refusals.{badFlags, oddBase, badCycles, badCode, badStore, pastTop, anyPast, badWindows, shortLog, badVector, badKind, testsOf, firstOf, refusalOf}
 use Rattle.calls.specs.Calls.{countOf, cycles, flag, plain, ofEntry, ofRead, ofService, run, restarted, begun, refusal, perform}
 use Rattle.calls.specs.Matters.{matterOf}
@@ -45,5 +45,5 @@ Met w c = countOf (perform w c .answer) ≡ most c
 -- MET: a window over the vector, the stack or the word to fetch; the interrupt is of level 7 with M set. The last is not met: an
 -- entry at an odd A7 on kind 2, where `most` says 22
 pub met : Met (at (cpu 0 0 0 200 0 0) 16 4) (TakeGroup2Exception 4) × Met (at (cpu 0 0 0 200 0 0) 12 4) (ExceptionAddressError 1 false false) × Met (at (cpu 0 0 0 200 0 0) 8 4) (ExceptionBusError 0 false false 4 Absent) × Met (at (cpu 11 0 0 200 0 0) 44 4) (TakeFpUnimp060 0) × Met (at (cpu 11 0 0 200 0 0) 44 4) TakeFpDisabled060 × Met (at (cpu 0 0 0 200 0 0) 12 4) (TriggerAddressError 1 false false) × Met (at (cpu 0 0 0 200 0 0) 8 4) (TriggerBusError 0 false false 4) × Met (at (cpu 3 2 7 200 0 0) 0 4) CheckAndServiceInterrupts × Met (at (cpu 0 0 0 200 0 0) 4 8) (Read32 4) × Met (at (cpu 0 0 0 200 0 0) 4 8) (Write32 4 0) × Met (at (cpu 0 0 0 100 0 0) 96 2) (Push32 0) × Met (at (cpu 2 0 0 200 100 0) 100 2) PrefetchFirst × Met (at (cpu 2 0 0 200 100 1) 102 2) PrefetchSecond × (countOf (perform (at (cpu 2 0 0 199 0 0) 0 0) (TakeException 4) .answer) ≡ 16)
-unfolding is040 is060 isPre68020 isEc020Plus isPrefetchKind maskAddress hasT0 hasM maskStatus spIndex backupSp restoreSp putS setSmFlagNosp setSFlag setSmFlag enterSupervisor hasClocks clocksOf oneFetched prefetchEnabled setClocks internalCycles clearPrefetch firstWord secondWord kindOf pcOf vbrOf a7Of addressOf isFaulted inException checksAlignment causeNumberOf hasFcOverride fcOverrideOf setA7 setPc noteFpiar halted setException clearStopped restoreRegisters setWdata clearCause clearFcOverride startVector minus32 lowerA7 oddPc freshFault freshResume clearLevel pendingLevel maskLevel takesInterrupt hasCycles charged chargeInterrupt decompose mUnderS setSrNointNosp restoreSr clearTrace setIntMask mIsSet keepResume putWord putLong getWord getLong noteLog counted meets clearOf windowsInUse inStore servedOf placeOf putCpu withCpu stored noted served written fetched rawWrite tryWrite readValue rawRead tryRead flush release responseOf acknowledged readOr prefetchRead keptFirst firstFrom prefetchFirst keptSecond secondFrom prefetchSecond checkedRead readAt wrote checkedWrite writeAt stackField pushField pushFields vectorRead refill jumpTo jumpVector pushFrame exceptionAddressError exceptionBusError raiseBus raiseAddress trigger fieldAt frame68000 frame8 frame2 frame0 frame4 frame7 frame11 addressFrame busFrame refusesOdd vectorAddress beginBus beginAddress enterBusError isCounted isRaw is68000 stackShort beginEntry finished taken takeException stackGroup2 takeGroup2 stackUnimp takeFpUnimp060 stackDisabled takeFpDisabled060 shortFrame longFrame disabledFrame iackVector vectorFrom acknowledgeLevel enterLevel restOther frameOther firstFrame throwaway secondFrame closed ended dispatched serviceInterrupt serviced checkAndService badFlags oddBase badCycles badCode badStore pastTop anyPast badWindows shortLog badVector badKind testsOf firstOf refusalOf countOf cycles flag plain ofEntry ofRead ofService run restarted begun refusal perform matterOf most
+unfolding is040 is060 isPre68020 isEc020Plus isPrefetchKind maskAddress hasT0 hasM maskStatus spIndex backupSp restoreSp putS setSmFlagNosp setSFlag setSmFlag enterSupervisor hasClocks clocksOf oneFetched prefetchEnabled setClocks internalCycles clearPrefetch firstWord secondWord kindOf pcOf vbrOf a7Of addressOf isFaulted inException checksAlignment causeNumberOf hasFcOverride fcOverrideOf setA7 setPc noteFpiar halted setException clearStopped restoreRegisters setWdata clearCause clearFcOverride startVector minus32 lowerA7 oddPc freshFault freshResume clearLevel pendingLevel maskLevel takesInterrupt hasCycles charged chargeInterrupt decompose mUnderS setSrNointNosp restoreSr clearTrace setIntMask mIsSet keepResume putWord putLong getWord getLong noteLog counted meets clearOf windowsInUse inStore servedOf placeOf putCpu stored noted served written fetched rawWrite tryWrite readValue rawRead tryRead flush release responseOf acknowledged readOr prefetchRead keptFirst firstFrom prefetchFirst keptSecond secondFrom prefetchSecond checkedRead readAt wrote checkedWrite writeAt stackField pushField pushFields vectorRead refill jumpTo jumpVector pushFrame exceptionAddressError exceptionBusError raiseBus raiseAddress trigger fieldAt frame68000 frame8 frame2 frame0 frame4 frame7 frame11 addressFrame busFrame refusesOdd vectorAddress beginBus beginAddress enterBusError isCounted isRaw stackShort beginEntry finished taken takeException stackGroup2 takeGroup2 stackUnimp takeFpUnimp060 stackDisabled takeFpDisabled060 shortFrame longFrame disabledFrame iackVector vectorFrom acknowledgeLevel enterLevel restOther pushInterruptOther firstFrame throwaway secondFrame closeInterrupt ended dispatched serviceInterrupt serviced checkAndService badFlags oddBase badCycles badCode badStore pastTop anyPast badWindows shortLog badVector badKind testsOf firstOf refusalOf countOf cycles flag plain ofEntry ofRead ofService run restarted begun refusal perform matterOf most
 met = (refl, refl, refl, refl, refl, refl, refl, refl, refl, refl, refl, refl, refl, refl)

@@ -16,13 +16,12 @@ use Rattle.memory.specs.declared.Core.{Core}
 use Rattle.memory.specs.declared.Bus.{Bus}
 use Rattle.memory.specs.Served.{servedOf}
 use Rattle.memory.specs.Runs.{Outside}
-use Rattle.memory.specs.World.{World, widthOf, served, readValue}
+use Rattle.memory.specs.World.{World, widthOf, served, readValue, cpuOf}
 use Rattle.memory.specs.AccessLaws.{kept}
 use Rattle.frames.specs.declared.Field.{Field}
 use Rattle.frames.specs.declared.Frame.{Frame}
-use Rattle.frames.specs.Frames.{fieldAt}
-use Rattle.steps.specs.Steps.{isCounted}
-use Rattle.faults.specs.Faults.{cpuOf, raised, pushFrame}
+use Rattle.frames.specs.Frames.{fieldAt, isCounted}
+use Rattle.faults.specs.Faults.{raised, pushFrame}
 use Rattle.images.specs.Pushes.{calm, served-same}
 use Rattle.images.specs.Images.{Shape, Ready, Image, SameByte, frameBytes, newA7, bottom, at-offset, stacked-image}
 use Rattle.forms.specs.Gist.{gist, gistCpu, a7-gist, framedBy, stacked-form, minus-below}

@@ -16,14 +16,14 @@ use Rattle.cpu.specs.Fields.{kindOf, pcOf, ppcOf, a7Of, inException, halted, re
 use Rattle.memory.specs.declared.Core.{Core}
 use Rattle.memory.specs.declared.Bus.{Bus}
 use Rattle.memory.specs.ByteLaws.{AllBytes}
-use Rattle.memory.specs.World.{World, world, tried, putCpu}
+use Rattle.memory.specs.World.{World, world, tried, putCpu, cpuOf, withCpu}
 use Rattle.types.specs.Tables.{exceptionCycles}
 use Rattle.types.specs.Causes.{causeNumber}
 use Rattle.requests.specs.Interrupts.{pendingLevel, maskLevel, takesInterrupt}
 use Rattle.exceptions.specs.Exceptions.{entry, takeException, takeGroup2, trap, exceptionTrace, takeRewound, takeFpUnimp060, takeFpDisabled060}
-use Rattle.exceptions.specs.Exceptions.{beginEntry, taken as done}
+use Rattle.steps.specs.Steps.{beginEntry}
+use Rattle.exceptions.specs.Exceptions.{taken as done}
 use Rattle.interrupts.specs.Interrupts.{checkAndService, serviced, serviceInterrupt}
-use Rattle.faults.specs.Faults.{cpuOf, on}
 use Rattle.refusals.specs.Refusals.{badFlags, oddBase, badCode, badStore, pastTop, anyPast, badWindows}
 use Rattle.calls.specs.declared.Call.{Call}
 use Rattle.calls.specs.declared.Call.the-variants.{TakeException, Trap, TakeGroup2Exception, ExceptionChk, ExceptionZeroDivide, ExceptionPrivilege, ExceptionTrace, ExceptionAddressError, ExceptionBusError, TakeFpUnimp060, TakeFpDisabled060, TakeAlineException, TakeFlineException, TakeTrapException, TakeBkptException, TakeIllegalException, TriggerAddressError, TriggerBusError, CheckTrace, SetIrq, CheckInterrupts, CheckAndServiceInterrupts, Read16, Read32, Write16, Write32, Push16, Push32, PrefetchFirst, PrefetchSecond}
@@ -333,7 +333,7 @@ exc-reads : (w : World) (v : ℕ) (p : Plan) → Agrees (ofEntry (takeException 
 unfolding ofEntry cycles takeException
 exc-reads w v p = go (inException (cpuOf w))
   where
-    go : (b : Bool) → Agrees (ofEntry (pick b (entry (on w (halted (cpuOf w))) 0) (entry (done (on w (beginEntry (cpuOf w))) v) (exceptionCycles v)))) (pick b none (some p))
+    go : (b : Bool) → Agrees (ofEntry (pick b (entry (withCpu w (halted (cpuOf w))) 0) (entry (done (withCpu w (beginEntry (cpuOf w))) v) (exceptionCycles v)))) (pick b none (some p))
     go true = refl
     go false = rw (costs v)
 
@@ -344,7 +344,7 @@ rewound-in c = refl
 rewound-reads : (w : World) (v : ℕ) (p : Plan) → Agrees (ofEntry (takeRewound w v)) (pick (inException (cpuOf w)) none (some p))
 unfolding takeRewound putCpu
 rewound-reads w v p =
-    subst (λ (b : Bool). Agrees (ofEntry (takeException (on w (rewindPc (cpuOf w))) v)) (pick b none (some p))) (rewound-in (cpuOf w)) (exc-reads (on w (rewindPc (cpuOf w))) v p)
+    subst (λ (b : Bool). Agrees (ofEntry (takeException (withCpu w (rewindPc (cpuOf w))) v)) (pick b none (some p))) (rewound-in (cpuOf w)) (exc-reads (withCpu w (rewindPc (cpuOf w))) v p)
 
 costly : (z : World) (v : ℕ) (p : Plan) → Agrees (ofEntry (entry z (exceptionCycles v))) (some p)
 unfolding ofEntry cycles

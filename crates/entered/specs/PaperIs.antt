@@ -14,11 +14,9 @@ use Rattle.status.specs.Status.{statusOf, mIsSet}
 use Rattle.requests.specs.Interrupts.{pendingLevel}
 use Rattle.memory.specs.declared.Core.{Core}
 use Rattle.memory.specs.declared.Bus.{Bus}
-use Rattle.memory.specs.World.{World, responseOf}
-use Rattle.faults.specs.Faults.{cpuOf}
+use Rattle.memory.specs.World.{World, responseOf, cpuOf}
 use Rattle.exceptions.specs.Frames.{formatWord, offsetWord}
-use Rattle.exceptions.specs.Exceptions.{stackedAddress, stacksNext}
-use Rattle.interrupts.specs.Interrupts.{withS, iackVector}
+use Rattle.steps.specs.Steps.{stackedAddress, stacksNext, withS, iackVector}
 use Rattle.calls.specs.declared.Call.{Call}
 use Rattle.calls.specs.declared.Call.the-variants.{TakeException, Trap, TakeGroup2Exception, ExceptionChk, ExceptionZeroDivide, ExceptionPrivilege, ExceptionTrace, ExceptionAddressError, ExceptionBusError, TakeFpUnimp060, TakeFpDisabled060, TakeAlineException, TakeFlineException, TakeTrapException, TakeBkptException, TakeIllegalException, TriggerAddressError, TriggerBusError, CheckTrace, SetIrq, CheckInterrupts, CheckAndServiceInterrupts, Read16, Read32, Write16, Write32, Push16, Push32, PrefetchFirst, PrefetchSecond}
 use Rattle.calls.specs.Matters.{matterOf}

@@ -13,10 +13,9 @@ use Rattle.cpu.specs.declared.Cpu.{Cpu}
 use Rattle.memory.specs.declared.Bus.{Bus}
 use Rattle.memory.specs.declared.Core.{Core}
 use Rattle.memory.specs.ByteLaws.{AllBytes}
-use Rattle.memory.specs.World.{World}
+use Rattle.memory.specs.World.{World, cpuOf}
 use Rattle.refusals.specs.Refusals.{badStore, badWindows}
 use Rattle.images.specs.Pushes.{calm}
-use Rattle.faults.specs.Faults.{cpuOf}
 use Rattle.calls.specs.declared.Call.{Call}
 use Rattle.calls.specs.Calls.{Performance, begun, refusal, perform}
 use Rattle.forms.specs.Plans.{Plan}

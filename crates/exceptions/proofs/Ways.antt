@@ -8,10 +8,9 @@ use mathlib.Core.List.{List}
 use lib.ListN.{length, getD, set}
 use lib.Dec.{eqb, ltb, leb}
 use native.Mathlib.Numerals.{sub-one}
-use Rattle.cpu.specs.Clocks.{internalCycles}
-use Rattle.cpu.specs.Fields.{halted, inException, kindOf, leaveStop, noteFpiar, pcOf, ppcOf, rewindPc, setException}
+use Rattle.cpu.specs.Fields.{halted, inException, kindOf, noteFpiar, pcOf, ppcOf, rewindPc, setException}
 use Rattle.cpu.specs.declared.Cpu.{Cpu}
-use Rattle.exceptions.specs.Exceptions.{beginEntry, beginTrace, entry, exceptionTrace, finished, is68000, stackDisabled, stackGroup2, stackShort, stackUnimp, stackedAddress, stacksNext, takeException, takeFpDisabled060, takeFpUnimp060, takeGroup2, takeRewound, taken, trap}
+use Rattle.exceptions.specs.Exceptions.{entry, exceptionTrace, finished, stackDisabled, stackGroup2, stackShort, stackUnimp, takeException, takeFpDisabled060, takeFpUnimp060, takeGroup2, takeRewound, taken, trap}
 use Rattle.exceptions.specs.Frames.{disabledFrame, formatWord, longFrame, offsetWord, shortFrame}
 use Rattle.exceptions.specs.declared.Entered.{Entered}
 use Rattle.faults.specs.Faults.{jumpVector, pushExceptionFrame68000, pushFrame, raised}
@@ -20,125 +19,67 @@ use Rattle.memory.specs.World.{putCpu, world}
 use Rattle.memory.specs.declared.Core.{Core}
 use Rattle.status.specs.Banks.{enterSupervisor}
 use Rattle.status.specs.Status.{statusOf}
+use Rattle.steps.specs.Steps.{beginEntry, beginTrace, stackedAddress}
 use Rattle.types.specs.Kinds.{isPre68020}
 use Rattle.types.specs.Tables.{exceptionCycles}
+use borrow.Author.Tests.{eq-eqb, ne-eqb}
 
-pub stack-short-way : (m : Core) (s l : List ℕ) (pc format : ℕ) (r : Core) (b : Bool) (n : ℕ) (s1 l1 : List ℕ) (r1 : Core) → r ≡ putCpu m (enterSupervisor (m .cpu)) → b ≡ is68000 (m .cpu) → b ≡ true → n ≡ statusOf (m .cpu) → world r1 s1 l1 ≡ pushExceptionFrame68000 raised (world r s l) pc n → world r1 s1 l1 ≡ stackShort (world m s l) pc format
+pub stack-short-way : (m : Core) (s l : List ℕ) (pc format n : ℕ) (r : Cpu) (r1 : Core) (n1 : ℕ) (s1 l1 : List ℕ) (r2 : Core) → n ≡ statusOf (m .cpu) → r ≡ enterSupervisor (m .cpu) → r1 ≡ putCpu m r → n1 ≡ kindOf (m .cpu) → n1 ≡ 1 → world r2 s1 l1 ≡ pushExceptionFrame68000 raised (world r1 s l) pc n → world r2 s1 l1 ≡ stackShort (world m s l) pc format
 unfolding stackShort
-stack-short-way m s l pc format r b n s1 l1 r1 h0 h1 h2 h3 h4 = cc
+stack-short-way m s l pc format n r r1 n1 s1 l1 r2 h0 h1 h2 h3 h4 h5 = cc (eq-eqb _ _ h4)
 
-pub stack-short-way-2 : (m : Core) (s l : List ℕ) (pc format : ℕ) (r : Core) (b : Bool) (n : ℕ) (r1 : Frame) (s1 l1 : List ℕ) (r2 : Core) → r ≡ putCpu m (enterSupervisor (m .cpu)) → b ≡ is68000 (m .cpu) → b ≡ false → n ≡ statusOf (m .cpu) → r1 ≡ shortFrame n pc format → world r2 s1 l1 ≡ pushFrame raised (world r s l) r1 → world r2 s1 l1 ≡ stackShort (world m s l) pc format
+pub stack-short-way-2 : (m : Core) (s l : List ℕ) (pc format n : ℕ) (r : Cpu) (r1 : Core) (n1 : ℕ) (r2 : Frame) (s1 l1 : List ℕ) (r3 : Core) → n ≡ statusOf (m .cpu) → r ≡ enterSupervisor (m .cpu) → r1 ≡ putCpu m r → n1 ≡ kindOf (m .cpu) → (n1 ≡ 1 → ⊥) → r2 ≡ shortFrame n pc format → world r3 s1 l1 ≡ pushFrame raised (world r1 s l) r2 → world r3 s1 l1 ≡ stackShort (world m s l) pc format
 unfolding stackShort
-stack-short-way-2 m s l pc format r b n r1 s1 l1 r2 h0 h1 h2 h3 h4 h5 = cc
+stack-short-way-2 m s l pc format n r r1 n1 r2 s1 l1 r3 h0 h1 h2 h3 h4 h5 h6 = cc (ne-eqb _ _ h4)
 
-pub stack-and-jump-way : (m : Core) (s l : List ℕ) (vector n n1 : ℕ) (s1 l1 : List ℕ) (r : Core) (s2 l2 : List ℕ) (r1 r2 : Core) → n ≡ stackedAddress (m .cpu) vector → n1 ≡ offsetWord vector → world r s1 l1 ≡ stackShort (world m s l) n n1 → world r1 s2 l2 ≡ jumpVector raised (world r s1 l1) vector → r2 ≡ putCpu r1 (setException (r1 .cpu) false) → world r2 s2 l2 ≡ taken (world m s l) vector
+pub stack-and-jump-way : (m : Core) (s l : List ℕ) (vector n n1 : ℕ) (s1 l1 : List ℕ) (r : Core) (s2 l2 : List ℕ) (r1 : Core) (r2 : Cpu) (r3 : Core) → n ≡ stackedAddress (m .cpu) vector → n1 ≡ offsetWord vector → world r s1 l1 ≡ stackShort (world m s l) n n1 → world r1 s2 l2 ≡ jumpVector raised (world r s1 l1) vector → r2 ≡ setException (r1 .cpu) false → r3 ≡ putCpu r1 r2 → world r3 s2 l2 ≡ taken (world m s l) vector
 unfolding taken finished
-stack-and-jump-way m s l vector n n1 s1 l1 r s2 l2 r1 r2 h0 h1 h2 h3 h4 = cc
+stack-and-jump-way m s l vector n n1 s1 l1 r s2 l2 r1 r2 r3 h0 h1 h2 h3 h4 h5 = cc
 
-pub take-exception-way : (m : Core) (s l : List ℕ) (vector : ℕ) (b : Bool) (r : Core) → b ≡ inException (m .cpu) → b ≡ true → r ≡ putCpu m (halted (m .cpu)) → entry (world r s l) 0 ≡ takeException (world m s l) vector
+pub take-exception-way : (m : Core) (s l : List ℕ) (vector : ℕ) (b : Bool) (r : Cpu) (r1 : Core) → b ≡ inException (m .cpu) → b ≡ true → r ≡ halted (m .cpu) → r1 ≡ putCpu m r → entry (world r1 s l) 0 ≡ takeException (world m s l) vector
 unfolding takeException
-take-exception-way m s l vector b r h0 h1 h2 = cc
+take-exception-way m s l vector b r r1 h0 h1 h2 h3 = cc
 
-pub take-exception-way-2 : (m : Core) (s l : List ℕ) (vector : ℕ) (b : Bool) (r : Core) (s1 l1 : List ℕ) (r1 : Core) (n : ℕ) → b ≡ inException (m .cpu) → b ≡ false → r ≡ putCpu m (beginEntry (m .cpu)) → world r1 s1 l1 ≡ taken (world r s l) vector → n ≡ exceptionCycles vector → entry (world r1 s1 l1) n ≡ takeException (world m s l) vector
+pub take-exception-way-2 : (m : Core) (s l : List ℕ) (vector : ℕ) (b : Bool) (r : Cpu) (r1 : Core) (s1 l1 : List ℕ) (r2 : Core) (n : ℕ) → b ≡ inException (m .cpu) → b ≡ false → r ≡ beginEntry (m .cpu) → r1 ≡ putCpu m r → world r2 s1 l1 ≡ taken (world r1 s l) vector → n ≡ exceptionCycles vector → entry (world r2 s1 l1) n ≡ takeException (world m s l) vector
 unfolding takeException
-take-exception-way-2 m s l vector b r s1 l1 r1 n h0 h1 h2 h3 h4 = cc
+take-exception-way-2 m s l vector b r r1 s1 l1 r2 n h0 h1 h2 h3 h4 h5 = cc
 
-pub stack-group2-way : (m : Core) (s l : List ℕ) (vector n : ℕ) (b : Bool) (n1 : ℕ) (s1 l1 : List ℕ) (r : Core) → n ≡ pcOf (m .cpu) → b ≡ isPre68020 (kindOf (m .cpu)) → b ≡ true → n1 ≡ offsetWord vector → world r s1 l1 ≡ stackShort (world m s l) n n1 → world r s1 l1 ≡ stackGroup2 (world m s l) vector
+pub stack-group2-way : (m : Core) (s l : List ℕ) (vector n n1 : ℕ) (b : Bool) (n2 : ℕ) (s1 l1 : List ℕ) (r : Core) → n ≡ pcOf (m .cpu) → n1 ≡ kindOf (m .cpu) → b ≡ isPre68020 n1 → b ≡ true → n2 ≡ offsetWord vector → world r s1 l1 ≡ stackShort (world m s l) n n2 → world r s1 l1 ≡ stackGroup2 (world m s l) vector
 unfolding stackGroup2
-stack-group2-way m s l vector n b n1 s1 l1 r h0 h1 h2 h3 h4 = cc
+stack-group2-way m s l vector n n1 b n2 s1 l1 r h0 h1 h2 h3 h4 h5 = cc
 
-pub stack-group2-way-2 : (m : Core) (s l : List ℕ) (vector n : ℕ) (b : Bool) (r : Core) (n1 n2 n3 : ℕ) (r1 : Frame) (s1 l1 : List ℕ) (r2 : Core) → n ≡ pcOf (m .cpu) → b ≡ isPre68020 (kindOf (m .cpu)) → b ≡ false → r ≡ putCpu m (enterSupervisor (m .cpu)) → n1 ≡ statusOf (m .cpu) → n2 ≡ formatWord (2 % 16) vector → n3 ≡ ppcOf (m .cpu) → r1 ≡ longFrame n1 n n2 n3 → world r2 s1 l1 ≡ pushFrame raised (world r s l) r1 → world r2 s1 l1 ≡ stackGroup2 (world m s l) vector
+pub stack-group2-way-2 : (m : Core) (s l : List ℕ) (vector n n1 : ℕ) (b : Bool) (r : Cpu) (r1 : Core) (n2 n3 n4 : ℕ) (r2 : Frame) (s1 l1 : List ℕ) (r3 : Core) → n ≡ pcOf (m .cpu) → n1 ≡ kindOf (m .cpu) → b ≡ isPre68020 n1 → b ≡ false → r ≡ enterSupervisor (m .cpu) → r1 ≡ putCpu m r → n2 ≡ statusOf (m .cpu) → n3 ≡ formatWord (2 % 16) vector → n4 ≡ ppcOf (m .cpu) → r2 ≡ longFrame n2 n n3 n4 → world r3 s1 l1 ≡ pushFrame raised (world r1 s l) r2 → world r3 s1 l1 ≡ stackGroup2 (world m s l) vector
 unfolding stackGroup2
-stack-group2-way-2 m s l vector n b r n1 n2 n3 r1 s1 l1 r2 h0 h1 h2 h3 h4 h5 h6 h7 h8 = cc
+stack-group2-way-2 m s l vector n n1 b r r1 n2 n3 n4 r2 s1 l1 r3 h0 h1 h2 h3 h4 h5 h6 h7 h8 h9 h10 = cc
 
 pub take-group2-exception-way : (m : Core) (s l : List ℕ) (vector : ℕ) (s1 l1 : List ℕ) (r : Core) (s2 l2 : List ℕ) (r1 : Core) (n : ℕ) → world r s1 l1 ≡ stackGroup2 (world m s l) vector → world r1 s2 l2 ≡ jumpVector raised (world r s1 l1) vector → n ≡ exceptionCycles vector → entry (world r1 s2 l2) n ≡ takeGroup2 (world m s l) vector
 unfolding takeGroup2
 take-group2-exception-way m s l vector s1 l1 r s2 l2 r1 n h0 h1 h2 = cc
 
-pub trap-way : (m : Core) (s l : List ℕ) (n n1 : ℕ) (s1 l1 : List ℕ) (r : Entered) → n1 ≡ 32 + n % 16 → entry (world (r .core) s1 l1) (r .cycles) ≡ takeException (world m s l) n1 → entry (world (r .core) s1 l1) (r .cycles) ≡ trap (world m s l) n
+pub trap-way : (m : Core) (s l : List ℕ) (n : ℕ) (s1 l1 : List ℕ) (r : Entered) → entry (world (r .core) s1 l1) (r .cycles) ≡ takeException (world m s l) (32 + (n % 16)) → entry (world (r .core) s1 l1) (r .cycles) ≡ trap (world m s l) n
 unfolding trap
-trap-way m s l n n1 s1 l1 r h0 h1 = cc
+trap-way m s l n s1 l1 r h0 = cc
 
-pub exception-chk-way : (m : Core) (s l s1 l1 : List ℕ) (r : Entered) → entry (world (r .core) s1 l1) (r .cycles) ≡ takeGroup2 (world m s l) 6 → entry (world (r .core) s1 l1) (r .cycles) ≡ takeGroup2 (world m s l) 6
-unfolding takeGroup2
-exception-chk-way m s l s1 l1 r h0 = cc
-
-pub exception-zero-divide-way : (m : Core) (s l s1 l1 : List ℕ) (r : Entered) → entry (world (r .core) s1 l1) (r .cycles) ≡ takeGroup2 (world m s l) 5 → entry (world (r .core) s1 l1) (r .cycles) ≡ takeGroup2 (world m s l) 5
-unfolding takeGroup2
-exception-zero-divide-way m s l s1 l1 r h0 = cc
-
-pub exception-privilege-way : (m : Core) (s l s1 l1 : List ℕ) (r : Entered) → entry (world (r .core) s1 l1) (r .cycles) ≡ takeException (world m s l) 8 → entry (world (r .core) s1 l1) (r .cycles) ≡ takeException (world m s l) 8
-unfolding takeException
-exception-privilege-way m s l s1 l1 r h0 = cc
-
-pub exception-trace-way : (m : Core) (s l : List ℕ) (r : Core) (s1 l1 : List ℕ) (r1 : Entered) → r ≡ putCpu m (beginTrace (m .cpu)) → entry (world (r1 .core) s1 l1) (r1 .cycles) ≡ takeGroup2 (world r s l) 9 → entry (world (r1 .core) s1 l1) (r1 .cycles) ≡ exceptionTrace (world m s l)
+pub exception-trace-way : (m : Core) (s l : List ℕ) (r : Cpu) (r1 : Core) (s1 l1 : List ℕ) (r2 : Entered) → r ≡ beginTrace (m .cpu) → r1 ≡ putCpu m r → entry (world (r2 .core) s1 l1) (r2 .cycles) ≡ takeGroup2 (world r1 s l) 9 → entry (world (r2 .core) s1 l1) (r2 .cycles) ≡ exceptionTrace (world m s l)
 unfolding exceptionTrace
-exception-trace-way m s l r s1 l1 r1 h0 h1 = cc
+exception-trace-way m s l r r1 s1 l1 r2 h0 h1 h2 = cc
 
-pub take-rewound-way : (m : Core) (s l : List ℕ) (vector : ℕ) (r : Core) (s1 l1 : List ℕ) (r1 : Entered) → r ≡ putCpu m (rewindPc (m .cpu)) → entry (world (r1 .core) s1 l1) (r1 .cycles) ≡ takeException (world r s l) vector → entry (world (r1 .core) s1 l1) (r1 .cycles) ≡ takeRewound (world m s l) vector
+pub take-rewound-way : (m : Core) (s l : List ℕ) (vector : ℕ) (r : Cpu) (r1 : Core) (s1 l1 : List ℕ) (r2 : Entered) → r ≡ rewindPc (m .cpu) → r1 ≡ putCpu m r → entry (world (r2 .core) s1 l1) (r2 .cycles) ≡ takeException (world r1 s l) vector → entry (world (r2 .core) s1 l1) (r2 .cycles) ≡ takeRewound (world m s l) vector
 unfolding takeRewound
-take-rewound-way m s l vector r s1 l1 r1 h0 h1 = cc
+take-rewound-way m s l vector r r1 s1 l1 r2 h0 h1 h2 = cc
 
-pub take-aline-exception-way : (m : Core) (s l s1 l1 : List ℕ) (r : Entered) → entry (world (r .core) s1 l1) (r .cycles) ≡ takeRewound (world m s l) 10 → entry (world (r .core) s1 l1) (r .cycles) ≡ takeRewound (world m s l) 10
-unfolding takeRewound
-take-aline-exception-way m s l s1 l1 r h0 = cc
-
-pub take-fline-exception-way : (m : Core) (s l s1 l1 : List ℕ) (r : Entered) → entry (world (r .core) s1 l1) (r .cycles) ≡ takeRewound (world m s l) 11 → entry (world (r .core) s1 l1) (r .cycles) ≡ takeRewound (world m s l) 11
-unfolding takeRewound
-take-fline-exception-way m s l s1 l1 r h0 = cc
-
-pub take-bkpt-exception-way : (m : Core) (s l s1 l1 : List ℕ) (r : Entered) → entry (world (r .core) s1 l1) (r .cycles) ≡ takeRewound (world m s l) 4 → entry (world (r .core) s1 l1) (r .cycles) ≡ takeRewound (world m s l) 4
-unfolding takeRewound
-take-bkpt-exception-way m s l s1 l1 r h0 = cc
-
-pub take-illegal-exception-way : (m : Core) (s l s1 l1 : List ℕ) (r : Entered) → entry (world (r .core) s1 l1) (r .cycles) ≡ takeRewound (world m s l) 4 → entry (world (r .core) s1 l1) (r .cycles) ≡ takeRewound (world m s l) 4
-unfolding takeRewound
-take-illegal-exception-way m s l s1 l1 r h0 = cc
-
-pub take-trap-exception-way : (m : Core) (s l : List ℕ) (n : ℕ) (s1 l1 : List ℕ) (r : Entered) → entry (world (r .core) s1 l1) (r .cycles) ≡ trap (world m s l) n → entry (world (r .core) s1 l1) (r .cycles) ≡ trap (world m s l) n
-unfolding trap
-take-trap-exception-way m s l n s1 l1 r h0 = cc
-
-pub stack-unimp-way : (m : Core) (s l : List ℕ) (ea : ℕ) (r : Core) (n n1 n2 : ℕ) (r1 : Frame) (s1 l1 : List ℕ) (r2 : Core) → r ≡ putCpu m (enterSupervisor (m .cpu)) → n ≡ statusOf (m .cpu) → n1 ≡ pcOf (m .cpu) → n2 ≡ formatWord (2 % 16) 11 → r1 ≡ longFrame n n1 n2 ea → world r2 s1 l1 ≡ pushFrame raised (world r s l) r1 → world r2 s1 l1 ≡ stackUnimp (world m s l) ea
+pub stack-unimp-way : (m : Core) (s l : List ℕ) (ea : ℕ) (r : Cpu) (r1 : Core) (n n1 n2 : ℕ) (r2 : Frame) (s1 l1 : List ℕ) (r3 : Core) → r ≡ enterSupervisor (m .cpu) → r1 ≡ putCpu m r → n ≡ statusOf (m .cpu) → n1 ≡ pcOf (m .cpu) → n2 ≡ formatWord (2 % 16) 11 → r2 ≡ longFrame n n1 n2 ea → world r3 s1 l1 ≡ pushFrame raised (world r1 s l) r2 → world r3 s1 l1 ≡ stackUnimp (world m s l) ea
 unfolding stackUnimp
-stack-unimp-way m s l ea r n n1 n2 r1 s1 l1 r2 h0 h1 h2 h3 h4 h5 = cc
+stack-unimp-way m s l ea r r1 n n1 n2 r2 s1 l1 r3 h0 h1 h2 h3 h4 h5 h6 = cc
 
-pub take-fp-unimp-060-way : (m : Core) (s l : List ℕ) (ea : ℕ) (r : Core) (s1 l1 : List ℕ) (r1 : Core) (s2 l2 : List ℕ) (r2 : Core) (n : ℕ) → r ≡ putCpu m (noteFpiar (m .cpu)) → world r1 s1 l1 ≡ stackUnimp (world r s l) ea → world r2 s2 l2 ≡ jumpVector raised (world r1 s1 l1) 11 → n ≡ exceptionCycles 11 → entry (world r2 s2 l2) n ≡ takeFpUnimp060 (world m s l) ea
+pub take-fp-unimp-060-way : (m : Core) (s l : List ℕ) (ea : ℕ) (r : Cpu) (r1 : Core) (s1 l1 : List ℕ) (r2 : Core) (s2 l2 : List ℕ) (r3 : Core) (n : ℕ) → r ≡ noteFpiar (m .cpu) → r1 ≡ putCpu m r → world r2 s1 l1 ≡ stackUnimp (world r1 s l) ea → world r3 s2 l2 ≡ jumpVector raised (world r2 s1 l1) 11 → n ≡ exceptionCycles 11 → entry (world r3 s2 l2) n ≡ takeFpUnimp060 (world m s l) ea
 unfolding takeFpUnimp060
-take-fp-unimp-060-way m s l ea r s1 l1 r1 s2 l2 r2 n h0 h1 h2 h3 = cc
+take-fp-unimp-060-way m s l ea r r1 s1 l1 r2 s2 l2 r3 n h0 h1 h2 h3 h4 = cc
 
-pub stack-disabled-way : (m : Core) (s l : List ℕ) (r : Core) (n n1 n2 : ℕ) (r1 : Frame) (s1 l1 : List ℕ) (r2 : Core) → r ≡ putCpu m (enterSupervisor (m .cpu)) → n ≡ statusOf (m .cpu) → n1 ≡ ppcOf (m .cpu) → n2 ≡ formatWord (4 % 16) 11 → r1 ≡ disabledFrame n n1 n2 0 n1 → world r2 s1 l1 ≡ pushFrame raised (world r s l) r1 → world r2 s1 l1 ≡ stackDisabled (world m s l)
+pub stack-disabled-way : (m : Core) (s l : List ℕ) (r : Cpu) (r1 : Core) (n n1 n2 : ℕ) (r2 : Frame) (s1 l1 : List ℕ) (r3 : Core) → r ≡ enterSupervisor (m .cpu) → r1 ≡ putCpu m r → n ≡ statusOf (m .cpu) → n1 ≡ ppcOf (m .cpu) → n2 ≡ formatWord (4 % 16) 11 → r2 ≡ disabledFrame n n1 n2 0 n1 → world r3 s1 l1 ≡ pushFrame raised (world r1 s l) r2 → world r3 s1 l1 ≡ stackDisabled (world m s l)
 unfolding stackDisabled
-stack-disabled-way m s l r n n1 n2 r1 s1 l1 r2 h0 h1 h2 h3 h4 h5 = cc
+stack-disabled-way m s l r r1 n n1 n2 r2 s1 l1 r3 h0 h1 h2 h3 h4 h5 h6 = cc
 
 pub take-fp-disabled-060-way : (m : Core) (s l s1 l1 : List ℕ) (r : Core) (s2 l2 : List ℕ) (r1 : Core) (n : ℕ) → world r s1 l1 ≡ stackDisabled (world m s l) → world r1 s2 l2 ≡ jumpVector raised (world r s1 l1) 11 → n ≡ exceptionCycles 11 → entry (world r1 s2 l2) n ≡ takeFpDisabled060 (world m s l)
 unfolding takeFpDisabled060
 take-fp-disabled-060-way m s l s1 l1 r s2 l2 r1 n h0 h1 h2 = cc
-
-pub stacked-address-way : (m : Cpu) (v : ℕ) (b : Bool) (n : ℕ) → b ≡ stacksNext v → b ≡ true → n ≡ pcOf m → n ≡ stackedAddress m v
-unfolding stackedAddress
-stacked-address-way m v b n h0 h1 h2 = cc
-
-pub stacked-address-way-2 : (m : Cpu) (v : ℕ) (b : Bool) (n : ℕ) → b ≡ stacksNext v → b ≡ false → n ≡ ppcOf m → n ≡ stackedAddress m v
-unfolding stackedAddress
-stacked-address-way-2 m v b n h0 h1 h2 = cc
-
-pub begin-way : (m : Core) (r r1 : Cpu) (r2 : Core) → r ≡ setException (m .cpu) true → r1 ≡ internalCycles r 4 → r2 ≡ putCpu m r1 → r2 ≡ putCpu m (beginEntry (m .cpu))
-unfolding beginEntry
-begin-way m r r1 r2 h0 h1 h2 = cc
-
-pub finish-way : (m : Core) (r : Cpu) (r1 : Core) → r ≡ setException (m .cpu) false → r1 ≡ putCpu m r → r1 ≡ putCpu m (setException (m .cpu) false)
-unfolding putCpu
-finish-way m r r1 h0 h1 = cc
-
-pub begin-trace-way : (m : Core) (r r1 : Cpu) (r2 : Core) → r ≡ leaveStop (m .cpu) → r1 ≡ internalCycles r 4 → r2 ≡ putCpu m r1 → r2 ≡ putCpu m (beginTrace (m .cpu))
-unfolding beginTrace
-begin-trace-way m r r1 r2 h0 h1 h2 = cc
-
-pub rewind-way : (m : Core) (r : Cpu) (r1 : Core) → r ≡ rewindPc (m .cpu) → r1 ≡ putCpu m r → r1 ≡ putCpu m (rewindPc (m .cpu))
-unfolding putCpu
-rewind-way m r r1 h0 h1 = cc
-
-pub note-fpiar-way : (m : Core) (r : Cpu) (r1 : Core) → r ≡ noteFpiar (m .cpu) → r1 ≡ putCpu m r → r1 ≡ putCpu m (noteFpiar (m .cpu))
-unfolding putCpu
-note-fpiar-way m r r1 h0 h1 = cc

@@ -1,30 +1,17 @@
 -- The entries of exceptions.rs that are no errors: what each makes of a world, and the cycles that it answers.
 use Prim.Native.Nat.{ℕ, _+_, _%_}
-use mathlib.Core.Bool.{Bool, true, false}
-use lib.Dec.{eqb, leb}
-use Rattle.types.specs.Kinds.{pick, either, both, isPre68020}
+use mathlib.Core.Bool.{false}
+use lib.Dec.{eqb}
+use Rattle.types.specs.Kinds.{pick, isPre68020}
+use Rattle.types.specs.Vectors.{trace, line1111, trapBase}
 use Rattle.types.specs.Tables.{exceptionCycles}
-use Rattle.cpu.specs.declared.Cpu.{Cpu}
-use Rattle.cpu.specs.Fields.{kindOf, pcOf, ppcOf, inException, halted, setException, rewindPc, noteFpiar, leaveStop}
+use Rattle.cpu.specs.Fields.{kindOf, pcOf, ppcOf, inException, halted, setException, rewindPc, noteFpiar}
 use Rattle.status.specs.Status.{statusOf}
 use Rattle.status.specs.Banks.{enterSupervisor}
-use Rattle.cpu.specs.Clocks.{internalCycles}
-use Rattle.memory.specs.World.{World}
-use Rattle.faults.specs.Faults.{cpuOf, on, step, raised, pushFrame, pushExceptionFrame68000, jumpVector}
+use Rattle.memory.specs.World.{World, cpuOf, step}
+use Rattle.steps.specs.Steps.{stackedAddress, beginEntry, beginTrace}
+use Rattle.faults.specs.Faults.{raised, pushFrame, pushExceptionFrame68000, jumpVector}
 use Rattle.exceptions.specs.Frames.{formatWord, offsetWord, shortFrame, longFrame, disabledFrame}
-
--- vectors by the Rust's names
-abbrev pub chk : ℕ
-chk = 6
-
-abbrev pub zeroDivide : ℕ
-zeroDivide = 5
-
-abbrev pub trace : ℕ
-trace = 9
-
-abbrev pub line1111 : ℕ
-line1111 = 11
 
 -- an entry's world and the cycles that it answers
 pub record Entry : Type 0 where
@@ -34,16 +21,6 @@ pub record Entry : Type 0 where
 abbrev pub entry : World → ℕ → Entry
 entry w n = record { after = w; cycles = n }
 
-unfoldable pub is68000 : Cpu → Bool
-is68000 c = eqb (kindOf c) 1
-
--- the stacked address of `take_exception`: `pc` for vectors 5, 7, 9, 24 to 31, 32 to 47, else `ppc`
-unfoldable pub stacksNext : ℕ → Bool
-stacksNext v = either (eqb v 5) (either (eqb v 7) (either (eqb v 9) (both (leb 24 v) (leb v 47))))
-
-unfoldable pub stackedAddress : Cpu → ℕ → ℕ
-stackedAddress c v = pick (stacksNext v) (pcOf c) (ppcOf c)
-
 -- supervisor state, trace off
 abbrev pub supervised : World → World
 supervised w = step enterSupervisor w
@@ -51,12 +28,8 @@ supervised w = step enterSupervisor w
 -- the status as it was, an address and, on kinds with a format, a format word: on the supervisor stack
 unfoldable pub stackShort : World → ℕ → ℕ → World
 stackShort w pc format =
-    pick (is68000 (cpuOf w)) (pushExceptionFrame68000 raised (supervised w) pc (statusOf (cpuOf w)))
+    pick (eqb (kindOf (cpuOf w)) 1) (pushExceptionFrame68000 raised (supervised w) pc (statusOf (cpuOf w)))
     (pushFrame raised (supervised w) (shortFrame (statusOf (cpuOf w)) pc format))
-
--- `take_exception` before its frame: exception processing, 4 clocks
-unfoldable pub beginEntry : Cpu → Cpu
-beginEntry c = internalCycles (setException c true) 4
 
 -- `take_exception`: a halt while an entry is under way, with no frame and 0 cycles; else the frame, the jump, and the end of
 -- exception processing
@@ -82,12 +55,9 @@ takeGroup2 w v = entry (jumpVector raised (stackGroup2 w v) v) (exceptionCycles 
 
 -- `trap`: vectors 32 to 47
 unfoldable pub trap : World → ℕ → Entry
-trap w n = takeException w (32 + n % 16)
+trap w n = takeException w (trapBase + n % 16)
 
 -- `exception_trace`: a STOP ends, and 4 clocks come before the frame
-unfoldable pub beginTrace : Cpu → Cpu
-beginTrace c = internalCycles (leaveStop c) 4
-
 unfoldable pub exceptionTrace : World → Entry
 exceptionTrace w = takeGroup2 (step beginTrace w) trace
 

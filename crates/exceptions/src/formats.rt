@@ -13,10 +13,10 @@ pub fn format_word(format: u32, v: u32) -> u32
 }
 
 // The offset of a vector, 16 bits.
-pub fn offset_word(v: u32) -> u32
+pub fn offset_word(v: u32) -> u16
     ensures { λ r. ⌜ r ≡ offsetWord v ⌝ }
 {
-    v % 0x4000 * 4
+    (v % 0x4000 * 4) as u16
 }
 
 // 8 bytes.

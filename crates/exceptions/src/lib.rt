@@ -3,10 +3,9 @@
 use memory::Core;
 
 pub mod formats; // their frames
-pub mod state; // what an entry tests and changes on the record
 
 ghost use mathlib.Core.Path.{_≡_};
-ghost use Prim.Native.Nat.{_+_, _%_};
+ghost use Rattle.types.specs.Vectors.{illegalInstruction, zeroDivide, chk, privilegeViolation, line1010, line1111};
 ghost use Rattle.memory.specs.World.{world};
 ghost use Rattle.exceptions.specs.Exceptions.{entry, stackShort, taken, takeException, stackGroup2, takeGroup2, trap, exceptionTrace, takeRewound, stackUnimp, takeFpUnimp060, stackDisabled, takeFpDisabled060};
 
@@ -20,13 +19,13 @@ pub struct Entered {
 pub fn stack_short(m: Core, store: &mut [u8], log: &mut [u32], pc: u32, format: u32) -> Core
     ensures { λ r. ⌜ world r (now (store .exit)) (now (log .exit)) ≡ stackShort (world m (now (store .entry)) (now (log .entry))) pc format ⌝ }
 {
-    let a = steps::supervisor(m);
-    if state::is_68000(m) {
-        let word = state::status_word(m);
-        return faults::push_exception_frame_68000(a, store, log, pc, word);
+    let sr = status::get_sr(m.cpu);
+    let a = memory::with_cpu(m, status::banks::enter_supervisor(m.cpu));
+    let k = cpu::fields::kind(m.cpu);
+    if k == types::M68000 {
+        return faults::push_exception_frame_68000(a, store, log, pc, sr);
     }
-    let sr = state::status(m);
-    let f = formats::short_frame(sr, pc, format);
+    let f = formats::short_frame(sr as u32, pc, format);
     faults::push_frame(a, store, log, f)
 }
 
@@ -34,22 +33,22 @@ pub fn stack_short(m: Core, store: &mut [u8], log: &mut [u32], pc: u32, format: 
 fn stack_and_jump(m: Core, store: &mut [u8], log: &mut [u32], vector: u32) -> Core
     ensures { λ r. ⌜ world r (now (store .exit)) (now (log .exit)) ≡ taken (world m (now (store .entry)) (now (log .entry))) vector ⌝ }
 {
-    let pc = state::stacked_address(m, vector);
+    let pc = steps::stacked_address(m.cpu, vector);
     let format = formats::offset_word(vector);
-    let a = stack_short(m, store, log, pc, format);
+    let a = stack_short(m, store, log, pc, format as u32);
     let b = faults::jump_vector(a, store, log, vector);
-    state::finish(b)
+    memory::with_cpu(b, cpu::fields::set_exception(b.cpu, false))
 }
 
 // An exception by its vector.
 pub fn take_exception(m: Core, store: &mut [u8], log: &mut [u32], vector: u32) -> Entered
     ensures { λ r. ⌜ entry (world (r .core) (now (store .exit)) (now (log .exit))) (r .cycles) ≡ takeException (world m (now (store .entry)) (now (log .entry))) vector ⌝ }
 {
-    if steps::in_exception(m) {
-        let h = steps::halt(m);
+    if cpu::fields::in_exception(m.cpu) {
+        let h = memory::with_cpu(m, cpu::fields::halt(m.cpu));
         return Entered { core: h, cycles: 0 };
     }
-    let a = state::begin(m);
+    let a = memory::with_cpu(m, steps::begin_entry(m.cpu));
     let d = stack_and_jump(a, store, log, vector);
     let n = types::exception_cycles(vector);
     Entered { core: d, cycles: n }
@@ -59,15 +58,16 @@ pub fn take_exception(m: Core, store: &mut [u8], log: &mut [u32], vector: u32) -
 fn stack_group2(m: Core, store: &mut [u8], log: &mut [u32], vector: u32) -> Core
     ensures { λ r. ⌜ world r (now (store .exit)) (now (log .exit)) ≡ stackGroup2 (world m (now (store .entry)) (now (log .entry))) vector ⌝ }
 {
-    let pc = steps::pc(m);
-    if state::is_pre_68020(m) {
+    let pc = cpu::fields::pc(m.cpu);
+    let k = cpu::fields::kind(m.cpu);
+    if types::is_pre_68020(k) {
         let format = formats::offset_word(vector);
-        return stack_short(m, store, log, pc, format);
+        return stack_short(m, store, log, pc, format as u32);
     }
-    let a = steps::supervisor(m);
-    let sr = state::status(m);
+    let a = memory::with_cpu(m, status::banks::enter_supervisor(m.cpu));
+    let sr = status::get_sr(m.cpu);
     let format = formats::format_word(2, vector);
-    let f = formats::long_frame(sr, pc, format, state::ppc(m));
+    let f = formats::long_frame(sr as u32, pc, format, cpu::fields::ppc(m.cpu));
     faults::push_frame(a, store, log, f)
 }
 
@@ -85,27 +85,26 @@ pub fn take_group2_exception(m: Core, store: &mut [u8], log: &mut [u32], vector:
 pub fn trap(m: Core, store: &mut [u8], log: &mut [u32], n: u8) -> Entered
     ensures { λ r. ⌜ entry (world (r .core) (now (store .exit)) (now (log .exit))) (r .cycles) ≡ trap (world m (now (store .entry)) (now (log .entry))) n ⌝ }
 {
-    let v = state::trap_vector(n);
-    take_exception(m, store, log, v)
+    take_exception(m, store, log, types::TRAP_BASE + (n % 16) as u32)
 }
 
 // CHK.
 pub fn exception_chk(m: Core, store: &mut [u8], log: &mut [u32]) -> Entered
-    ensures { λ r. ⌜ entry (world (r .core) (now (store .exit)) (now (log .exit))) (r .cycles) ≡ takeGroup2 (world m (now (store .entry)) (now (log .entry))) 6 ⌝ }
+    ensures { λ r. ⌜ entry (world (r .core) (now (store .exit)) (now (log .exit))) (r .cycles) ≡ takeGroup2 (world m (now (store .entry)) (now (log .entry))) chk ⌝ }
 {
     take_group2_exception(m, store, log, types::CHK)
 }
 
 // Divide by zero.
 pub fn exception_zero_divide(m: Core, store: &mut [u8], log: &mut [u32]) -> Entered
-    ensures { λ r. ⌜ entry (world (r .core) (now (store .exit)) (now (log .exit))) (r .cycles) ≡ takeGroup2 (world m (now (store .entry)) (now (log .entry))) 5 ⌝ }
+    ensures { λ r. ⌜ entry (world (r .core) (now (store .exit)) (now (log .exit))) (r .cycles) ≡ takeGroup2 (world m (now (store .entry)) (now (log .entry))) zeroDivide ⌝ }
 {
     take_group2_exception(m, store, log, types::ZERO_DIVIDE)
 }
 
 // Privilege violation.
 pub fn exception_privilege(m: Core, store: &mut [u8], log: &mut [u32]) -> Entered
-    ensures { λ r. ⌜ entry (world (r .core) (now (store .exit)) (now (log .exit))) (r .cycles) ≡ takeException (world m (now (store .entry)) (now (log .entry))) 8 ⌝ }
+    ensures { λ r. ⌜ entry (world (r .core) (now (store .exit)) (now (log .exit))) (r .cycles) ≡ takeException (world m (now (store .entry)) (now (log .entry))) privilegeViolation ⌝ }
 {
     take_exception(m, store, log, types::PRIVILEGE_VIOLATION)
 }
@@ -114,7 +113,7 @@ pub fn exception_privilege(m: Core, store: &mut [u8], log: &mut [u32]) -> Entere
 pub fn exception_trace(m: Core, store: &mut [u8], log: &mut [u32]) -> Entered
     ensures { λ r. ⌜ entry (world (r .core) (now (store .exit)) (now (log .exit))) (r .cycles) ≡ exceptionTrace (world m (now (store .entry)) (now (log .entry))) ⌝ }
 {
-    let a = state::begin_trace(m);
+    let a = memory::with_cpu(m, steps::begin_trace(m.cpu));
     take_group2_exception(a, store, log, types::TRACE)
 }
 
@@ -122,34 +121,34 @@ pub fn exception_trace(m: Core, store: &mut [u8], log: &mut [u32]) -> Entered
 fn take_rewound(m: Core, store: &mut [u8], log: &mut [u32], vector: u32) -> Entered
     ensures { λ r. ⌜ entry (world (r .core) (now (store .exit)) (now (log .exit))) (r .cycles) ≡ takeRewound (world m (now (store .entry)) (now (log .entry))) vector ⌝ }
 {
-    let a = state::rewind(m);
+    let a = memory::with_cpu(m, cpu::fields::rewind_pc(m.cpu));
     take_exception(a, store, log, vector)
 }
 
 // Line A.
 pub fn take_aline_exception(m: Core, store: &mut [u8], log: &mut [u32]) -> Entered
-    ensures { λ r. ⌜ entry (world (r .core) (now (store .exit)) (now (log .exit))) (r .cycles) ≡ takeRewound (world m (now (store .entry)) (now (log .entry))) 10 ⌝ }
+    ensures { λ r. ⌜ entry (world (r .core) (now (store .exit)) (now (log .exit))) (r .cycles) ≡ takeRewound (world m (now (store .entry)) (now (log .entry))) line1010 ⌝ }
 {
     take_rewound(m, store, log, types::LINE_1010)
 }
 
 // Line F.
 pub fn take_fline_exception(m: Core, store: &mut [u8], log: &mut [u32]) -> Entered
-    ensures { λ r. ⌜ entry (world (r .core) (now (store .exit)) (now (log .exit))) (r .cycles) ≡ takeRewound (world m (now (store .entry)) (now (log .entry))) 11 ⌝ }
+    ensures { λ r. ⌜ entry (world (r .core) (now (store .exit)) (now (log .exit))) (r .cycles) ≡ takeRewound (world m (now (store .entry)) (now (log .entry))) line1111 ⌝ }
 {
     take_rewound(m, store, log, types::LINE_1111)
 }
 
 // Breakpoint.
 pub fn take_bkpt_exception(m: Core, store: &mut [u8], log: &mut [u32]) -> Entered
-    ensures { λ r. ⌜ entry (world (r .core) (now (store .exit)) (now (log .exit))) (r .cycles) ≡ takeRewound (world m (now (store .entry)) (now (log .entry))) 4 ⌝ }
+    ensures { λ r. ⌜ entry (world (r .core) (now (store .exit)) (now (log .exit))) (r .cycles) ≡ takeRewound (world m (now (store .entry)) (now (log .entry))) illegalInstruction ⌝ }
 {
     take_rewound(m, store, log, types::ILLEGAL_INSTRUCTION)
 }
 
 // Illegal instruction.
 pub fn take_illegal_exception(m: Core, store: &mut [u8], log: &mut [u32]) -> Entered
-    ensures { λ r. ⌜ entry (world (r .core) (now (store .exit)) (now (log .exit))) (r .cycles) ≡ takeRewound (world m (now (store .entry)) (now (log .entry))) 4 ⌝ }
+    ensures { λ r. ⌜ entry (world (r .core) (now (store .exit)) (now (log .exit))) (r .cycles) ≡ takeRewound (world m (now (store .entry)) (now (log .entry))) illegalInstruction ⌝ }
 {
     take_rewound(m, store, log, types::ILLEGAL_INSTRUCTION)
 }
@@ -165,11 +164,11 @@ pub fn take_trap_exception(m: Core, store: &mut [u8], log: &mut [u32], n: u8) ->
 fn stack_unimp(m: Core, store: &mut [u8], log: &mut [u32], ea: u32) -> Core
     ensures { λ r. ⌜ world r (now (store .exit)) (now (log .exit)) ≡ stackUnimp (world m (now (store .entry)) (now (log .entry))) ea ⌝ }
 {
-    let a = steps::supervisor(m);
-    let sr = state::status(m);
-    let pc = steps::pc(m);
-    let format = formats::format_word(2, 11);
-    let f = formats::long_frame(sr, pc, format, ea);
+    let a = memory::with_cpu(m, status::banks::enter_supervisor(m.cpu));
+    let sr = status::get_sr(m.cpu);
+    let pc = cpu::fields::pc(m.cpu);
+    let format = formats::format_word(2, types::LINE_1111);
+    let f = formats::long_frame(sr as u32, pc, format, ea);
     faults::push_frame(a, store, log, f)
 }
 
@@ -177,10 +176,10 @@ fn stack_unimp(m: Core, store: &mut [u8], log: &mut [u32], ea: u32) -> Core
 pub fn take_fp_unimp_060(m: Core, store: &mut [u8], log: &mut [u32], ea: u32) -> Entered
     ensures { λ r. ⌜ entry (world (r .core) (now (store .exit)) (now (log .exit))) (r .cycles) ≡ takeFpUnimp060 (world m (now (store .entry)) (now (log .entry))) ea ⌝ }
 {
-    let b = state::note_fpiar(m);
+    let b = memory::with_cpu(m, cpu::fields::note_fpiar(m.cpu));
     let a = stack_unimp(b, store, log, ea);
-    let d = faults::jump_vector(a, store, log, 11);
-    let n = types::exception_cycles(11);
+    let d = faults::jump_vector(a, store, log, types::LINE_1111);
+    let n = types::exception_cycles(types::LINE_1111);
     Entered { core: d, cycles: n }
 }
 
@@ -188,11 +187,11 @@ pub fn take_fp_unimp_060(m: Core, store: &mut [u8], log: &mut [u32], ea: u32) ->
 fn stack_disabled(m: Core, store: &mut [u8], log: &mut [u32]) -> Core
     ensures { λ r. ⌜ world r (now (store .exit)) (now (log .exit)) ≡ stackDisabled (world m (now (store .entry)) (now (log .entry))) ⌝ }
 {
-    let a = steps::supervisor(m);
-    let sr = state::status(m);
-    let ppc = state::ppc(m);
-    let format = formats::format_word(4, 11);
-    let f = formats::disabled_frame(sr, ppc, format, 0, ppc);
+    let a = memory::with_cpu(m, status::banks::enter_supervisor(m.cpu));
+    let sr = status::get_sr(m.cpu);
+    let ppc = cpu::fields::ppc(m.cpu);
+    let format = formats::format_word(4, types::LINE_1111);
+    let f = formats::disabled_frame(sr as u32, ppc, format, 0, ppc);
     faults::push_frame(a, store, log, f)
 }
 
@@ -201,7 +200,7 @@ pub fn take_fp_disabled_060(m: Core, store: &mut [u8], log: &mut [u32]) -> Enter
     ensures { λ r. ⌜ entry (world (r .core) (now (store .exit)) (now (log .exit))) (r .cycles) ≡ takeFpDisabled060 (world m (now (store .entry)) (now (log .entry))) ⌝ }
 {
     let a = stack_disabled(m, store, log);
-    let d = faults::jump_vector(a, store, log, 11);
-    let n = types::exception_cycles(11);
+    let d = faults::jump_vector(a, store, log, types::LINE_1111);
+    let n = types::exception_cycles(types::LINE_1111);
     Entered { core: d, cycles: n }
 }

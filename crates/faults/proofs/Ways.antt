@@ -9,10 +9,10 @@ use lib.ListN.{length, getD, set}
 use lib.Dec.{eqb, ltb, leb}
 use native.Mathlib.Numerals.{sub-one}
 use Rattle.cpu.specs.Clocks.{clearPrefetch, firstWord, internalCycles, oneFetched, prefetchEnabled, secondWord}
-use Rattle.cpu.specs.Fields.{a7Of, addressOf, causeNumberOf, halted, inException, isFaulted, lowerA7, oddPc, pcOf, setException, setPc, setWdata, startVector}
+use Rattle.cpu.specs.Fields.{a7Of, addressOf, causeNumberOf, halted, inException, isFaulted, lowerA7, oddPc, pcOf, setPc, setWdata, startVector}
 use Rattle.cpu.specs.declared.Cpu.{Cpu}
 use Rattle.faults.specs.Faults.{addressError, busError, checkedRead, checkedWrite, exceptionAddressError, exceptionBusError, firstFrom, jumpTo, jumpVector, keptFirst, keptSecond, prefetchFirst, prefetchRead, prefetchSecond, pushField, pushFields, pushFrame, raiseAddress, raiseBus, readAt, readOr, refill, secondFrom, stackField, trigger, vectorRead, writeAt, wrote}
-use Rattle.frames.specs.Frames.{addressFrame, busFrame, fieldAt}
+use Rattle.frames.specs.Frames.{addressFrame, busFrame, fieldAt, isCounted, isRaw}
 use Rattle.frames.specs.declared.Field.{Field}
 use Rattle.frames.specs.declared.Frame.{Frame}
 use Rattle.memory.specs.World.{flush, putCpu, rawWrite, release, reply, tried, tryRead, tryWrite, widthOf, world}
@@ -21,7 +21,8 @@ use Rattle.memory.specs.declared.Reply.{Reply}
 use Rattle.memory.specs.declared.Tried.{Tried}
 use Rattle.status.specs.Banks.{enterSupervisor}
 use Rattle.status.specs.Status.{keepResume}
-use Rattle.steps.specs.Steps.{beginAddress, beginBus, enterBusError, isCounted, isRaw, refusesOdd, vectorAddress}
+use Rattle.steps.specs.Steps.{beginAddress, beginBus, closeBus, enterBusError, refusesOdd, vectorAddress}
+use borrow.Author.Tests.{eq-eqb, ne-eqb}
 
 pub trigger-bus-error-way : (m : Core) (s l : List ℕ) (levels address : ℕ) (write instruction : Bool) (size : ℕ) (b : Bool) → b ≡ isFaulted (m .cpu) → b ≡ true → world m s l ≡ trigger levels (world m s l) (busError address write instruction size)
 unfolding trigger raiseAddress raiseBus
@@ -37,7 +38,7 @@ pub trigger-bus-error-way-3 : (m : Core) (s l : List ℕ) (levels address : ℕ)
 unfolding trigger raiseAddress raiseBus
 trigger-bus-error-way-3 m s l levels address write instruction size b b1 r r1 h0 h1 h2 h3 h4 h5 h6 = cc
 
-pub trigger-bus-error-way-4 : (m : Core) (s l : List ℕ) (levels address : ℕ) (write instruction : Bool) (size : ℕ) (b b1 : Bool) (n : ℕ) (r : Cpu) (r1 : Core) (s1 l1 : List ℕ) (r2 : Core) (r3 : Cpu) (r4 : Core) → b ≡ isFaulted (m .cpu) → b ≡ false → b1 ≡ inException (m .cpu) → b1 ≡ false → (levels ≡ 0 → ⊥) → n ≡ causeNumberOf (m .cpu) → r ≡ beginBus (m .cpu) → r1 ≡ putCpu m r → world r2 s1 l1 ≡ exceptionBusError (trigger (levels - 1)) (world r1 s l) address write instruction size n → r3 ≡ keepResume (setException (r2 .cpu) false) → r4 ≡ putCpu r2 r3 → world r4 s1 l1 ≡ trigger levels (world m s l) (busError address write instruction size)
+pub trigger-bus-error-way-4 : (m : Core) (s l : List ℕ) (levels address : ℕ) (write instruction : Bool) (size : ℕ) (b b1 : Bool) (n : ℕ) (r : Cpu) (r1 : Core) (s1 l1 : List ℕ) (r2 : Core) (r3 : Cpu) (r4 : Core) → b ≡ isFaulted (m .cpu) → b ≡ false → b1 ≡ inException (m .cpu) → b1 ≡ false → (levels ≡ 0 → ⊥) → n ≡ causeNumberOf (m .cpu) → r ≡ beginBus (m .cpu) → r1 ≡ putCpu m r → world r2 s1 l1 ≡ exceptionBusError (trigger (levels - 1)) (world r1 s l) address write instruction size n → r3 ≡ closeBus (r2 .cpu) → r4 ≡ putCpu r2 r3 → world r4 s1 l1 ≡ trigger levels (world m s l) (busError address write instruction size)
 unfolding trigger raiseAddress raiseBus
 trigger-bus-error-way-4 m s l zero address write instruction size b b1 n r r1 s1 l1 r2 r3 r4 h0 h1 h2 h3 h4 h5 h6 h7 h8 h9 h10 = absurd (h4 refl)
 trigger-bus-error-way-4 m s l (suc levels) address write instruction size b b1 n r r1 s1 l1 r2 r3 r4 h0 h1 h2 h3 h4 h5 h6 h7 h8 h9 h10 = cc (sub-one (suc levels))
@@ -73,17 +74,17 @@ unfolding pushFields
 push-fields-way-2 m s l levels f zero r s1 l1 r1 s2 l2 r2 h0 h1 h2 h3 = absurd (h0 refl)
 push-fields-way-2 m s l levels f (suc left) r s1 l1 r1 s2 l2 r2 h0 h1 h2 h3 = cc (sub-one (suc left))
 
-pub push-field-way : (m : Core) (s l : List ℕ) (levels : ℕ) (f : Field) (n : ℕ) (r : Cpu) (r1 : Core) (b : Bool) → n ≡ widthOf (f .long) → r ≡ lowerA7 (m .cpu) n → r1 ≡ putCpu m r → b ≡ isCounted f → b ≡ true → world r1 s l ≡ pushField (trigger levels) (world m s l) f
-unfolding pushField stackField
-push-field-way m s l levels f n r r1 b h0 h1 h2 h3 h4 = cc
+pub push-field-way : (m : Core) (s l : List ℕ) (levels : ℕ) (f : Field) (n : ℕ) (r : Cpu) (r1 : Core) → n ≡ widthOf (f .long) → r ≡ lowerA7 (m .cpu) n → r1 ≡ putCpu m r → f .mode ≡ 2 → world r1 s l ≡ pushField (trigger levels) (world m s l) f
+unfolding pushField stackField isCounted isRaw
+push-field-way m s l levels f n r r1 h0 h1 h2 h3 = cc (eq-eqb _ _ h3)
 
-pub push-field-way-2 : (m : Core) (s l : List ℕ) (levels : ℕ) (f : Field) (n : ℕ) (r : Cpu) (r1 : Core) (b : Bool) (n1 : ℕ) (b1 : Bool) (n2 : ℕ) (s1 l1 : List ℕ) (r2 : Core) → n ≡ widthOf (f .long) → r ≡ lowerA7 (m .cpu) n → r1 ≡ putCpu m r → b ≡ isCounted f → b ≡ false → n1 ≡ a7Of (r1 .cpu) → b1 ≡ isRaw f → b1 ≡ true → n2 ≡ addressOf (r1 .cpu) n1 → world r2 s1 l1 ≡ rawWrite (world r1 s l) n2 (f .long) (f .value) → world r2 s1 l1 ≡ pushField (trigger levels) (world m s l) f
-unfolding pushField stackField
-push-field-way-2 m s l levels f n r r1 b n1 b1 n2 s1 l1 r2 h0 h1 h2 h3 h4 h5 h6 h7 h8 h9 = cc
+pub push-field-way-2 : (m : Core) (s l : List ℕ) (levels : ℕ) (f : Field) (n : ℕ) (r : Cpu) (r1 : Core) (n1 n2 : ℕ) (s1 l1 : List ℕ) (r2 : Core) → n ≡ widthOf (f .long) → r ≡ lowerA7 (m .cpu) n → r1 ≡ putCpu m r → (f .mode ≡ 2 → ⊥) → n1 ≡ a7Of (r1 .cpu) → f .mode ≡ 1 → n2 ≡ addressOf (r1 .cpu) n1 → world r2 s1 l1 ≡ rawWrite (world r1 s l) n2 (f .long) (f .value) → world r2 s1 l1 ≡ pushField (trigger levels) (world m s l) f
+unfolding pushField stackField isCounted isRaw
+push-field-way-2 m s l levels f n r r1 n1 n2 s1 l1 r2 h0 h1 h2 h3 h4 h5 h6 h7 = cc (ne-eqb _ _ h3, eq-eqb _ _ h5)
 
-pub push-field-way-3 : (m : Core) (s l : List ℕ) (levels : ℕ) (f : Field) (n : ℕ) (r : Cpu) (r1 : Core) (b : Bool) (n1 : ℕ) (b1 : Bool) (s1 l1 : List ℕ) (r2 : Core) → n ≡ widthOf (f .long) → r ≡ lowerA7 (m .cpu) n → r1 ≡ putCpu m r → b ≡ isCounted f → b ≡ false → n1 ≡ a7Of (r1 .cpu) → b1 ≡ isRaw f → b1 ≡ false → world r2 s1 l1 ≡ writeAt (trigger levels) (world r1 s l) n1 (f .long) (f .value) → world r2 s1 l1 ≡ pushField (trigger levels) (world m s l) f
-unfolding pushField stackField
-push-field-way-3 m s l levels f n r r1 b n1 b1 s1 l1 r2 h0 h1 h2 h3 h4 h5 h6 h7 h8 = cc
+pub push-field-way-3 : (m : Core) (s l : List ℕ) (levels : ℕ) (f : Field) (n : ℕ) (r : Cpu) (r1 : Core) (n1 : ℕ) (s1 l1 : List ℕ) (r2 : Core) → n ≡ widthOf (f .long) → r ≡ lowerA7 (m .cpu) n → r1 ≡ putCpu m r → (f .mode ≡ 2 → ⊥) → n1 ≡ a7Of (r1 .cpu) → (f .mode ≡ 1 → ⊥) → world r2 s1 l1 ≡ writeAt (trigger levels) (world r1 s l) n1 (f .long) (f .value) → world r2 s1 l1 ≡ pushField (trigger levels) (world m s l) f
+unfolding pushField stackField isCounted isRaw
+push-field-way-3 m s l levels f n r r1 n1 s1 l1 r2 h0 h1 h2 h3 h4 h5 h6 = cc (ne-eqb _ _ h3, ne-eqb _ _ h5)
 
 pub write-at-way : (m : Core) (s l : List ℕ) (levels address : ℕ) (long : Bool) (value : ℕ) (b : Bool) → b ≡ isFaulted (m .cpu) → b ≡ true → world m s l ≡ writeAt (trigger levels) (world m s l) address long value
 unfolding writeAt checkedWrite wrote

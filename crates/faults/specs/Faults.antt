@@ -3,34 +3,24 @@
 use Prim.Native.Nat.{ℕ, zero, suc, _+_, _/_, _%_, _^_}
 use mathlib.Core.Bool.{Bool, true, false}
 use Rattle.types.specs.Kinds.{pick}
-use Rattle.cpu.specs.declared.Cpu.{Cpu}
-use Rattle.cpu.specs.Fields.{pcOf, a7Of, addressOf, isFaulted, inException, causeNumberOf, setPc, halted, setException, setWdata, startVector, lowerA7, oddPc}
+use Rattle.types.specs.Vectors.{busErrorVector, addressErrorVector}
+use Rattle.cpu.specs.Fields.{pcOf, a7Of, addressOf, isFaulted, inException, causeNumberOf, setPc, halted, setWdata, startVector, lowerA7, oddPc}
 use Rattle.status.specs.Status.{keepResume}
 use Rattle.status.specs.Banks.{enterSupervisor}
 use Rattle.cpu.specs.Clocks.{prefetchEnabled, oneFetched, internalCycles, clearPrefetch, firstWord, secondWord}
-use Rattle.memory.specs.World.{World, world, Attempt, reply, putCpu, widthOf, flush, release, rawWrite, tryWrite, tryRead}
+use Rattle.memory.specs.World.{World, Attempt, reply, withCpu, cpuOf, step, widthOf, flush, release, rawWrite, tryWrite, tryRead}
 use Rattle.frames.specs.declared.Field.{Field}
 use Rattle.frames.specs.declared.Frame.{Frame}
-use Rattle.frames.specs.Frames.{fieldAt, busFrame, addressFrame}
-use Rattle.steps.specs.Steps.{refusesOdd, vectorAddress, beginBus, beginAddress, enterBusError, isCounted, isRaw}
+use Rattle.frames.specs.Frames.{fieldAt, busFrame, addressFrame, isCounted, isRaw}
+use Rattle.steps.specs.Steps.{refusesOdd, vectorAddress, beginBus, beginAddress, closeBus, enterBusError}
 
 -- what is raised: a bus error (address, write, instruction, size) or an address error (address, write, instruction)
-pub data Request : Type 0 where
-  busError : ℕ → Bool → Bool → ℕ → Request
-  addressError : ℕ → Bool → Bool → Request
+pub data Fault : Type 0 where
+  busError : ℕ → Bool → Bool → ℕ → Fault
+  addressError : ℕ → Bool → Bool → Fault
 
 abbrev pub Raise : Type 0
-Raise = World → Request → World
-
-abbrev pub cpuOf : World → Cpu
-cpuOf w = w .core .cpu
-
--- the record of a world is replaced, or goes one step
-abbrev pub on : World → Cpu → World
-on w c = world (putCpu (w .core) c) (w .store) (w .log)
-
-abbrev pub step : (Cpu → Cpu) → World → World
-step f w = on w (f (cpuOf w))
+Raise = World → Fault → World
 
 -- `prefetch_read`: sync first, then one program word; a fault is an instruction fault of 2 bytes
 unfoldable pub readOr : Raise → ℕ → Bool → ℕ → Attempt → Attempt
@@ -104,7 +94,7 @@ unfoldable pub vectorRead : Raise → World → ℕ → Attempt
 vectorRead t w v = readAt t (step (λ c. startVector c v) w) (vectorAddress (cpuOf w) v) true
 
 unfoldable pub refill : Raise → World → World
-refill t w = prefetchSecond t (on (prefetchFirst t w) (internalCycles (cpuOf (prefetchFirst t w)) 2))
+refill t w = prefetchSecond t (step (λ c. internalCycles c 2) (prefetchFirst t w))
 
 unfoldable pub jumpTo : Raise → Attempt → World
 jumpTo t x = refill t (step (λ c. setPc c (x .value)) (x .after))
@@ -118,34 +108,28 @@ pushFrame t w f = pushFields t w f (f .count)
 
 unfoldable pub exceptionAddressError : Raise → World → ℕ → Bool → Bool → World
 exceptionAddressError t w a write instruction =
-    jumpVector t (pushFrame t (step enterSupervisor w) (addressFrame (cpuOf w) a write instruction)) 3
+    jumpVector t (pushFrame t (step enterSupervisor w) (addressFrame (cpuOf w) a write instruction)) addressErrorVector
 
 unfoldable pub exceptionBusError : Raise → World → ℕ → Bool → Bool → ℕ → ℕ → World
 exceptionBusError t w a write instruction z cause =
-    jumpVector t (pushFrame t (step enterBusError w) (busFrame (cpuOf w) a write instruction z cause)) 2
+    jumpVector t (pushFrame t (step enterBusError w) (busFrame (cpuOf w) a write instruction z cause)) busErrorVector
 
 -- `trigger_bus_error`: nothing while faulted; a halt while an entry is under way; else status and registers as saved, the
 -- entry, and what the end of the instruction needs. `trigger_address_error` has no test of an entry under way.
 -- Where no level is left, `stopped` and `run_mode` are 1 and nothing is restored or stacked
-abbrev pub closed : World → World
-closed w = on w (keepResume (setException (cpuOf w) false))
-
-abbrev pub ended : World → World
-ended w = step keepResume w
-
 unfoldable pub raiseBus : World → World → World
-raiseBus w x = pick (isFaulted (cpuOf w)) w (pick (inException (cpuOf w)) (on w (halted (cpuOf w))) x)
+raiseBus w x = pick (isFaulted (cpuOf w)) w (pick (inException (cpuOf w)) (withCpu w (halted (cpuOf w))) x)
 
 unfoldable pub raiseAddress : World → World → World
 raiseAddress w x = pick (isFaulted (cpuOf w)) w x
 
-unfoldable pub trigger : ℕ → World → Request → World
-trigger zero w (busError a write instruction z) = raiseBus w (on w (halted (cpuOf w)))
+unfoldable pub trigger : ℕ → World → Fault → World
+trigger zero w (busError a write instruction z) = raiseBus w (withCpu w (halted (cpuOf w)))
 trigger (suc n) w (busError a write instruction z) =
-    raiseBus w (closed (exceptionBusError (trigger n) (step beginBus w) a write instruction z (causeNumberOf (cpuOf w))))
-trigger zero w (addressError a write instruction) = raiseAddress w (on w (halted (cpuOf w)))
+    raiseBus w (step closeBus (exceptionBusError (trigger n) (step beginBus w) a write instruction z (causeNumberOf (cpuOf w))))
+trigger zero w (addressError a write instruction) = raiseAddress w (withCpu w (halted (cpuOf w)))
 trigger (suc n) w (addressError a write instruction) =
-    raiseAddress w (ended (exceptionAddressError (trigger n) (step beginAddress w) a write instruction))
+    raiseAddress w (step keepResume (exceptionAddressError (trigger n) (step beginAddress w) a write instruction))
 
 -- the levels that the code gives: more change nothing
 abbrev pub raised : Raise

@@ -85,7 +85,7 @@ pub fn exception_bus_error(
     let a = memory::with_cpu(m, steps::enter_bus_error(m.cpu));
     let n = frames::count(f);
     let b = push_fields(a, store, log, levels, f, n);
-    jump_vector(b, store, log, levels, 2)
+    jump_vector(b, store, log, levels, types::BUS_ERROR)
 }
 
 pub fn exception_address_error(
@@ -103,7 +103,7 @@ pub fn exception_address_error(
     let a = memory::with_cpu(m, status::banks::enter_supervisor(m.cpu));
     let n = frames::count(f);
     let b = push_fields(a, store, log, levels, f, n);
-    jump_vector(b, store, log, levels, 3)
+    jump_vector(b, store, log, levels, types::ADDRESS_ERROR)
 }
 
 // The first `left` fields of a frame, from the last of them down to the first.
@@ -131,11 +131,11 @@ pub fn push_field(m: Core, store: &mut [u8], log: &mut [u32], levels: u8, f: Fie
 {
     let n = memory::width(f.long);
     let a = memory::with_cpu(m, cpu::fields::lower_a7(m.cpu, n));
-    if steps::is_counted(f) {
+    if f.mode == 2 {
         return a;
     }
     let at = cpu::fields::a7(a.cpu);
-    if steps::is_raw(f) {
+    if f.mode == 1 {
         let p = cpu::fields::address(a.cpu, at);
         return memory::raw_write(a, store, log, p, f.long, f.value);
     }

@@ -13,8 +13,7 @@ use Rattle.cpu.specs.declared.Cpu.{Cpu}
 use Rattle.cpu.specs.Fields.{kindOf}
 use Rattle.memory.specs.declared.Core.{Core}
 use Rattle.memory.specs.declared.Bus.{Bus}
-use Rattle.memory.specs.World.{World}
-use Rattle.faults.specs.Faults.{cpuOf}
+use Rattle.memory.specs.World.{World, cpuOf}
 use Rattle.refusals.specs.declared.Matter.{Matter}
 use Rattle.refusals.specs.Refusals.{badFlags, oddBase, badCode, badVector, badKind, testsOf, refusalOf, badStore, badWindows}
 use Rattle.refusals.specs.Laws.{outcomes, refusal-place, place-none}

@@ -13,13 +13,13 @@ use Rattle.cpu.specs.Clocks.{internalCycles, prefetchEnabled, setClocks, clocks
 use Rattle.status.specs.Status.{statusOf, compose, clearTrace}
 use Rattle.status.specs.Banks.{spIndex, backupSp, restoreSp, putS, setSFlag, enterSupervisor}
 use Rattle.memory.specs.declared.Core.{Core}
-use Rattle.memory.specs.World.{World, world, putCpu}
+use Rattle.memory.specs.World.{World, world, putCpu, cpuOf, withCpu}
 use Rattle.frames.specs.declared.Frame.{Frame}
 use Rattle.frames.specs.Frames.{addressFrame, busFrame}
-use Rattle.steps.specs.Steps.{enterBusError}
-use Rattle.faults.specs.Faults.{Raise, cpuOf, on, raised, pushFrame, pushExceptionFrame68000, jumpVector, exceptionAddressError, exceptionBusError}
+use Rattle.steps.specs.Steps.{enterBusError, stacksNext, stackedAddress, beginEntry, beginTrace}
+use Rattle.faults.specs.Faults.{Raise, raised, pushFrame, pushExceptionFrame68000, jumpVector, exceptionAddressError, exceptionBusError}
 use Rattle.exceptions.specs.Frames.{formatWord, offsetWord, shortFrame, longFrame, disabledFrame}
-use Rattle.exceptions.specs.Exceptions.{Entry, entry, is68000, stacksNext, stackedAddress, supervised, stackShort, beginEntry, finished, taken, takeException, stackGroup2, takeGroup2, trap, beginTrace, exceptionTrace, takeRewound, stackUnimp, takeFpUnimp060, stackDisabled, takeFpDisabled060}
+use Rattle.exceptions.specs.Exceptions.{Entry, entry, supervised, stackShort, finished, taken, takeException, stackGroup2, takeGroup2, trap, exceptionTrace, takeRewound, stackUnimp, takeFpUnimp060, stackDisabled, takeFpDisabled060}
 use Rattle.images.specs.Pushes.{calm}
 use Rattle.images.specs.Images.{Ready}
 use Rattle.images.specs.Jumps.{Reachable}
@@ -34,7 +34,7 @@ use Rattle.forms.specs.Plans.{Push, Plan, turned, stackAll, planned, All
 abbrev pub Seen : (Cpu → Cpu) → Type 0
 Seen f = (c : Cpu) → gistCpu (f c) ≡ gistCpu (f (gistCpu c))
 
-pub turn-form : (w x : World) (f : Cpu → Cpu) → Seen f → gist w ≡ x → gist (on w (f (cpuOf w))) ≡ turned x f
+pub turn-form : (w x : World) (f : Cpu → Cpu) → Seen f → gist w ≡ x → gist (withCpu w (f (cpuOf w))) ≡ turned x f
 unfolding turned gist putCpu calm
 turn-form w x f s e =
     ap (λ (c : Cpu). world (record { cpu = c; bus = calm (w .core .bus) }) (w .store) []) (s (cpuOf w)) ∙ ap (λ (y : World). turned y f) e
@@ -73,13 +73,13 @@ seen-end c = refl
 
 -- ---- an entry of one frame
 
-stays : (y : World) → gist y ≡ gist (on y (cpuOf y))
+stays : (y : World) → gist y ≡ gist (withCpu y (cpuOf y))
 unfolding putCpu
 stays y = refl
 
 -- the frame, the jump and the end, once the frame's own writes are known
 pub single-form : (t : Raise) (y x : World) (turn close : Cpu → Cpu) (f : Frame) (v : ℕ) → gist y ≡ framedBy (turned x turn) f → Seen close → Reachable (turned (framedBy (turned x turn) f) same) v
-    → gist (on (jumpVector t y v) (close (cpuOf (jumpVector t y v)))) ≡ planned x (single turn f v close)
+    → gist (withCpu (jumpVector t y v) (close (cpuOf (jumpVector t y v)))) ≡ planned x (single turn f v close)
 unfolding planned stackAll
 single-form t y x turn close f v e s r =
     turn-form (jumpVector t y v) (jumped (turned (framedBy (turned x turn) f) same) v) close s
@@ -87,7 +87,7 @@ single-form t y x turn close f v e s r =
 
 -- status, address and format word by the kind's own writes
 short-stack : (w y : World) (pc fw sr k : ℕ) → gist (supervised w) ≡ y → statusOf (cpuOf w) ≡ sr → kindOf (cpuOf w) ≡ k → Ready y (shortOf k sr pc fw) → gist (stackShort w pc fw) ≡ framedBy y (shortOf k sr pc fw)
-unfolding stackShort shortOf is68000
+unfolding stackShort shortOf
 short-stack w y pc fw sr k e d c h = rw (d, c) (go (eqb k 1) h)
   where
     go : (b : Bool) → Ready y (pick b (words6 sr pc) (shortFrame sr pc fw))
@@ -145,16 +145,16 @@ module _ (c : Cpu) where
   unfolding stackedAddress pcOf ppcOf setException
   marked-stacked v = refl
 
-begin-gist : (w : World) → gist (supervised (on w (beginEntry (cpuOf w)))) ≡ gist (on w (enterSupervisor (setException (cpuOf w) true)))
+begin-gist : (w : World) → gist (supervised (withCpu w (beginEntry (cpuOf w)))) ≡ gist (withCpu w (enterSupervisor (setException (cpuOf w) true)))
 unfolding beginEntry putCpu
 begin-gist w =
-    turn-form (on w (beginEntry (cpuOf w))) (gist (on w (setException (cpuOf w) true))) enterSupervisor seen-supervisor (cycles-gist (on w (setException (cpuOf w) true)) 4)
-    ∙ sym (turn-form (on w (setException (cpuOf w) true)) (gist (on w (setException (cpuOf w) true))) enterSupervisor seen-supervisor refl)
+    turn-form (withCpu w (beginEntry (cpuOf w))) (gist (withCpu w (setException (cpuOf w) true))) enterSupervisor seen-supervisor (cycles-gist (withCpu w (setException (cpuOf w) true)) 4)
+    ∙ sym (turn-form (withCpu w (setException (cpuOf w) true)) (gist (withCpu w (setException (cpuOf w) true))) enterSupervisor seen-supervisor refl)
 
 -- the frame of a record c, whose gist and turn are given
-taken-form : (w x : World) (turn : Cpu → Cpu) (v : ℕ) → gist (on w (enterSupervisor (setException (cpuOf w) true))) ≡ turned x turn
+taken-form : (w x : World) (turn : Cpu → Cpu) (v : ℕ) → gist (withCpu w (enterSupervisor (setException (cpuOf w) true))) ≡ turned x turn
     → Clean x (single turn (shortOf (kindOf (cpuOf w)) (statusOf (cpuOf w)) (stackedAddress (cpuOf w) v) (offsetWord v)) v (λ d. setException d false))
-    → gist (taken (on w (beginEntry (cpuOf w))) v) ≡ planned x (single turn (shortOf (kindOf (cpuOf w)) (statusOf (cpuOf w)) (stackedAddress (cpuOf w) v) (offsetWord v)) v (λ d. setException d false))
+    → gist (taken (withCpu w (beginEntry (cpuOf w))) v) ≡ planned x (single turn (shortOf (kindOf (cpuOf w)) (statusOf (cpuOf w)) (stackedAddress (cpuOf w) v) (offsetWord v)) v (λ d. setException d false))
 unfolding taken finished beginEntry AllReady stackAll putCpu
 taken-form w x turn v e h =
     let c : Cpu = setException (cpuOf w) true in
@@ -163,9 +163,9 @@ taken-form w x turn v e h =
     let p : ℕ = stackedAddress (cpuOf w) v in
     let q : stackedAddress d v ≡ p = alike-stacked d c a v ∙ marked-stacked (cpuOf w) v in
     let f : Frame = shortOf (kindOf (cpuOf w)) (statusOf (cpuOf w)) p (offsetWord v) in
-    let y : World = stackShort (on w d) (stackedAddress d v) (offsetWord v) in
-    let k : gist y ≡ framedBy (turned x turn) f = ap (λ (z : ℕ). gist (stackShort (on w d) z (offsetWord v))) q
-    ∙ short-stack (on w d) (turned x turn) p (offsetWord v) (statusOf (cpuOf w)) (kindOf (cpuOf w)) (begin-gist w ∙ e) (alike-status d c a ∙ marked-status (cpuOf w)) (alike-kind d c a ∙ marked-kind (cpuOf w)) (h .stacks .0) in
+    let y : World = stackShort (withCpu w d) (stackedAddress d v) (offsetWord v) in
+    let k : gist y ≡ framedBy (turned x turn) f = ap (λ (z : ℕ). gist (stackShort (withCpu w d) z (offsetWord v))) q
+    ∙ short-stack (withCpu w d) (turned x turn) p (offsetWord v) (statusOf (cpuOf w)) (kindOf (cpuOf w)) (begin-gist w ∙ e) (alike-status d c a ∙ marked-status (cpuOf w)) (alike-kind d c a ∙ marked-kind (cpuOf w)) (h .stacks .0) in
     single-form raised y x turn (λ d. setException d false) f v k seen-end (h .reach)
 
 -- `take_exception`, every vector and kind
@@ -191,7 +191,7 @@ pub rewound-form : (w x : World) (v : ℕ) → gist w ≡ x → inException (cpu
 unfolding takeRewound takeException rewoundPlan putCpu statusOf kindOf rewindPc
 rewound-form w x v e i h =
     rw (rewound-inside (cpuOf w) ∙ i)
-    (taken-form (on w (rewindPc (cpuOf w))) x (λ d. enterSupervisor (setException (rewindPc d) true)) v (turn-form w x (λ d. enterSupervisor (setException (rewindPc d) true)) seen-rewound e) h)
+    (taken-form (withCpu w (rewindPc (cpuOf w))) x (λ d. enterSupervisor (setException (rewindPc d) true)) v (turn-form w x (λ d. enterSupervisor (setException (rewindPc d) true)) seen-rewound e) h)
 
 -- ---- group 2
 
@@ -257,18 +257,18 @@ module _ (c : Cpu) where
       ∙ ap (λ (k : ℕ). group2Frame (kindOf c) (statusOf c) k (ppcOf (internalCycles (leaveStop c) 4)) v) (alike-pc _ _ a ∙ stop-pc)
       ∙ ap (λ (k : ℕ). group2Frame (kindOf c) (statusOf c) (pcOf c) k v) (alike-ppc _ _ a ∙ stop-ppc)
 
-trace-gist : (w : World) → gist (supervised (on w (beginTrace (cpuOf w)))) ≡ gist (on w (enterSupervisor (leaveStop (cpuOf w))))
+trace-gist : (w : World) → gist (supervised (withCpu w (beginTrace (cpuOf w)))) ≡ gist (withCpu w (enterSupervisor (leaveStop (cpuOf w))))
 unfolding beginTrace putCpu
 trace-gist w =
-    turn-form (on w (beginTrace (cpuOf w))) (gist (on w (leaveStop (cpuOf w)))) enterSupervisor seen-supervisor (cycles-gist (on w (leaveStop (cpuOf w))) 4)
-    ∙ sym (turn-form (on w (leaveStop (cpuOf w))) (gist (on w (leaveStop (cpuOf w)))) enterSupervisor seen-supervisor refl)
+    turn-form (withCpu w (beginTrace (cpuOf w))) (gist (withCpu w (leaveStop (cpuOf w)))) enterSupervisor seen-supervisor (cycles-gist (withCpu w (leaveStop (cpuOf w))) 4)
+    ∙ sym (turn-form (withCpu w (leaveStop (cpuOf w))) (gist (withCpu w (leaveStop (cpuOf w)))) enterSupervisor seen-supervisor refl)
 
 pub trace-form : (w x : World) → gist w ≡ x → Clean x (tracePlan (cpuOf w)) → gist (exceptionTrace w .after) ≡ planned x (tracePlan (cpuOf w))
 unfolding exceptionTrace tracePlan putCpu
 trace-form w x e h =
     let turn : Cpu → Cpu = λ d. enterSupervisor (leaveStop d) in
     let f : framed2 (beginTrace (cpuOf w)) 9 ≡ framed2 (cpuOf w) 9 = trace-frame (cpuOf w) 9 in
-    group2-any (on w (beginTrace (cpuOf w))) x turn 9 (trace-gist w ∙ turn-form w x turn seen-trace e) (subst (λ (z : Frame). Clean x (single turn z 9 same)) (sym f) h)
+    group2-any (withCpu w (beginTrace (cpuOf w))) x turn 9 (trace-gist w ∙ turn-form w x turn seen-trace e) (subst (λ (z : Frame). Clean x (single turn z 9 same)) (sym f) h)
     ∙ ap (λ (z : Frame). planned x (single turn z 9 same)) f
 
 -- ---- floating point and errors: frames by pushes alone
@@ -283,19 +283,19 @@ pub fpUnimp-form : (w x : World) (ea : ℕ) → gist w ≡ x → Clean x (fpUnim
 unfolding takeFpUnimp060 stackUnimp fpUnimpPlan putCpu statusOf pcOf noteFpiar
 fpUnimp-form w x ea e h =
     let turn : Cpu → Cpu = λ d. enterSupervisor (noteFpiar d) in
-    pushes-form w (on w (turn (cpuOf w))) x turn (longFrame (statusOf (cpuOf w)) (pcOf (cpuOf w)) (formatWord 2 11) ea) 11 (turn-form w x turn seen-fpiar e) h
+    pushes-form w (withCpu w (turn (cpuOf w))) x turn (longFrame (statusOf (cpuOf w)) (pcOf (cpuOf w)) (formatWord 2 11) ea) 11 (turn-form w x turn seen-fpiar e) h
 
 pub fpDisabled-form : (w x : World) → gist w ≡ x → Clean x (fpDisabledPlan (cpuOf w)) → gist (takeFpDisabled060 w .after) ≡ planned x (fpDisabledPlan (cpuOf w))
 unfolding takeFpDisabled060 stackDisabled fpDisabledPlan
 fpDisabled-form w x e h =
-    pushes-form w (on w (enterSupervisor (cpuOf w))) x enterSupervisor (disabledFrame (statusOf (cpuOf w)) (ppcOf (cpuOf w)) (formatWord 4 11) 0 (ppcOf (cpuOf w))) 11 (turn-form w x enterSupervisor seen-supervisor e) h
+    pushes-form w (withCpu w (enterSupervisor (cpuOf w))) x enterSupervisor (disabledFrame (statusOf (cpuOf w)) (ppcOf (cpuOf w)) (formatWord 4 11) 0 (ppcOf (cpuOf w))) 11 (turn-form w x enterSupervisor seen-supervisor e) h
 
 pub address-form : (w x : World) (a : ℕ) (write instruction : Bool) → gist w ≡ x → Clean x (addressPlan (cpuOf w) a write instruction) → gist (exceptionAddressError raised w a write instruction) ≡ planned x (addressPlan (cpuOf w) a write instruction)
 unfolding exceptionAddressError addressPlan
 address-form w x a write instruction e h =
-    pushes-form w (on w (enterSupervisor (cpuOf w))) x enterSupervisor (addressFrame (cpuOf w) a write instruction) 3 (turn-form w x enterSupervisor seen-supervisor e) h
+    pushes-form w (withCpu w (enterSupervisor (cpuOf w))) x enterSupervisor (addressFrame (cpuOf w) a write instruction) 3 (turn-form w x enterSupervisor seen-supervisor e) h
 
 pub bus-form : (w x : World) (a : ℕ) (write instruction : Bool) (z cause : ℕ) → gist w ≡ x → Clean x (busPlan (cpuOf w) a write instruction z cause) → gist (exceptionBusError raised w a write instruction z cause) ≡ planned x (busPlan (cpuOf w) a write instruction z cause)
 unfolding exceptionBusError busPlan
 bus-form w x a write instruction z cause e h =
-    pushes-form w (on w (enterBusError (cpuOf w))) x enterBusError (busFrame (cpuOf w) a write instruction z cause) 2 (turn-form w x enterBusError seen-bus e) h
+    pushes-form w (withCpu w (enterBusError (cpuOf w))) x enterBusError (busFrame (cpuOf w) a write instruction z cause) 2 (turn-form w x enterBusError seen-bus e) h

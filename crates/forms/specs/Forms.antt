@@ -14,9 +14,9 @@ use Rattle.cpu.specs.Fields.{inException, isFaulted, a7Of, kindOf, ppcOf, vbrOf
 use Rattle.requests.specs.Interrupts.{takesInterrupt}
 use Rattle.memory.specs.declared.Core.{Core}
 use Rattle.memory.specs.declared.Bus.{Bus}
-use Rattle.memory.specs.World.{World, Attempt, tried, putCpu}
+use Rattle.memory.specs.World.{World, Attempt, tried, putCpu, cpuOf}
 use Rattle.refusals.specs.Refusals.{oddBase, badCode}
-use Rattle.faults.specs.Faults.{cpuOf, raised, exceptionBusError, exceptionAddressError}
+use Rattle.faults.specs.Faults.{raised, exceptionBusError, exceptionAddressError}
 use Rattle.exceptions.specs.Exceptions.{Entry, takeException, takeGroup2, trap, exceptionTrace, takeRewound, takeFpUnimp060, takeFpDisabled060}
 use Rattle.interrupts.specs.Interrupts.{checkAndService}
 use Rattle.calls.specs.declared.Call.{Call}

@@ -19,15 +19,15 @@ use Rattle.memory.specs.declared.Core.{Core}
 use Rattle.memory.specs.declared.Bus.{Bus}
 use Rattle.memory.specs.Log.{counted}
 use Rattle.memory.specs.Served.{servedOf, placeOf}
-use Rattle.memory.specs.World.{World, world, noted, stored, withCpu, putCpu, widthOf, served, written, flush, rawWrite, tryWrite}
+use Rattle.memory.specs.World.{World, world, noted, stored, withCpu, putCpu, widthOf, served, written, flush, rawWrite, tryWrite, cpuOf}
 use Rattle.memory.specs.Bytes.{putWord, putLong}
 use Rattle.memory.specs.ByteLaws.{put, put-length}
 use Rattle.memory.specs.AccessLaws.{kept, write-store}
 use Rattle.frames.specs.declared.Field.{Field}
 use Rattle.frames.specs.declared.Frame.{Frame}
-use Rattle.frames.specs.Frames.{fieldAt}
-use Rattle.steps.specs.Steps.{refusesOdd, isCounted, isRaw}
-use Rattle.faults.specs.Faults.{Raise, cpuOf, on, wrote, checkedWrite, writeAt, stackField, pushField, pushFields, pushFrame}
+use Rattle.frames.specs.Frames.{fieldAt, isCounted, isRaw}
+use Rattle.steps.specs.Steps.{refusesOdd}
+use Rattle.faults.specs.Faults.{Raise, wrote, checkedWrite, writeAt, stackField, pushField, pushFields, pushFrame}
 use Rattle.images.specs.Pushes.{calm, served-calm, laidField}
 use Rattle.images.specs.Images.{Sound, Allowed, frameBytes, fieldAddress, laid, newA7, minus-minus, minus-plus}
 
@@ -63,12 +63,12 @@ wroteAt x a g v = stored x (put g (x .store) (placeOf (x .core .bus) a) (kept g 
 
 -- A7 is q
 abbrev pub at7 : World → ℕ → World
-at7 x q = on x (setA7 (cpuOf x) q)
+at7 x q = withCpu x (setA7 (cpuOf x) q)
 
 -- ---- accesses
 
 pub flush-gist : (w : World) → gist (flush w) ≡ gist w
-unfolding flush noted withCpu putCpu setClocks gist gistCpu calm counted
+unfolding flush noted putCpu setClocks gist gistCpu calm counted
 flush-gist w = go (hasClocks (cpuOf w))
   where
     go : (t : Bool) → gist (pick t (noted (withCpu w (setClocks (w .core .cpu) 0)) 5 0 (clocksOf (w .core .cpu))) w) ≡ gist w
@@ -86,7 +86,7 @@ raw-gist w a g v h = rw h (go g)
 checked-gist : (t : Raise) (y : World) (a : ℕ) (g : Bool) (v : ℕ) → refusesOdd (cpuOf (gist y)) a ≡ false → served (gist y) a g ≡ true → gist (checkedWrite t y a g v) ≡ wroteAt (gist y) a g v
 unfolding checkedWrite wrote tryWrite served putCpu setWdata gist gistCpu refusesOdd checksAlignment stored
 checked-gist t y a g v o s =
-    let z : World = on y (setWdata (cpuOf y) v) in
+    let z : World = withCpu y (setWdata (cpuOf y) v) in
     let d : served z a g ≡ true = sym (served-gist z a g) ∙ s in
     rw (o, d) (raw-gist z a g v d)
 
@@ -158,11 +158,11 @@ pub a7-at7 : (x : World) (q : ℕ) → 15 < length (cpuOf x .regs .dar) → a7Of
 unfolding setA7 putCpu a7Of
 a7-at7 x q h = getD-set-same (cpuOf x .regs .dar) 15 q 0 h
 
-lower-gist : (w : World) (n : ℕ) → gist (on w (lowerA7 (cpuOf w) n)) ≡ at7 (gist w) (minus32 (a7Of (cpuOf (gist w))) n)
+lower-gist : (w : World) (n : ℕ) → gist (withCpu w (lowerA7 (cpuOf w) n)) ≡ at7 (gist w) (minus32 (a7Of (cpuOf (gist w))) n)
 unfolding gist gistCpu lowerA7 setA7 putCpu a7Of
 lower-gist w n = refl
 
-pub lower-form : (w x : World) (n : ℕ) → gist w ≡ x → gist (on w (lowerA7 (cpuOf w) n)) ≡ at7 x (minus32 (a7Of (cpuOf x)) n)
+pub lower-form : (w x : World) (n : ℕ) → gist w ≡ x → gist (withCpu w (lowerA7 (cpuOf w) n)) ≡ at7 x (minus32 (a7Of (cpuOf x)) n)
 lower-form w x n e = lower-gist w n ∙ ap (λ (y : World). at7 y (minus32 (a7Of (cpuOf y)) n)) e
 
 -- tests that A7 does not change
@@ -196,7 +196,7 @@ unfolding pushField putCpu
 push-form t w x f a e l h m s o =
     let n : ℕ = widthOf (f .long) in
     let q : ℕ = minus32 (a7Of (cpuOf x)) n in
-    let y : World = on w (lowerA7 (cpuOf w) n) in
+    let y : World = withCpu w (lowerA7 (cpuOf w) n) in
     field-form t y (at7 x q) f a (lower-form w x n e) (at7-address x q (a7Of (cpuOf (at7 x q))) ∙ ap (λ (p : ℕ). addressOf (cpuOf x) p) (a7-at7 x q l) ∙ m) (at7-faulted x q ∙ h)
     (λ c. at7-served x q a (f .long) ∙ s c) (λ c r. at7-odd x q a ∙ o c r)
     ∙ at7-laid x q (placeOf (x .core .bus) a) f

@@ -15,12 +15,13 @@ use Rattle.status.specs.Banks.{spIndex, backupSp, restoreSp, putS, setSFlag, se
 use Rattle.requests.specs.Interrupts.{pendingLevel, takesInterrupt, clearLevel, chargeInterrupt, charged}
 use Rattle.memory.specs.declared.Core.{Core}
 use Rattle.memory.specs.Log.{counted}
-use Rattle.memory.specs.World.{World, world, Attempt, reply, tried, noted, stored, putCpu, flush, responseOf, acknowledged}
+use Rattle.memory.specs.World.{World, world, Attempt, reply, tried, noted, stored, putCpu, flush, responseOf, acknowledged, cpuOf, withCpu}
 use Rattle.frames.specs.declared.Frame.{Frame}
 use Rattle.frames.specs.Frames.{fieldAt}
-use Rattle.faults.specs.Faults.{Raise, cpuOf, on, raised, writeAt, pushFrame, jumpVector}
+use Rattle.faults.specs.Faults.{Raise, raised, writeAt, pushFrame, jumpVector}
 use Rattle.exceptions.specs.Frames.{formatWord, offsetWord, shortFrame}
-use Rattle.interrupts.specs.Interrupts.{iackVector, vectorFrom, acknowledgeLevel, syncedAcknowledge, enterLevel, rest68000, from68000, frame68000Interrupt, writes68010, rest68010, frame68010Interrupt, restOther, frameOther, firstFrame, withS, throwaway, secondFrame, closed, ended, dispatched, serviceInterrupt, serviced, checkAndService}
+use Rattle.steps.specs.Steps.{iackVector, enterLevel, withS, closeInterrupt}
+use Rattle.interrupts.specs.Interrupts.{vectorFrom, acknowledgeLevel, syncedAcknowledge, rest68000, from68000, writes68010, rest68010, restOther, firstFrame, throwaway, secondFrame, ended, dispatched, serviceInterrupt, serviced, checkAndService, pushInterrupt68000, pushInterrupt68010, pushInterruptOther}
 use Rattle.images.specs.Pushes.{calm}
 use Rattle.images.specs.Images.{Ready, newA7, frameBytes}
 use Rattle.images.specs.Jumps.{Reachable}
@@ -51,7 +52,7 @@ acknowledge-form w x level e =
 
 synced-form : (w x : World) (clocks level : ℕ) → gist w ≡ x → Answered (syncedAcknowledge w clocks level) x level
 unfolding syncedAcknowledge
-synced-form w x clocks level e = acknowledge-form (flush (on w (internalCycles (cpuOf w) clocks))) x level (flush-gist (on w (internalCycles (cpuOf w) clocks)) ∙ cycles-gist w clocks ∙ e)
+synced-form w x clocks level e = acknowledge-form (flush (withCpu w (internalCycles (cpuOf w) clocks))) x level (flush-gist (withCpu w (internalCycles (cpuOf w) clocks)) ∙ cycles-gist w clocks ∙ e)
 
 -- ---- the first frame
 
@@ -63,20 +64,20 @@ abbrev vectorAt : World → ℕ → ℕ
 vectorAt y level = iackVector (responseOf (y .core .bus) level) level
 
 -- A7 lowered once, on kind 1 and on kind 2
-lowered-six : (u y : World) (sr pc : ℕ) (h : Ready y (words6 sr pc)) → gist u ≡ y → a7Of (cpuOf (on u (lowerA7 (cpuOf u) 6))) ≡ q6 raised y sr pc h
+lowered-six : (u y : World) (sr pc : ℕ) (h : Ready y (words6 sr pc)) → gist u ≡ y → a7Of (cpuOf (withCpu u (lowerA7 (cpuOf u) 6))) ≡ q6 raised y sr pc h
 unfolding words6 frameBytes fieldAt
 lowered-six u y sr pc h d = lowered-a7 u y 6 d (h .sound .regs16)
 
-lower-six : (u y : World) (sr pc : ℕ) (h : Ready y (words6 sr pc)) → gist u ≡ y → gist (on u (lowerA7 (cpuOf u) 6)) ≡ at7 y (q6 raised y sr pc h)
+lower-six : (u y : World) (sr pc : ℕ) (h : Ready y (words6 sr pc)) → gist u ≡ y → gist (withCpu u (lowerA7 (cpuOf u) 6)) ≡ at7 y (q6 raised y sr pc h)
 unfolding words6 frameBytes fieldAt
 lower-six u y sr pc h d = lower-form u y 6 d
 
-first-68000 : (w y : World) (pc sr level : ℕ) → gist w ≡ y → Ready y (words6 sr pc) → Framed (frame68000Interrupt w pc sr level) y (words6 sr pc) (vectorAt y level)
-unfolding frame68000Interrupt from68000 rest68000 putCpu stored
+first-68000 : (w y : World) (pc sr level : ℕ) → gist w ≡ y → Ready y (words6 sr pc) → Framed (pushInterrupt68000 w pc sr level) y (words6 sr pc) (vectorAt y level)
+unfolding pushInterrupt68000 from68000 rest68000 putCpu stored
 first-68000 w y pc sr level e h =
-    let u : World = on w (internalCycles (cpuOf w) 6) in
+    let u : World = withCpu w (internalCycles (cpuOf w) 6) in
     let d : gist u ≡ y = cycles-gist w 6 ∙ e in
-    let z : World = on u (lowerA7 (cpuOf u) 6) in
+    let z : World = withCpu u (lowerA7 (cpuOf u) 6) in
     let sp : ℕ = a7Of (cpuOf z) in
     let k : sp ≡ q6 raised y sr pc h = lowered-six u y sr pc h d in
     let l : gist z ≡ at7 y (q6 raised y sr pc h) = lower-six u y sr pc h d in
@@ -85,26 +86,26 @@ first-68000 w y pc sr level e h =
     let a = synced-form g _ 4 level m in
     let b : Attempt = syncedAcknowledge g 4 level in
     record {
-      after = three-form raised y sr pc h z (on (b .after) (internalCycles (cpuOf (b .after)) 4)) sp k l (cycles-gist (b .after) 4 ∙ a .after ∙ sym m);
+      after = three-form raised y sr pc h z (withCpu (b .after) (internalCycles (cpuOf (b .after)) 4)) sp k l (cycles-gist (b .after) 4 ∙ a .after ∙ sym m);
       value = a .value;
     }
 
-lowered-eight : (u y : World) (sr pc fw : ℕ) (h : Ready y (words8 sr pc fw)) → gist u ≡ y → a7Of (cpuOf (on u (lowerA7 (cpuOf u) 8))) ≡ newA7 y (words8 sr pc fw)
+lowered-eight : (u y : World) (sr pc fw : ℕ) (h : Ready y (words8 sr pc fw)) → gist u ≡ y → a7Of (cpuOf (withCpu u (lowerA7 (cpuOf u) 8))) ≡ newA7 y (words8 sr pc fw)
 unfolding words8 frameBytes fieldAt
 lowered-eight u y sr pc fw h d = lowered-a7 u y 8 d (h .sound .regs16)
 
-lower-eight : (u y : World) (sr pc fw : ℕ) → gist u ≡ y → gist (on u (lowerA7 (cpuOf u) 8)) ≡ at7 y (newA7 y (words8 sr pc fw))
+lower-eight : (u y : World) (sr pc fw : ℕ) → gist u ≡ y → gist (withCpu u (lowerA7 (cpuOf u) 8)) ≡ at7 y (newA7 y (words8 sr pc fw))
 unfolding words8 frameBytes fieldAt
 lower-eight u y sr pc fw d = lower-form u y 8 d
 
 first-68010 : (w y : World) (pc sr level : ℕ) → gist w ≡ y → Ready y (words8 sr pc (offsetWord (vectorAt y level)))
-    → Framed (frame68010Interrupt w pc sr level) y (words8 sr pc (offsetWord (vectorAt y level))) (vectorAt y level)
-unfolding frame68010Interrupt rest68010 writes68010 putCpu
+    → Framed (pushInterrupt68010 w pc sr level) y (words8 sr pc (offsetWord (vectorAt y level))) (vectorAt y level)
+unfolding pushInterrupt68010 rest68010 writes68010 putCpu
 first-68010 w y pc sr level e h =
     let a = synced-form w y 12 level e in
     let b : Attempt = syncedAcknowledge w 12 level in
     let u : World = b .after in
-    let z : World = on u (lowerA7 (cpuOf u) 8) in
+    let z : World = withCpu u (lowerA7 (cpuOf u) 8) in
     let fw : ℕ = offsetWord (vectorAt y level) in
     record {
       after =
@@ -114,8 +115,8 @@ first-68010 w y pc sr level e h =
     }
 
 first-other : (w y : World) (pc sr level : ℕ) → gist w ≡ y → Ready y (shortFrame sr pc (offsetWord (vectorAt y level)))
-    → Framed (frameOther w pc sr level) y (shortFrame sr pc (offsetWord (vectorAt y level))) (vectorAt y level)
-unfolding frameOther restOther
+    → Framed (pushInterruptOther w pc sr level) y (shortFrame sr pc (offsetWord (vectorAt y level))) (vectorAt y level)
+unfolding pushInterruptOther restOther
 first-other w y pc sr level e h =
     let a = acknowledge-form w y level e in
     let b : Attempt = acknowledgeLevel w level in
@@ -131,13 +132,13 @@ unfolding firstFrame interruptFrame
 first-form w y k pc sr level v e d g h = rw d (go (eqb k 1) (eqb k 2) h)
   where
     go : (a b : Bool) → Ready y (pick a (words6 sr pc) (pick b (words8 sr pc (offsetWord v)) (shortFrame sr pc (offsetWord v))))
-        → Framed (pick a (frame68000Interrupt w pc sr level) (pick b (frame68010Interrupt w pc sr level) (frameOther w pc sr level))) y
+        → Framed (pick a (pushInterrupt68000 w pc sr level) (pick b (pushInterrupt68010 w pc sr level) (pushInterruptOther w pc sr level))) y
         (pick a (words6 sr pc) (pick b (words8 sr pc (offsetWord v)) (shortFrame sr pc (offsetWord v)))) v
-    go true b r = subst (λ (n : ℕ). Framed (frame68000Interrupt w pc sr level) y (words6 sr pc) n) g (first-68000 w y pc sr level e r)
+    go true b r = subst (λ (n : ℕ). Framed (pushInterrupt68000 w pc sr level) y (words6 sr pc) n) g (first-68000 w y pc sr level e r)
     go false true r =
-        subst (λ (n : ℕ). Ready y (words8 sr pc (offsetWord n)) → Framed (frame68010Interrupt w pc sr level) y (words8 sr pc (offsetWord n)) n) g (first-68010 w y pc sr level e) r
+        subst (λ (n : ℕ). Ready y (words8 sr pc (offsetWord n)) → Framed (pushInterrupt68010 w pc sr level) y (words8 sr pc (offsetWord n)) n) g (first-68010 w y pc sr level e) r
     go false false r =
-        subst (λ (n : ℕ). Ready y (shortFrame sr pc (offsetWord n)) → Framed (frameOther w pc sr level) y (shortFrame sr pc (offsetWord n)) n) g (first-other w y pc sr level e) r
+        subst (λ (n : ℕ). Ready y (shortFrame sr pc (offsetWord n)) → Framed (pushInterruptOther w pc sr level) y (shortFrame sr pc (offsetWord n)) n) g (first-other w y pc sr level e) r
 
 -- ---- the second frame, or M cleared
 
@@ -157,7 +158,7 @@ seen-close : Seen (λ d. clearLevel (chargeInterrupt (clearStopped d)))
 unfolding gistCpu clearLevel chargeInterrupt charged clearStopped
 seen-close c = refl
 
-stays : (y : World) → gist y ≡ gist (on y (cpuOf y))
+stays : (y : World) → gist y ≡ gist (withCpu y (cpuOf y))
 unfolding putCpu
 stays y = refl
 
@@ -165,13 +166,13 @@ still-form : (w x : World) → gist w ≡ x → gist w ≡ turned x same
 still-form w x e = stays w ∙ turn-form w x same seen-same e
 
 throw-form : (w y : World) (pc sr v : ℕ) → gist w ≡ y → AllReady y (record { turn = λ d. setSmFlag d 4; frame = shortFrame (withS sr) pc (formatWord 1 v) } ∷ [])
-    → gist (pushFrame raised (on w (setSmFlag (cpuOf w) 4)) (shortFrame (withS sr) pc (formatWord 1 v))) ≡ turned (stackAll y (record { turn = λ d. setSmFlag d 4; frame = shortFrame (withS sr) pc (formatWord 1 v) } ∷ [])) same
+    → gist (pushFrame raised (withCpu w (setSmFlag (cpuOf w) 4)) (shortFrame (withS sr) pc (formatWord 1 v))) ≡ turned (stackAll y (record { turn = λ d. setSmFlag d 4; frame = shortFrame (withS sr) pc (formatWord 1 v) } ∷ [])) same
 unfolding AllReady stackAll
 throw-form w y pc sr v e r =
     let turn : Cpu → Cpu = λ d. setSmFlag d 4 in
     let f : Frame = shortFrame (withS sr) pc (formatWord 1 v) in
-    still-form (pushFrame raised (on w (turn (cpuOf w))) f) (framedBy (turned y turn) f)
-    (stacked-form raised (on w (turn (cpuOf w))) (turned y turn) f (turn-form w y turn seen-throw e) (r .0 .sound) (r .0 .allowed))
+    still-form (pushFrame raised (withCpu w (turn (cpuOf w))) f) (framedBy (turned y turn) f)
+    (stacked-form raised (withCpu w (turn (cpuOf w))) (turned y turn) f (turn-form w y turn seen-throw e) (r .0 .sound) (r .0 .allowed))
 
 second-form : (w y : World) (pc sr v : ℕ) (m master six : Bool) → gist w ≡ y → mIsSet (cpuOf w) ≡ m → isEc020Plus (kindOf (cpuOf w)) ≡ master → is060 (kindOf (cpuOf w)) ≡ six
     → AllReady y (throwaways m master sr pc v) → gist (secondFrame w pc sr v) ≡ turned (stackAll y (throwaways m master sr pc v)) (settles m master six)
@@ -179,7 +180,7 @@ unfolding secondFrame throwaway throwaways settles stackAll
 second-form w y pc sr v m master six e a b c h = rw (a, b, c) (go m master six h)
   where
     go : (m master six : Bool) → AllReady y (pick m (pick master (record { turn = λ d. setSmFlag d 4; frame = shortFrame (withS sr) pc (formatWord 1 v) } ∷ []) []) [])
-        → gist (pick m (pick master (pushFrame raised (on w (setSmFlag (cpuOf w) 4)) (shortFrame (withS sr) pc (formatWord 1 v))) (pick six (on w (clearM (cpuOf w))) w)) w)
+        → gist (pick m (pick master (pushFrame raised (withCpu w (setSmFlag (cpuOf w) 4)) (shortFrame (withS sr) pc (formatWord 1 v))) (pick six (withCpu w (clearM (cpuOf w))) w)) w)
         ≡ turned (stackAll y (pick m (pick master (record { turn = λ d. setSmFlag d 4; frame = shortFrame (withS sr) pc (formatWord 1 v) } ∷ []) []) [])) (pick m (pick master same (pick six clearM same)) same)
     go true true six r = throw-form w y pc sr v e r
     go true false true r = turn-form w y clearM seen-clear e
@@ -218,21 +219,21 @@ module _ (w : World) where
   unfolding gist calm responseOf
   gist-vector level = refl
 
-  entered-kind : (level : ℕ) → kindOf (cpuOf (on w (enterLevel (cpuOf w) level))) ≡ kindOf (cpuOf w)
+  entered-kind : (level : ℕ) → kindOf (cpuOf (withCpu w (enterLevel (cpuOf w) level))) ≡ kindOf (cpuOf w)
   unfolding putCpu enterLevel setIntMask enterSupervisor clearTrace setSFlag restoreSp putS backupSp kindOf
   entered-kind level = refl
 
 -- the frames, the jump and the end of an interrupt
 interrupt-by : (w x : World) (level v : ℕ) (m master six : Bool) → gist w ≡ x → vectorAt w level ≡ v → mIsSet (cpuOf w) ≡ m → isEc020Plus (kindOf (cpuOf w)) ≡ master → is060 (kindOf (cpuOf w)) ≡ six
     → Clean x (interruptBy (cpuOf w) level v m master six) → gist (serviced (serviceInterrupt w level)) ≡ planned x (interruptBy (cpuOf w) level v m master six)
-unfolding serviced serviceInterrupt dispatched ended closed interruptBy AllReady stackAll planned putCpu
+unfolding serviced serviceInterrupt dispatched ended closeInterrupt interruptBy AllReady stackAll planned putCpu
 interrupt-by w x level v m master six e u a b c h =
     let turn : Cpu → Cpu = λ d. enterLevel d level in
     let pc : ℕ = pcOf (cpuOf w) in
     let sr : ℕ = statusOf (cpuOf w) in
     let f : Frame = interruptFrame (kindOf (cpuOf w)) sr pc v in
     let y : World = turned x turn in
-    let o : World = on w (turn (cpuOf w)) in
+    let o : World = withCpu w (turn (cpuOf w)) in
     let d : gist o ≡ y = turn-form w x turn (seen-level level) e in
     let r : Framed (firstFrame o pc sr level) y f v = first-form o y (kindOf (cpuOf w)) pc sr level v d (entered-kind w level)
     (begun-vector x level f ∙ ap (λ (z : World). vectorAt z level) (sym e) ∙ sym (gist-vector w level) ∙ u) (h .stacks .0) in

@@ -12,9 +12,9 @@ use Rattle.cpu.specs.Clocks.{prefetchEnabled, oneFetched, internalCycles, setCl
 use Rattle.memory.specs.declared.Core.{Core}
 use Rattle.memory.specs.Log.{counted}
 use Rattle.memory.specs.Served.{servedOf, placeOf}
-use Rattle.memory.specs.World.{World, world, Attempt, reply, noted, putCpu, widthOf, served, fetched, readValue, flush, release, rawRead, tryRead}
+use Rattle.memory.specs.World.{World, world, Attempt, reply, noted, putCpu, widthOf, served, fetched, readValue, flush, release, rawRead, tryRead, cpuOf, withCpu}
 use Rattle.steps.specs.Steps.{refusesOdd, vectorAddress}
-use Rattle.faults.specs.Faults.{Raise, cpuOf, on, readOr, prefetchRead, keptFirst, firstFrom, prefetchFirst, keptSecond, secondFrom, prefetchSecond, checkedRead, readAt, vectorRead, refill, jumpTo, jumpVector}
+use Rattle.faults.specs.Faults.{Raise, readOr, prefetchRead, keptFirst, firstFrom, prefetchFirst, keptSecond, secondFrom, prefetchSecond, checkedRead, readAt, vectorRead, refill, jumpTo, jumpVector}
 use Rattle.images.specs.Pushes.{calm, served-calm}
 use Rattle.images.specs.Jumps.{vectorPlace, handler, Reachable}
 use Rattle.forms.specs.Gist.{gist, gistCpu, gist-gist, served-gist, flush-gist, address-gist, faulted-gist}
@@ -76,7 +76,7 @@ kept-first : (x : Attempt) → gist (keptFirst x) ≡ gist (x .after)
 unfolding keptFirst firstWord putCpu gist gistCpu
 kept-first x = go (x .ok)
   where
-    go : (o : Bool) → gist (pick o (on (x .after) (firstWord (cpuOf (x .after)) (x .value % 65536))) (x .after)) ≡ gist (x .after)
+    go : (o : Bool) → gist (pick o (withCpu (x .after) (firstWord (cpuOf (x .after)) (x .value % 65536))) (x .after)) ≡ gist (x .after)
     go true = refl
     go false = refl
 
@@ -84,19 +84,19 @@ kept-second : (x : Attempt) → gist (keptSecond x) ≡ gist (x .after)
 unfolding keptSecond secondWord putCpu gist gistCpu
 kept-second x = go (x .ok)
   where
-    go : (o : Bool) → gist (pick o (on (x .after) (secondWord (cpuOf (x .after)) (x .value % 65536))) (x .after)) ≡ gist (x .after)
+    go : (o : Bool) → gist (pick o (withCpu (x .after) (secondWord (cpuOf (x .after)) (x .value % 65536))) (x .after)) ≡ gist (x .after)
     go true = refl
     go false = refl
 
-clear-gist : (w : World) → gist (on w (clearPrefetch (cpuOf w))) ≡ gist w
+clear-gist : (w : World) → gist (withCpu w (clearPrefetch (cpuOf w))) ≡ gist w
 unfolding clearPrefetch putCpu gist gistCpu
 clear-gist w = refl
 
-pub cycles-gist : (w : World) (n : ℕ) → gist (on w (internalCycles (cpuOf w) n)) ≡ gist w
+pub cycles-gist : (w : World) (n : ℕ) → gist (withCpu w (internalCycles (cpuOf w) n)) ≡ gist w
 unfolding internalCycles setClocks putCpu gist gistCpu
 cycles-gist w n = go (prefetchEnabled (cpuOf w))
   where
-    go : (e : Bool) → gist (on w (pick e (setClocks (cpuOf w) ((clocksOf (cpuOf w) + n) % 2 ^ 32)) (cpuOf w))) ≡ gist w
+    go : (e : Bool) → gist (withCpu w (pick e (setClocks (cpuOf w) ((clocksOf (cpuOf w) + n) % 2 ^ 32)) (cpuOf w))) ≡ gist w
     go true = refl
     go false = refl
 
@@ -131,8 +131,8 @@ first-form : (t : Raise) (w x : World) → gist w ≡ x → (prefetchEnabled (cp
 unfolding prefetchFirst
 first-form t w x e h = go (prefetchEnabled (cpuOf w)) refl
   where
-    go : (p : Bool) → prefetchEnabled (cpuOf w) ≡ p → gist (pick p (firstFrom t (on w (clearPrefetch (cpuOf w)))) w) ≡ x
-    go true d = first-from t (on w (clearPrefetch (cpuOf w))) x (clear-gist w ∙ e) (h (sym (ap (λ (y : World). prefetchEnabled (cpuOf y)) e) ∙ sym (enabled-gist w) ∙ d))
+    go : (p : Bool) → prefetchEnabled (cpuOf w) ≡ p → gist (pick p (firstFrom t (withCpu w (clearPrefetch (cpuOf w)))) w) ≡ x
+    go true d = first-from t (withCpu w (clearPrefetch (cpuOf w))) x (clear-gist w ∙ e) (h (sym (ap (λ (y : World). prefetchEnabled (cpuOf y)) e) ∙ sym (enabled-gist w) ∙ d))
     go false d = e
 
 second-from : (t : Raise) (w x : World) → gist w ≡ x → Word x ((pcOf (cpuOf x) + 2) % 2 ^ 32) → gist (secondFrom t w) ≡ x
@@ -162,19 +162,19 @@ pub refill-form : (t : Raise) (w x : World) → gist w ≡ x → (prefetchEnable
 unfolding refill
 refill-form t w x e h k =
     let f : gist (prefetchFirst t w) ≡ x = first-form t w x e h in
-    second-form t (on (prefetchFirst t w) (internalCycles (cpuOf (prefetchFirst t w)) 2)) x (cycles-gist (prefetchFirst t w) 2 ∙ f) k
+    second-form t (withCpu (prefetchFirst t w) (internalCycles (cpuOf (prefetchFirst t w)) 2)) x (cycles-gist (prefetchFirst t w) 2 ∙ f) k
 
 -- ---- the jump
 
 -- the gist after the jump to vector v: loop mode off, PC as read there
 unfoldable pub jumped : World → ℕ → World
-jumped x v = gist (on x (setPc (startVector (cpuOf x) v) (handler x v)))
+jumped x v = gist (withCpu x (setPc (startVector (cpuOf x) v) (handler x v)))
 
 -- the world in which the vector is read
 abbrev starting : World → ℕ → World
-starting x v = gist (on x (startVector (cpuOf x) v))
+starting x v = gist (withCpu x (startVector (cpuOf x) v))
 
-start-gist : (w : World) (v : ℕ) → gist (on (release w) (startVector (cpuOf (release w)) v)) ≡ starting (gist w) v
+start-gist : (w : World) (v : ℕ) → gist (withCpu (release w) (startVector (cpuOf (release w)) v)) ≡ starting (gist w) v
 unfolding release noted startVector putCpu gist gistCpu calm counted
 start-gist w v = refl
 
@@ -182,11 +182,11 @@ vector-gist : (w : World) (v : ℕ) → vectorAddress (cpuOf (release w)) v ≡ 
 unfolding release noted gist gistCpu vectorAddress vbrOf
 vector-gist w v = refl
 
-land-gist : (z : World) (pc : ℕ) → gist (on z (setPc (cpuOf z) pc)) ≡ gist (on (gist z) (setPc (cpuOf (gist z)) pc))
+land-gist : (z : World) (pc : ℕ) → gist (withCpu z (setPc (cpuOf z) pc)) ≡ gist (withCpu (gist z) (setPc (cpuOf (gist z)) pc))
 unfolding setPc putCpu gist gistCpu calm
 land-gist z pc = refl
 
-land-start : (x : World) (v pc : ℕ) → gist (on (starting x v) (setPc (cpuOf (starting x v)) pc)) ≡ gist (on x (setPc (startVector (cpuOf x) v) pc))
+land-start : (x : World) (v pc : ℕ) → gist (withCpu (starting x v) (setPc (cpuOf (starting x v)) pc)) ≡ gist (withCpu x (setPc (startVector (cpuOf x) v) pc))
 unfolding setPc startVector putCpu gist gistCpu calm
 land-start x v pc = refl
 
@@ -205,11 +205,11 @@ module _ (x : World) (v : ℕ) where
 
   start-served : (a : ℕ) (g : Bool) → served (starting x v) a g ≡ served x a g
   unfolding putCpu served
-  start-served a g = served-gist (on x (startVector (cpuOf x) v)) a g
+  start-served a g = served-gist (withCpu x (startVector (cpuOf x) v)) a g
 
   start-value : (a : ℕ) (g : Bool) → readValue (starting x v) a g ≡ readValue x a g
   unfolding putCpu readValue fetched served
-  start-value a g = value-gist (on x (startVector (cpuOf x) v)) a g
+  start-value a g = value-gist (withCpu x (startVector (cpuOf x) v)) a g
 
   jumped-enabled : prefetchEnabled (cpuOf (jumped x v)) ≡ prefetchEnabled (cpuOf x)
   unfolding jumped setPc startVector putCpu gist gistCpu prefetchEnabled
@@ -229,13 +229,13 @@ module _ (x : World) (v : ℕ) where
 
   jumped-served : (a : ℕ) (g : Bool) → served (jumped x v) a g ≡ served x a g
   unfolding jumped putCpu served
-  jumped-served a g = served-gist (on x (setPc (startVector (cpuOf x) v) (handler x v))) a g
+  jumped-served a g = served-gist (withCpu x (setPc (startVector (cpuOf x) v) (handler x v))) a g
 
 -- the jump to a vector whose reads are served, whatever a fault would raise
 pub jump-form : (t : Raise) (w x : World) (v : ℕ) → gist w ≡ x → Reachable x v → gist (jumpVector t w v) ≡ jumped x v
 unfolding jumpVector jumpTo vectorRead jumped
 jump-form t w x v e h =
-    let y : World = on (release w) (startVector (cpuOf (release w)) v) in
+    let y : World = withCpu (release w) (startVector (cpuOf (release w)) v) in
     let s : World = starting x v in
     let f : gist y ≡ s = start-gist w v ∙ ap (λ (z : World). starting z v) e in
     let p : ℕ = vectorPlace x v in
@@ -243,10 +243,10 @@ jump-form t w x v e h =
     let m : addressOf (cpuOf s) a ≡ p = start-address x v a ∙ ap (λ (q : ℕ). addressOf (cpuOf x) q) (vector-gist w v ∙ ap (λ (z : World). vectorAddress (cpuOf z) v) e) in
     let r = read-form t y s a p true f (start-faulted x v ∙ h .running) m (start-odd x v p ∙ h .even) (start-served x v p true ∙ h .serves) in
     let z : World = readAt t y a true .after in
-    let d : gist (on z (setPc (cpuOf z) (readAt t y a true .value))) ≡ jumped x v = land-gist z (readAt t y a true .value)
-    ∙ ap (λ (u : World). gist (on u (setPc (cpuOf u) (readAt t y a true .value)))) (r .0)
-    ∙ ap (λ (q : ℕ). gist (on s (setPc (cpuOf s) q))) (r .1 ∙ start-value x v p true)
+    let d : gist (withCpu z (setPc (cpuOf z) (readAt t y a true .value))) ≡ jumped x v = land-gist z (readAt t y a true .value)
+    ∙ ap (λ (u : World). gist (withCpu u (setPc (cpuOf u) (readAt t y a true .value)))) (r .0)
+    ∙ ap (λ (q : ℕ). gist (withCpu s (setPc (cpuOf s) q))) (r .1 ∙ start-value x v p true)
     ∙ land-start x v (handler x v) in
-    refill-form t (on z (setPc (cpuOf z) (readAt t y a true .value))) (jumped x v) d
+    refill-form t (withCpu z (setPc (cpuOf z) (readAt t y a true .value))) (jumped x v) d
     (λ n o. jumped-served x v _ false ∙ ap (λ (q : ℕ). served x q false) (jumped-address x v (pcOf (cpuOf (jumped x v))) ∙ ap (λ (q : ℕ). addressOf (cpuOf x) q) (jumped-pc x v)) ∙ h .first (sym (jumped-enabled x v) ∙ n) (sym (jumped-odd x v) ∙ o))
     (λ n o. jumped-served x v _ false ∙ ap (λ (q : ℕ). served x q false) (jumped-address x v ((pcOf (cpuOf (jumped x v)) + 2) % 2 ^ 32) ∙ ap (λ (q : ℕ). addressOf (cpuOf x) ((q + 2) % 2 ^ 32)) (jumped-pc x v)) ∙ h .second (sym (jumped-enabled x v) ∙ n) (sym (jumped-odd x v) ∙ o))

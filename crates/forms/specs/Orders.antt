@@ -16,15 +16,15 @@ use Rattle.memory.specs.declared.Core.{Core}
 use Rattle.memory.specs.declared.Bus.{Bus}
 use Rattle.memory.specs.Served.{servedOf, placeOf}
 use Rattle.memory.specs.Runs.{Apart}
-use Rattle.memory.specs.World.{World, world, stored, putCpu, widthOf, served}
+use Rattle.memory.specs.World.{World, world, stored, putCpu, widthOf, served, cpuOf, withCpu}
 use Rattle.memory.specs.ByteLaws.{put, put-length, put-comm}
 use Rattle.memory.specs.AccessLaws.{kept}
 use Rattle.memory.specs.ServedLaws.{Clear, served-means}
 use Rattle.frames.specs.declared.Field.{Field}
 use Rattle.frames.specs.declared.Frame.{Frame}
-use Rattle.frames.specs.Frames.{word, framed, fieldAt}
-use Rattle.steps.specs.Steps.{refusesOdd, isCounted, isRaw}
-use Rattle.faults.specs.Faults.{Raise, cpuOf, on, writeAt, shortWrites, pushExceptionFrame68000}
+use Rattle.frames.specs.Frames.{word, framed, fieldAt, isCounted, isRaw}
+use Rattle.steps.specs.Steps.{refusesOdd}
+use Rattle.faults.specs.Faults.{Raise, writeAt, shortWrites, pushExceptionFrame68000}
 use Rattle.images.specs.Pushes.{laidField}
 use Rattle.images.specs.Images.{Sound, Shape, Ready, Allowed, frameBytes, fieldAddress, laid, newA7, bottom, at-offset}
 use Rattle.forms.specs.Gist.{gist, wroteAt, at7, a7-gist, a7-at7, guard-form, lower-form, framedBy, minus-below}
@@ -176,15 +176,15 @@ module _ (t : Raise) (x : World) (sr pc : ℕ) (h : Ready x (words6 sr pc)) wher
       ∙ last6 z (d ∙ ap (λ (q : ℕ). gist (writeAt t y ((q + 4) % 2 ^ 32) false (pc % 65536))) k ∙ first6 y e) ∙ laid6
 
 -- A7 after it is lowered
-pub lowered-a7 : (w x : World) (n : ℕ) → gist w ≡ x → 15 < length (cpuOf x .regs .dar) → a7Of (cpuOf (on w (lowerA7 (cpuOf w) n))) ≡ minus32 (a7Of (cpuOf x)) n
+pub lowered-a7 : (w x : World) (n : ℕ) → gist w ≡ x → 15 < length (cpuOf x .regs .dar) → a7Of (cpuOf (withCpu w (lowerA7 (cpuOf w) n))) ≡ minus32 (a7Of (cpuOf x)) n
 lowered-a7 w x n e l =
-    a7-gist (on w (lowerA7 (cpuOf w) n)) ∙ ap (λ (y : World). a7Of (cpuOf y)) (lower-form w x n e) ∙ a7-at7 x (minus32 (a7Of (cpuOf x)) n) l
+    a7-gist (withCpu w (lowerA7 (cpuOf w) n)) ∙ ap (λ (y : World). a7Of (cpuOf y)) (lower-form w x n e) ∙ a7-at7 x (minus32 (a7Of (cpuOf x)) n) l
 
 -- `push_exception_frame_68000`
 pub short-form : (t : Raise) (w x : World) (sr pc : ℕ) → gist w ≡ x → Ready x (words6 sr pc) → gist (pushExceptionFrame68000 t w pc sr) ≡ framedBy x (words6 sr pc)
 unfolding pushExceptionFrame68000 shortWrites words6 frameBytes fieldAt
 short-form t w x sr pc e h =
-    let y : World = on w (lowerA7 (cpuOf w) 6) in
+    let y : World = withCpu w (lowerA7 (cpuOf w) 6) in
     three-form t x sr pc h y (writeAt t y ((a7Of (cpuOf y) + 4) % 2 ^ 32) false (pc % 65536)) (a7Of (cpuOf y)) (lowered-a7 w x 6 e (h .sound .regs16)) (lower-form w x 6 e) refl
 
 -- ---- the interrupt of kind 2: the same, then the format word

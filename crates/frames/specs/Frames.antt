@@ -31,6 +31,12 @@ gapWord = record { mode = 2; long = false; value = 0 }
 abbrev pub gapLong : Field
 gapLong = record { mode = 2; long = true; value = 0 }
 
+unfoldable pub isCounted : Field → Bool
+isCounted f = eqb (f .mode) 2
+
+unfoldable pub isRaw : Field → Bool
+isRaw f = eqb (f .mode) 1
+
 -- a frame holds up to 28 fields; the rest of its array is unused
 abbrev pub framed : List Field → Frame
 framed fs = record { fields = fs ++ replicate (28 - length fs) gapWord; count = length fs }

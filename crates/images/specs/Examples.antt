@@ -16,8 +16,7 @@ use Rattle.memory.specs.Served.{meets, clearOf, windowsInUse, inStore, servedOf
 use Rattle.memory.specs.World.{World, world, served}
 use Rattle.frames.specs.declared.Frame.{Frame}
 use Rattle.frames.specs.declared.Field.{Field}
-use Rattle.frames.specs.Frames.{word, fieldAt, frame0, frame8, frame11}
-use Rattle.steps.specs.Steps.{isCounted}
+use Rattle.frames.specs.Frames.{word, fieldAt, frame0, frame8, frame11, isCounted}
 use Rattle.images.specs.Images.{frameBytes, Ready, Sound, bottom, ready-whole}
 
 -- a fresh record of kind k with A7 as said, no window, and n bytes from base on

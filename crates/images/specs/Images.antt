@@ -17,16 +17,16 @@ use Rattle.cpu.specs.Fields.{kindOf, a7Of, addressOf, isFaulted, checksAlignmen
 use Rattle.memory.specs.declared.Core.{Core}
 use Rattle.memory.specs.declared.Bus.{Bus}
 use Rattle.memory.specs.Served.{servedOf, placeOf}
-use Rattle.memory.specs.World.{World, world, putCpu, widthOf, served, fetched, readValue}
+use Rattle.memory.specs.World.{World, world, putCpu, widthOf, served, fetched, readValue, cpuOf, withCpu}
 use Rattle.memory.specs.Runs.{Outside, Apart}
 use Rattle.memory.specs.ByteLaws.{put, get, Fits, put-length, put-keeps, read-back, read-other}
 use Rattle.memory.specs.AccessLaws.{kept}
 use Rattle.memory.specs.ServedLaws.{Clear, start, size, served-means, served-if}
 use Rattle.frames.specs.declared.Field.{Field}
 use Rattle.frames.specs.declared.Frame.{Frame}
-use Rattle.frames.specs.Frames.{fieldAt}
-use Rattle.steps.specs.Steps.{refusesOdd, isCounted, isRaw}
-use Rattle.faults.specs.Faults.{Raise, cpuOf, on, stackField, pushField, pushFields, pushFrame}
+use Rattle.frames.specs.Frames.{fieldAt, isCounted, isRaw}
+use Rattle.steps.specs.Steps.{refusesOdd}
+use Rattle.faults.specs.Faults.{Raise, stackField, pushField, pushFields, pushFrame}
 use Rattle.images.specs.Pushes.{calm, served-same, place-same, Kept, Left, laidField, field-left}
 
 -- the bytes of the first k fields of a frame, counted ones too: the offset of field k from the new A7
@@ -156,8 +156,8 @@ push-framed t w f a h m s o =
     let c : Cpu = lowerA7 (cpuOf w) n in
     let e : a7Of c ≡ minus32 (a7Of (cpuOf w)) n = lowered-a7 (cpuOf w) n (h .regs16) in
     let z : c .flow ≡ cpuOf w .flow = lowered-flow (cpuOf w) n in
-    let r = field-left t (on w c) f a (rw (e, z) m) (rw z (h .running)) s (λ x y. rw z (o x y)) in
-    let u : a7Of (cpuOf (stackField t (on w c) f)) ≡ minus32 (a7Of (cpuOf w)) n = ap (λ (x : Regs). getD (x .dar) 15 0) (r .same .regs) ∙ e in
+    let r = field-left t (withCpu w c) f a (rw (e, z) m) (rw z (h .running)) s (λ x y. rw z (o x y)) in
+    let u : a7Of (cpuOf (stackField t (withCpu w c) f)) ≡ minus32 (a7Of (cpuOf w)) n = ap (λ (x : Regs). getD (x .dar) 15 0) (r .same .regs) ∙ e in
     record {
       flow = r .same .flow ∙ z;
       precise = r .same .precise ∙ lowered-precise (cpuOf w) n;

@@ -17,11 +17,11 @@ use Rattle.memory.specs.declared.Core.{Core}
 use Rattle.memory.specs.declared.Bus.{Bus}
 use Rattle.memory.specs.Log.{counted}
 use Rattle.memory.specs.Runs.{Apart}
-use Rattle.memory.specs.World.{World, world, Attempt, reply, noted, putCpu, widthOf, served, readValue, flush, release, rawRead, tryRead}
+use Rattle.memory.specs.World.{World, world, Attempt, reply, noted, putCpu, widthOf, served, readValue, flush, release, rawRead, tryRead, cpuOf, withCpu, step}
 use Rattle.frames.specs.declared.Frame.{Frame}
 use Rattle.frames.specs.Frames.{busFrame, addressFrame}
-use Rattle.steps.specs.Steps.{refusesOdd, vectorAddress, beginBus, beginAddress, enterBusError}
-use Rattle.faults.specs.Faults.{Raise, busError, addressError, cpuOf, on, readOr, prefetchRead, keptFirst, firstFrom, prefetchFirst, keptSecond, secondFrom, prefetchSecond, checkedRead, readAt, vectorRead, refill, jumpTo, jumpVector, pushFrame, exceptionBusError, exceptionAddressError, closed, ended, raiseBus, raiseAddress, trigger}
+use Rattle.steps.specs.Steps.{refusesOdd, vectorAddress, beginBus, beginAddress, enterBusError, closeBus}
+use Rattle.faults.specs.Faults.{Raise, busError, addressError, readOr, prefetchRead, keptFirst, firstFrom, prefetchFirst, keptSecond, secondFrom, prefetchSecond, checkedRead, readAt, vectorRead, refill, jumpTo, jumpVector, pushFrame, exceptionBusError, exceptionAddressError, raiseBus, raiseAddress, trigger}
 use Rattle.images.specs.Pushes.{calm, served-same, place-same, Kept, kept-trans, Left, flush-left}
 use Rattle.images.specs.Images.{frameBytes, Shape, Ready, Image, Still, still-trans, read-same, image-still, stacked-image, stacked-runs, stacked-framed, stacked-serves, read-apart, newA7, bottom}
 use Rattle.images.specs.Lengths.{lengthOf, errorLength, busFormat, addressFormat, bus-length, address-length}
@@ -74,7 +74,7 @@ prefetch-idle t w a s =
     let m : maskAddress (cpuOf y .flow .«cpu_type») a ≡ p = ap (λ (x : Flow). maskAddress (x .«cpu_type») a) (k .same .flow) in
     rw (m, tried-is t y p true 2 false (idle-serves w y k p false ∙ s)) (idle-trans k (read-idle y p false))
 
-on-idle : (w x : World) (c : Cpu) → Idle w x → c .flow ≡ cpuOf x .flow → c .regs ≡ cpuOf x .regs → c .queue .«precise_bus» ≡ cpuOf x .queue .«precise_bus» → Idle w (on x c)
+on-idle : (w x : World) (c : Cpu) → Idle w x → c .flow ≡ cpuOf x .flow → c .regs ≡ cpuOf x .regs → c .queue .«precise_bus» ≡ cpuOf x .queue .«precise_bus» → Idle w (withCpu x c)
 unfolding putCpu
 on-idle w x c h a b d = record { same = record { flow = a ∙ h .same .flow; regs = b ∙ h .same .regs; precise = d ∙ h .same .precise; bus = h .same .bus }; store = h .store }
 
@@ -85,7 +85,7 @@ kept-first : (w : World) (x : Attempt) → Idle w (x .after) → Idle w (keptFir
 unfolding keptFirst firstWord
 kept-first w x h = go (x .ok)
   where
-    go : (o : Bool) → Idle w (pick o (on (x .after) (firstWord (cpuOf (x .after)) (x .value % 0x10000))) (x .after))
+    go : (o : Bool) → Idle w (pick o (withCpu (x .after) (firstWord (cpuOf (x .after)) (x .value % 0x10000))) (x .after))
     go true = on-idle w (x .after) (firstWord (cpuOf (x .after)) (x .value % 0x10000)) h refl refl refl
     go false = h
 
@@ -93,7 +93,7 @@ kept-second : (w : World) (x : Attempt) → Idle w (x .after) → Idle w (keptSe
 unfolding keptSecond secondWord
 kept-second w x h = go (x .ok)
   where
-    go : (o : Bool) → Idle w (pick o (on (x .after) (secondWord (cpuOf (x .after)) (x .value % 0x10000))) (x .after))
+    go : (o : Bool) → Idle w (pick o (withCpu (x .after) (secondWord (cpuOf (x .after)) (x .value % 0x10000))) (x .after))
     go true = on-idle w (x .after) (secondWord (cpuOf (x .after)) (x .value % 0x10000)) h refl refl refl
     go false = h
 
@@ -122,7 +122,7 @@ unfolding prefetchFirst clearPrefetch pcOf putCpu
 first-idle t w h = go (prefetchEnabled (cpuOf w))
   where
     x : World
-    x = on w (clearPrefetch (cpuOf w))
+    x = withCpu w (clearPrefetch (cpuOf w))
 
     i : Idle w x
     i = on-idle w w (clearPrefetch (cpuOf w)) (none w) refl refl refl
@@ -150,18 +150,18 @@ second-idle t w h = go (prefetchEnabled (cpuOf w)) (oneFetched (cpuOf w))
     go true false = none w
     go false o = none w
 
-cycles-idle : (w : World) (n : ℕ) → Idle w (on w (internalCycles (cpuOf w) n))
+cycles-idle : (w : World) (n : ℕ) → Idle w (withCpu w (internalCycles (cpuOf w) n))
 unfolding internalCycles setClocks
 cycles-idle w n = go (prefetchEnabled (cpuOf w))
   where
-    go : (e : Bool) → Idle w (on w (pick e (setClocks (cpuOf w) ((clocksOf (cpuOf w) + n) % 2 ^ 32)) (cpuOf w)))
+    go : (e : Bool) → Idle w (withCpu w (pick e (setClocks (cpuOf w) ((clocksOf (cpuOf w) + n) % 2 ^ 32)) (cpuOf w)))
     go true = on-idle w w (setClocks (cpuOf w) ((clocksOf (cpuOf w) + n) % 2 ^ 32)) (none w) refl refl refl
     go false = on-idle w w (cpuOf w) (none w) refl refl refl
 
 -- without a queue nothing is fetched
 refill-off : (t : Raise) (w : World) → prefetchEnabled (cpuOf w) ≡ false → Idle w (refill t w)
 unfolding refill prefetchFirst prefetchSecond putCpu
-refill-off t w e = rw (first w e, clocks-kept (cpuOf w) 2 e, second (on w (cpuOf w)) e) (on-idle w w (cpuOf w) (none w) refl refl refl)
+refill-off t w e = rw (first w e, clocks-kept (cpuOf w) 2 e, second (withCpu w (cpuOf w)) e) (on-idle w w (cpuOf w) (none w) refl refl refl)
   where
     first : (x : World) → prefetchEnabled (cpuOf x) ≡ false → prefetchFirst t x ≡ x
     first x d = rw d
@@ -179,7 +179,7 @@ refill-idle t w h = go (prefetchEnabled (cpuOf w)) refl
     go true e =
         let x : World = prefetchFirst t w in
         let i : Idle w x = first-idle t w (h e .0) in
-        let y : World = on x (internalCycles (cpuOf x) 2) in
+        let y : World = withCpu x (internalCycles (cpuOf x) 2) in
         let j : Idle w y = idle-trans i (cycles-idle x 2) in
         let p : pcOf (cpuOf y) ≡ pcOf (cpuOf w) = pc-idle w y j in
         idle-trans j (second-idle t y (rw p (word-idle w y ((pcOf (cpuOf w) + 2) % 2 ^ 32) j (h e .1))))
@@ -205,7 +205,7 @@ still-serves w x p a g = rw (p .store) (served-same (x .core .bus) (w .core .bus
 
 -- the world in which the vector is read
 unfoldable pub started : World → ℕ → World
-started w v = on (release w) (startVector (cpuOf (release w)) v)
+started w v = withCpu (release w) (startVector (cpuOf (release w)) v)
 
 start-still : (w : World) (v : ℕ) → Still w (started w v)
 unfolding started release noted startVector putCpu kindOf calm counted
@@ -222,7 +222,7 @@ vector-read t w v h =
 
 -- the world in which the queue is refilled
 unfoldable pub landed : Attempt → World
-landed x = on (x .after) (setPc (cpuOf (x .after)) (x .value))
+landed x = withCpu (x .after) (setPc (cpuOf (x .after)) (x .value))
 
 pub record Landed (w y : World) (pc : ℕ) : Type 0 where
   pub still : Still w y
@@ -299,41 +299,41 @@ entry-image t w f v s h r = image-still w (pushFrame t w f) (jumpVector t (pushF
 
 module _ (t : Raise) (w : World) (a : ℕ) (write instruction : Bool) where
   -- a bus error entry whose accesses are all served leaves the image of its frame on the supervisor stack
-  pub bus-image : (z cause : ℕ) → Ready (on w (enterBusError (cpuOf w))) (busFrame (cpuOf w) a write instruction z cause)
-      → Reachable (pushFrame t (on w (enterBusError (cpuOf w))) (busFrame (cpuOf w) a write instruction z cause)) 2
-      → Image (on w (enterBusError (cpuOf w))) (exceptionBusError t w a write instruction z cause) (busFrame (cpuOf w) a write instruction z cause)
+  pub bus-image : (z cause : ℕ) → Ready (withCpu w (enterBusError (cpuOf w))) (busFrame (cpuOf w) a write instruction z cause)
+      → Reachable (pushFrame t (withCpu w (enterBusError (cpuOf w))) (busFrame (cpuOf w) a write instruction z cause)) 2
+      → Image (withCpu w (enterBusError (cpuOf w))) (exceptionBusError t w a write instruction z cause) (busFrame (cpuOf w) a write instruction z cause)
   unfolding exceptionBusError
-  bus-image z cause h r = entry-image t (on w (enterBusError (cpuOf w))) (busFrame (cpuOf w) a write instruction z cause) 2 (bus-shape (cpuOf w) a write instruction z cause) h r
+  bus-image z cause h r = entry-image t (withCpu w (enterBusError (cpuOf w))) (busFrame (cpuOf w) a write instruction z cause) 2 (bus-shape (cpuOf w) a write instruction z cause) h r
 
   -- and lowers the supervisor's A7 by the length of the table, 14 on kind 1
-  pub bus-a7 : (z cause : ℕ) → kindOf (cpuOf w) < 12 → Ready (on w (enterBusError (cpuOf w))) (busFrame (cpuOf w) a write instruction z cause)
-      → Reachable (pushFrame t (on w (enterBusError (cpuOf w))) (busFrame (cpuOf w) a write instruction z cause)) 2
+  pub bus-a7 : (z cause : ℕ) → kindOf (cpuOf w) < 12 → Ready (withCpu w (enterBusError (cpuOf w))) (busFrame (cpuOf w) a write instruction z cause)
+      → Reachable (pushFrame t (withCpu w (enterBusError (cpuOf w))) (busFrame (cpuOf w) a write instruction z cause)) 2
       → a7Of (cpuOf (exceptionBusError t w a write instruction z cause)) ≡ minus32 (a7Of (enterBusError (cpuOf w))) (errorLength (kindOf (cpuOf w)) (busFormat (kindOf (cpuOf w))))
   unfolding putCpu
   bus-a7 z cause k h r = bus-image z cause h r .a7 ∙ ap (λ (n : ℕ). minus32 (a7Of (enterBusError (cpuOf w))) n) (bus-length (cpuOf w) a write instruction z cause k)
 
   -- an address error entry whose accesses are all served leaves the image of its frame on the supervisor stack
-  pub address-image : Ready (on w (enterSupervisor (cpuOf w))) (addressFrame (cpuOf w) a write instruction)
-      → Reachable (pushFrame t (on w (enterSupervisor (cpuOf w))) (addressFrame (cpuOf w) a write instruction)) 3
-      → Image (on w (enterSupervisor (cpuOf w))) (exceptionAddressError t w a write instruction) (addressFrame (cpuOf w) a write instruction)
+  pub address-image : Ready (withCpu w (enterSupervisor (cpuOf w))) (addressFrame (cpuOf w) a write instruction)
+      → Reachable (pushFrame t (withCpu w (enterSupervisor (cpuOf w))) (addressFrame (cpuOf w) a write instruction)) 3
+      → Image (withCpu w (enterSupervisor (cpuOf w))) (exceptionAddressError t w a write instruction) (addressFrame (cpuOf w) a write instruction)
   unfolding exceptionAddressError
-  address-image h r = entry-image t (on w (enterSupervisor (cpuOf w))) (addressFrame (cpuOf w) a write instruction) 3 (address-shape (cpuOf w) a write instruction) h r
+  address-image h r = entry-image t (withCpu w (enterSupervisor (cpuOf w))) (addressFrame (cpuOf w) a write instruction) 3 (address-shape (cpuOf w) a write instruction) h r
 
   -- and lowers the supervisor's A7 by the length of the table, 14 on kind 1
-  pub address-a7 : kindOf (cpuOf w) < 12 → Ready (on w (enterSupervisor (cpuOf w))) (addressFrame (cpuOf w) a write instruction)
-      → Reachable (pushFrame t (on w (enterSupervisor (cpuOf w))) (addressFrame (cpuOf w) a write instruction)) 3
+  pub address-a7 : kindOf (cpuOf w) < 12 → Ready (withCpu w (enterSupervisor (cpuOf w))) (addressFrame (cpuOf w) a write instruction)
+      → Reachable (pushFrame t (withCpu w (enterSupervisor (cpuOf w))) (addressFrame (cpuOf w) a write instruction)) 3
       → a7Of (cpuOf (exceptionAddressError t w a write instruction)) ≡ minus32 (a7Of (enterSupervisor (cpuOf w))) (errorLength (kindOf (cpuOf w)) (addressFormat (kindOf (cpuOf w))))
   unfolding putCpu
   address-a7 k h r = address-image h r .a7 ∙ ap (λ (n : ℕ). minus32 (a7Of (enterSupervisor (cpuOf w))) n) (address-length (cpuOf w) a write instruction k)
 
 -- the end of an entry changes no register, no byte, no window and not the kind
-closed-still : (w : World) → Still w (closed w)
+close-bus-still : (w : World) → Still w (step closeBus w)
 unfolding keepResume setException putCpu kindOf calm
-closed-still w = record { regs = refl; kind = refl; bus = refl; store = refl }
+close-bus-still w = record { regs = refl; kind = refl; bus = refl; store = refl }
 
-ended-still : (w : World) → Still w (ended w)
+close-address-still : (w : World) → Still w (step keepResume w)
 unfolding keepResume putCpu kindOf calm
-ended-still w = record { regs = refl; kind = refl; bus = refl; store = refl }
+close-address-still w = record { regs = refl; kind = refl; bus = refl; store = refl }
 
 module _ (n : ℕ) (w : World) (a : ℕ) (write instruction : Bool) (h : isFaulted (cpuOf w) ≡ false) where
   -- the record with status and registers as saved, on which a bus or an address error is stacked
@@ -344,22 +344,22 @@ module _ (n : ℕ) (w : World) (a : ℕ) (write instruction : Bool) (h : isFault
   addressBegun = beginAddress (cpuOf w)
 
   -- a bus error that is raised while none is under way, its accesses all served, leaves the image of its frame
-  pub bus-raised : (z : ℕ) → inException (cpuOf w) ≡ false → Ready (on w (enterBusError busBegun)) (busFrame busBegun a write instruction z (causeNumberOf (cpuOf w)))
-      → Reachable (pushFrame (trigger n) (on w (enterBusError busBegun)) (busFrame busBegun a write instruction z (causeNumberOf (cpuOf w)))) 2
-      → Image (on w (enterBusError busBegun)) (trigger (suc n) w (busError a write instruction z)) (busFrame busBegun a write instruction z (causeNumberOf (cpuOf w)))
+  pub bus-raised : (z : ℕ) → inException (cpuOf w) ≡ false → Ready (withCpu w (enterBusError busBegun)) (busFrame busBegun a write instruction z (causeNumberOf (cpuOf w)))
+      → Reachable (pushFrame (trigger n) (withCpu w (enterBusError busBegun)) (busFrame busBegun a write instruction z (causeNumberOf (cpuOf w)))) 2
+      → Image (withCpu w (enterBusError busBegun)) (trigger (suc n) w (busError a write instruction z)) (busFrame busBegun a write instruction z (causeNumberOf (cpuOf w)))
   unfolding trigger raiseBus putCpu
   bus-raised z e r l =
       rw (h, e)
-      (image-still (on w (enterBusError busBegun)) (exceptionBusError (trigger n) (on w busBegun) a write instruction z (causeNumberOf (cpuOf w))) (closed (exceptionBusError (trigger n) (on w busBegun) a write instruction z (causeNumberOf (cpuOf w)))) (busFrame busBegun a write instruction z (causeNumberOf (cpuOf w)))
-      (bus-image (trigger n) (on w busBegun) a write instruction z (causeNumberOf (cpuOf w)) r l)
-      (closed-still (exceptionBusError (trigger n) (on w busBegun) a write instruction z (causeNumberOf (cpuOf w)))))
+      (image-still (withCpu w (enterBusError busBegun)) (exceptionBusError (trigger n) (withCpu w busBegun) a write instruction z (causeNumberOf (cpuOf w))) (step closeBus (exceptionBusError (trigger n) (withCpu w busBegun) a write instruction z (causeNumberOf (cpuOf w)))) (busFrame busBegun a write instruction z (causeNumberOf (cpuOf w)))
+      (bus-image (trigger n) (withCpu w busBegun) a write instruction z (causeNumberOf (cpuOf w)) r l)
+      (close-bus-still (exceptionBusError (trigger n) (withCpu w busBegun) a write instruction z (causeNumberOf (cpuOf w)))))
 
   -- an address error that is raised, its accesses all served, leaves the image of its frame
-  pub address-raised : Ready (on w (enterSupervisor addressBegun)) (addressFrame addressBegun a write instruction)
-      → Reachable (pushFrame (trigger n) (on w (enterSupervisor addressBegun)) (addressFrame addressBegun a write instruction)) 3
-      → Image (on w (enterSupervisor addressBegun)) (trigger (suc n) w (addressError a write instruction)) (addressFrame addressBegun a write instruction)
+  pub address-raised : Ready (withCpu w (enterSupervisor addressBegun)) (addressFrame addressBegun a write instruction)
+      → Reachable (pushFrame (trigger n) (withCpu w (enterSupervisor addressBegun)) (addressFrame addressBegun a write instruction)) 3
+      → Image (withCpu w (enterSupervisor addressBegun)) (trigger (suc n) w (addressError a write instruction)) (addressFrame addressBegun a write instruction)
   unfolding trigger raiseAddress putCpu
   address-raised r l =
       rw h
-      (image-still (on w (enterSupervisor addressBegun)) (exceptionAddressError (trigger n) (on w addressBegun) a write instruction) (ended (exceptionAddressError (trigger n) (on w addressBegun) a write instruction)) (addressFrame addressBegun a write instruction)
-      (address-image (trigger n) (on w addressBegun) a write instruction r l) (ended-still (exceptionAddressError (trigger n) (on w addressBegun) a write instruction)))
+      (image-still (withCpu w (enterSupervisor addressBegun)) (exceptionAddressError (trigger n) (withCpu w addressBegun) a write instruction) (step keepResume (exceptionAddressError (trigger n) (withCpu w addressBegun) a write instruction)) (addressFrame addressBegun a write instruction)
+      (address-image (trigger n) (withCpu w addressBegun) a write instruction r l) (close-address-still (exceptionAddressError (trigger n) (withCpu w addressBegun) a write instruction)))

@@ -16,12 +16,13 @@ use Rattle.memory.specs.declared.Core.{Core}
 use Rattle.memory.specs.declared.Bus.{Bus}
 use Rattle.memory.specs.Log.{counted}
 use Rattle.memory.specs.Served.{meets, clearOf, windowsInUse, inStore, servedOf, placeOf}
-use Rattle.memory.specs.World.{World, world, noted, stored, withCpu, putCpu, widthOf, served, written, flush, rawWrite, tryWrite}
+use Rattle.memory.specs.World.{World, world, noted, stored, withCpu, putCpu, widthOf, served, written, flush, rawWrite, tryWrite, cpuOf}
 use Rattle.memory.specs.ByteLaws.{put}
 use Rattle.memory.specs.AccessLaws.{kept, write-store}
 use Rattle.frames.specs.declared.Field.{Field}
-use Rattle.steps.specs.Steps.{refusesOdd, isCounted, isRaw}
-use Rattle.faults.specs.Faults.{Raise, cpuOf, on, wrote, checkedWrite, writeAt, stackField}
+use Rattle.frames.specs.Frames.{isCounted, isRaw}
+use Rattle.steps.specs.Steps.{refusesOdd}
+use Rattle.faults.specs.Faults.{Raise, wrote, checkedWrite, writeAt, stackField}
 
 -- a bus with its events not counted: base, windows and responses
 unfoldable pub calm : Bus → Bus
@@ -65,7 +66,7 @@ pub record Left (w x : World) (s : List ℕ) : Type 0 where
 
 -- a sync stores nothing
 pub flush-left : (w : World) → Left w (flush w) (w .store)
-unfolding flush noted withCpu putCpu setClocks calm counted
+unfolding flush noted putCpu setClocks calm counted
 flush-left w = go (hasClocks (cpuOf w))
   where
     go : (t : Bool) → Left w (pick t (noted (withCpu w (setClocks (w .core .cpu) 0)) 5 0 (clocksOf (w .core .cpu))) w) (w .store)
@@ -90,7 +91,7 @@ raw-left w a g v h = record { same = raw-kept w a g v; store = write-store w a g
 
 -- a guarded write that nothing refuses is a raw one with the data kept
 checked-is : (t : Raise) (w : World) (a : ℕ) (g : Bool) (v : ℕ) → refusesOdd (cpuOf w) a ≡ false → served w a g ≡ true
-    → checkedWrite t w a g v ≡ rawWrite (on w (setWdata (cpuOf w) v)) a g v
+    → checkedWrite t w a g v ≡ rawWrite (withCpu w (setWdata (cpuOf w) v)) a g v
 unfolding checkedWrite wrote tryWrite served putCpu
 checked-is t w a g v h s = rw (h, s)
 
@@ -99,7 +100,7 @@ checked-left : (t : Raise) (w : World) (a : ℕ) (g : Bool) (v : ℕ) → refuse
 unfolding served putCpu setWdata
 checked-left t w a g v h s =
     rw (checked-is t w a g v h s)
-    (let r = raw-left (on w (setWdata (cpuOf w) v)) a g v s in
+    (let r = raw-left (withCpu w (setWdata (cpuOf w) v)) a g v s in
     record { same = record { flow = r .same .flow; regs = r .same .regs; precise = r .same .precise; bus = r .same .bus }; store = r .store })
 
 -- a guarded write that nothing refuses leaves its bytes

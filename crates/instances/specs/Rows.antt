@@ -12,7 +12,7 @@ use Rattle.cpu.specs.Clocks.{clocksOf, setClocks, internalCycles}
 use Rattle.requests.specs.Interrupts.{setIrq}
 use Rattle.memory.specs.World.{World, readValue}
 use Rattle.frames.specs.Codes.{functionCode, ssw020, ssw040, wb3s, fslw060}
-use Rattle.interrupts.specs.Interrupts.{iackVector}
+use Rattle.steps.specs.Steps.{iackVector}
 use Rattle.calls.specs.declared.Call.{Call}
 use Rattle.calls.specs.declared.Call.the-variants.{TakeException, Trap, ExceptionChk, ExceptionZeroDivide, ExceptionBusError, CheckAndServiceInterrupts}
 use Rattle.calls.specs.declared.Answer.{Answer}

@@ -12,11 +12,11 @@ use Rattle.cpu.specs.declared.Cpu.{Cpu}
 use Rattle.cpu.specs.Fields.{kindOf, ppcOf, wdataOf}
 use Rattle.cpu.specs.Clocks.{prefetchEnabled}
 use Rattle.memory.specs.Served.{servedOf}
-use Rattle.memory.specs.World.{World, putCpu, served, readValue}
+use Rattle.memory.specs.World.{World, putCpu, served, readValue, withCpu}
 use Rattle.frames.specs.declared.Frame.{Frame}
-use Rattle.frames.specs.Frames.{fieldAt, busFrame}
-use Rattle.steps.specs.Steps.{refusesOdd, enterBusError, isCounted}
-use Rattle.faults.specs.Faults.{on, raised, pushFrame, exceptionBusError}
+use Rattle.frames.specs.Frames.{fieldAt, busFrame, isCounted}
+use Rattle.steps.specs.Steps.{refusesOdd, enterBusError}
+use Rattle.faults.specs.Faults.{raised, pushFrame, exceptionBusError}
 use Rattle.images.specs.Images.{frameBytes, bottom, Ready, Sound, ready-whole}
 use Rattle.images.specs.Jumps.{Reachable, vectorPlace, handler, reachable-after}
 use Rattle.images.specs.Values.{bus-fields}
@@ -33,7 +33,7 @@ module _ (s : List ℕ) (h : length s ≡ 0x10000) (c : Cpu) (write instruction 
   called = holding s auto 192 c
 
   abbrev stacking : World
-  stacking = on called (enterBusError c)
+  stacking = withCpu called (enterBusError c)
 
   abbrev frame : Frame
   frame = busFrame c 0x1234 write instruction z (causeNumber cause)

@@ -1,21 +1,17 @@
 -- `check_and_service_interrupts` and `service_interrupt`, for every kind: what each makes of a world.
-use Prim.Native.Nat.{ℕ, _+_, _-_, _*_, _/_, _%_, _^_}
-use mathlib.Core.Bool.{Bool, true, false}
+use Prim.Native.Nat.{ℕ, _+_, _/_, _%_, _^_}
+use mathlib.Core.Bool.{true, false}
 use lib.Dec.{eqb}
 use Rattle.types.specs.Kinds.{pick, isEc020Plus, is060}
-use Rattle.cpu.specs.declared.Cpu.{Cpu}
-use Rattle.cpu.specs.Fields.{kindOf, pcOf, a7Of, lowerA7, clearStopped}
-use Rattle.status.specs.Status.{statusOf, setIntMask, clearM, mIsSet}
-use Rattle.status.specs.Banks.{enterSupervisor, setSmFlag}
+use Rattle.cpu.specs.Fields.{kindOf, pcOf, a7Of, lowerA7}
+use Rattle.status.specs.Status.{statusOf, clearM, mIsSet}
+use Rattle.status.specs.Banks.{setSmFlag}
 use Rattle.cpu.specs.Clocks.{internalCycles}
-use Rattle.requests.specs.Interrupts.{pendingLevel, takesInterrupt, clearLevel, chargeInterrupt}
-use Rattle.memory.specs.World.{World, Attempt, reply, tried, flush, acknowledged}
-use Rattle.faults.specs.Faults.{cpuOf, on, step, raised, writeAt, pushFrame, jumpVector}
+use Rattle.requests.specs.Interrupts.{pendingLevel, takesInterrupt, clearLevel}
+use Rattle.memory.specs.World.{World, Attempt, reply, tried, withCpu, cpuOf, step, flush, acknowledged}
+use Rattle.steps.specs.Steps.{iackVector, enterLevel, closeInterrupt, withS}
+use Rattle.faults.specs.Faults.{raised, writeAt, pushFrame, jumpVector}
 use Rattle.exceptions.specs.Frames.{formatWord, offsetWord, shortFrame}
-
--- `iack_vector`: 0xFFFFFFFF is the autovector of the level, any other response its low 8 bits
-unfoldable pub iackVector : ℕ → ℕ → ℕ
-iackVector response level = pick (eqb response 0xFFFFFFFF) (24 + level % 8) (response % 256)
 
 -- the acknowledge cycle: the world after it, and the vector as its value
 unfoldable pub vectorFrom : ℕ → Attempt → Attempt
@@ -28,10 +24,6 @@ acknowledgeLevel w level = vectorFrom level (acknowledged w level)
 unfoldable pub syncedAcknowledge : World → ℕ → ℕ → Attempt
 syncedAcknowledge w clocks level = acknowledgeLevel (flush (step (λ c. internalCycles c clocks) w)) level
 
--- the start of every interrupt: supervisor state, trace off, the mask at the level
-unfoldable pub enterLevel : Cpu → ℕ → Cpu
-enterLevel c level = setIntMask (enterSupervisor c) level
-
 -- kind 1: 6 clocks, PC low, 4 clocks and the acknowledge, 4 clocks, the status, PC high; A7 is lowered once
 unfoldable pub rest68000 : ℕ → ℕ → ℕ → Attempt → Attempt
 rest68000 sp pc sr x =
@@ -42,8 +34,8 @@ rest68000 sp pc sr x =
 unfoldable pub from68000 : World → ℕ → ℕ → ℕ → ℕ → Attempt
 from68000 w sp pc sr level = rest68000 sp pc sr (syncedAcknowledge (writeAt raised w ((sp + 4) % 2 ^ 32) false (pc % 0x10000)) 4 level)
 
-unfoldable pub frame68000Interrupt : World → ℕ → ℕ → ℕ → Attempt
-frame68000Interrupt w pc sr level = from68000 (on w (lowerA7 (internalCycles (cpuOf w) 6) 6)) (a7Of (lowerA7 (internalCycles (cpuOf w) 6) 6)) pc sr level
+unfoldable pub pushInterrupt68000 : World → ℕ → ℕ → ℕ → Attempt
+pushInterrupt68000 w pc sr level = from68000 (withCpu w (lowerA7 (internalCycles (cpuOf w) 6) 6)) (a7Of (lowerA7 (internalCycles (cpuOf w) 6) 6)) pc sr level
 
 -- kind 2: 12 clocks and the acknowledge, then PC low, the status, PC high and the format word; A7 is lowered once
 unfoldable pub writes68010 : World → ℕ → ℕ → ℕ → ℕ → World
@@ -58,24 +50,20 @@ rest68010 pc sr x =
     (writes68010 (step (λ c. lowerA7 c 8) (x .after)) (a7Of (lowerA7 (cpuOf (x .after)) 8)) pc sr (offsetWord (x .value)))
     true (x .value)
 
-unfoldable pub frame68010Interrupt : World → ℕ → ℕ → ℕ → Attempt
-frame68010Interrupt w pc sr level = rest68010 pc sr (syncedAcknowledge w 12 level)
+unfoldable pub pushInterrupt68010 : World → ℕ → ℕ → ℕ → Attempt
+pushInterrupt68010 w pc sr level = rest68010 pc sr (syncedAcknowledge w 12 level)
 
 -- other kinds: the acknowledge, then format 0
 unfoldable pub restOther : ℕ → ℕ → Attempt → Attempt
 restOther pc sr x = reply (pushFrame raised (x .after) (shortFrame sr pc (offsetWord (x .value)))) true (x .value)
 
-unfoldable pub frameOther : World → ℕ → ℕ → ℕ → Attempt
-frameOther w pc sr level = restOther pc sr (acknowledgeLevel w level)
+unfoldable pub pushInterruptOther : World → ℕ → ℕ → ℕ → Attempt
+pushInterruptOther w pc sr level = restOther pc sr (acknowledgeLevel w level)
 
 unfoldable pub firstFrame : World → ℕ → ℕ → ℕ → Attempt
 firstFrame w pc sr level =
-    pick (eqb (kindOf (cpuOf w)) 1) (frame68000Interrupt w pc sr level)
-    (pick (eqb (kindOf (cpuOf w)) 2) (frame68010Interrupt w pc sr level) (frameOther w pc sr level))
-
--- a status with S set
-unfoldable pub withS : ℕ → ℕ
-withS sr = sr - sr / 0x2000 % 2 * 0x2000 + 0x2000
+    pick (eqb (kindOf (cpuOf w)) 1) (pushInterrupt68000 w pc sr level)
+    (pick (eqb (kindOf (cpuOf w)) 2) (pushInterrupt68010 w pc sr level) (pushInterruptOther w pc sr level))
 
 -- after the first frame, where M is set: on kinds 3 to 9 M is cleared with the stack and a format 1 frame follows on the
 -- interrupt stack, its status with S set; on kind 11 M is cleared and the stack stays
@@ -89,11 +77,8 @@ secondFrame w pc sr v =
     (pick (is060 (kindOf (cpuOf w))) (step clearM w) w)) w
 
 -- the jump; then `stopped` is 0 and the cycles are charged
-unfoldable pub closed : Cpu → Cpu
-closed c = chargeInterrupt (clearStopped c)
-
 unfoldable pub ended : World → World
-ended w = step closed w
+ended w = step closeInterrupt w
 
 unfoldable pub dispatched : ℕ → ℕ → Attempt → World
 dispatched pc sr x = ended (jumpVector raised (secondFrame (x .after) pc sr (x .value)) (x .value))

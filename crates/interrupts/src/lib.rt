@@ -2,13 +2,10 @@
 // `faults` and everything below; `calls` uses it.
 use exceptions::formats;
 use memory::Core;
-
-pub mod state; // what an interrupt tests and changes on the record
-
 ghost use mathlib.Core.Path.{_≡_};
 ghost use mathlib.Core.Bool.{true, false};
 ghost use Rattle.memory.specs.World.{world, reply, tried};
-ghost use Rattle.interrupts.specs.Interrupts.{acknowledgeLevel, syncedAcknowledge, from68000, frame68000Interrupt, writes68010, frame68010Interrupt, frameOther, firstFrame, throwaway, secondFrame, serviceInterrupt, checkAndService};
+ghost use Rattle.interrupts.specs.Interrupts.{acknowledgeLevel, syncedAcknowledge, from68000, writes68010, firstFrame, throwaway, secondFrame, serviceInterrupt, checkAndService, pushInterrupt68000, pushInterrupt68010, pushInterruptOther};
 
 // A core after the first frame, and the vector that the acknowledge gave.
 pub struct Stacked {
@@ -28,7 +25,7 @@ fn acknowledge_level(m: Core, store: &mut [u8], log: &mut [u32], level: u8) -> S
 {
     let a = memory::acknowledge(m, store, log, level);
     let d = a.core;
-    let v = state::iack_vector(a.response, level);
+    let v = steps::iack_vector(a.response, level);
     Stacked { core: d, vector: v }
 }
 
@@ -36,7 +33,7 @@ fn acknowledge_level(m: Core, store: &mut [u8], log: &mut [u32], level: u8) -> S
 fn synced_acknowledge(m: Core, store: &mut [u8], log: &mut [u32], clocks: u32, level: u8) -> Stacked
     ensures { λ r. ⌜ reply (world (r .core) (now (store .exit)) (now (log .exit))) true (r .vector) ≡ syncedAcknowledge (world m (now (store .entry)) (now (log .entry))) clocks level ⌝ }
 {
-    let a = steps::internal_cycles(m, clocks);
+    let a = memory::with_cpu(m, cpu::clocks::internal_cycles(m.cpu, clocks));
     let b = memory::flush_sync(a, store, log);
     acknowledge_level(b, store, log, level)
 }
@@ -54,14 +51,14 @@ fn from_68000(
     ensures { λ r. ⌜ reply (world (r .core) (now (store .exit)) (now (log .exit))) true (r .vector) ≡ from68000 (world m (now (store .entry)) (now (log .entry))) sp pc sr level ⌝ }
 {
     let p4 = steps::plus(sp, 4);
-    let low = state::low_word(pc);
+    let low = steps::low_word(pc);
     let a = faults::write_16(m, store, log, p4, low);
     let x = synced_acknowledge(a, store, log, 4, level);
     let b = x.core;
-    let d = steps::internal_cycles(b, 4);
+    let d = memory::with_cpu(b, cpu::clocks::internal_cycles(b.cpu, 4));
     let e = faults::write_16(d, store, log, sp, sr);
     let p2 = steps::plus(sp, 2);
-    let high = state::high_word(pc);
+    let high = steps::high_word(pc);
     let g = faults::write_16(e, store, log, p2, high);
     Stacked {
         core: g,
@@ -70,11 +67,19 @@ fn from_68000(
 }
 
 // 68000: 6 clocks, and A7 lowered once.
-fn frame_68000(m: Core, store: &mut [u8], log: &mut [u32], pc: u32, sr: u16, level: u8) -> Stacked
-    ensures { λ r. ⌜ reply (world (r .core) (now (store .exit)) (now (log .exit))) true (r .vector) ≡ frame68000Interrupt (world m (now (store .entry)) (now (log .entry))) pc sr level ⌝ }
+fn push_interrupt_68000(
+    m: Core,
+    store: &mut [u8],
+    log: &mut [u32],
+    pc: u32,
+    sr: u16,
+    level: u8,
+) -> Stacked
+    ensures { λ r. ⌜ reply (world (r .core) (now (store .exit)) (now (log .exit))) true (r .vector) ≡ pushInterrupt68000 (world m (now (store .entry)) (now (log .entry))) pc sr level ⌝ }
 {
-    let a = state::lowered_68000(m);
-    let sp = state::lowered_top(m);
+    let c = cpu::fields::lower_a7(cpu::clocks::internal_cycles(m.cpu, 6), 6);
+    let sp = cpu::fields::a7(c);
+    let a = memory::with_cpu(m, c);
     from_68000(a, store, log, sp, pc, sr, level)
 }
 
@@ -91,25 +96,33 @@ fn writes_68010(
     ensures { λ r. ⌜ world r (now (store .exit)) (now (log .exit)) ≡ writes68010 (world m (now (store .entry)) (now (log .entry))) sp pc sr format ⌝ }
 {
     let p4 = steps::plus(sp, 4);
-    let low = state::low_word(pc);
+    let low = steps::low_word(pc);
     let a = faults::write_16(m, store, log, p4, low);
     let b = faults::write_16(a, store, log, sp, sr);
     let p2 = steps::plus(sp, 2);
-    let high = state::high_word(pc);
+    let high = steps::high_word(pc);
     let d = faults::write_16(b, store, log, p2, high);
     let p6 = steps::plus(sp, 6);
     faults::write_16(d, store, log, p6, format)
 }
 
 // 68010: 12 clocks, the acknowledge, and A7 lowered once.
-fn frame_68010(m: Core, store: &mut [u8], log: &mut [u32], pc: u32, sr: u16, level: u8) -> Stacked
-    ensures { λ r. ⌜ reply (world (r .core) (now (store .exit)) (now (log .exit))) true (r .vector) ≡ frame68010Interrupt (world m (now (store .entry)) (now (log .entry))) pc sr level ⌝ }
+fn push_interrupt_68010(
+    m: Core,
+    store: &mut [u8],
+    log: &mut [u32],
+    pc: u32,
+    sr: u16,
+    level: u8,
+) -> Stacked
+    ensures { λ r. ⌜ reply (world (r .core) (now (store .exit)) (now (log .exit))) true (r .vector) ≡ pushInterrupt68010 (world m (now (store .entry)) (now (log .entry))) pc sr level ⌝ }
 {
     let x = synced_acknowledge(m, store, log, 12, level);
     let a = x.core;
-    let b = state::lowered_68010(a);
-    let sp = state::lowered_top_68010(a);
-    let format = state::offset_u16(x.vector);
+    let c = cpu::fields::lower_a7(a.cpu, 8);
+    let sp = cpu::fields::a7(c);
+    let b = memory::with_cpu(a, c);
+    let format = formats::offset_word(x.vector);
     let d = writes_68010(b, store, log, sp, pc, sr, format);
     Stacked {
         core: d,
@@ -118,14 +131,20 @@ fn frame_68010(m: Core, store: &mut [u8], log: &mut [u32], pc: u32, sr: u16, lev
 }
 
 // Other kinds: the acknowledge, then format 0.
-fn frame_other(m: Core, store: &mut [u8], log: &mut [u32], pc: u32, sr: u16, level: u8) -> Stacked
-    ensures { λ r. ⌜ reply (world (r .core) (now (store .exit)) (now (log .exit))) true (r .vector) ≡ frameOther (world m (now (store .entry)) (now (log .entry))) pc sr level ⌝ }
+fn push_interrupt_other(
+    m: Core,
+    store: &mut [u8],
+    log: &mut [u32],
+    pc: u32,
+    sr: u16,
+    level: u8,
+) -> Stacked
+    ensures { λ r. ⌜ reply (world (r .core) (now (store .exit)) (now (log .exit))) true (r .vector) ≡ pushInterruptOther (world m (now (store .entry)) (now (log .entry))) pc sr level ⌝ }
 {
     let x = acknowledge_level(m, store, log, level);
     let a = x.core;
     let format = formats::offset_word(x.vector);
-    let n = state::wide(sr);
-    let f = formats::short_frame(n, pc, format);
+    let f = formats::short_frame(sr as u32, pc, format as u32);
     let b = faults::push_frame(a, store, log, f);
     Stacked {
         core: b,
@@ -137,13 +156,14 @@ fn frame_other(m: Core, store: &mut [u8], log: &mut [u32], pc: u32, sr: u16, lev
 fn first_frame(m: Core, store: &mut [u8], log: &mut [u32], pc: u32, sr: u16, level: u8) -> Stacked
     ensures { λ r. ⌜ reply (world (r .core) (now (store .exit)) (now (log .exit))) true (r .vector) ≡ firstFrame (world m (now (store .entry)) (now (log .entry))) pc sr level ⌝ }
 {
-    if state::is_68000(m) {
-        return frame_68000(m, store, log, pc, sr, level);
+    let k = cpu::fields::kind(m.cpu);
+    if k == types::M68000 {
+        return push_interrupt_68000(m, store, log, pc, sr, level);
     }
-    if state::is_68010(m) {
-        return frame_68010(m, store, log, pc, sr, level);
+    if k == types::M68010 {
+        return push_interrupt_68010(m, store, log, pc, sr, level);
     }
-    frame_other(m, store, log, pc, sr, level)
+    push_interrupt_other(m, store, log, pc, sr, level)
 }
 
 // The format 1 frame on the interrupt stack.
@@ -157,8 +177,8 @@ fn throwaway_frame(
 ) -> Core
     ensures { λ r. ⌜ world r (now (store .exit)) (now (log .exit)) ≡ throwaway (world m (now (store .entry)) (now (log .entry))) pc sr vector ⌝ }
 {
-    let a = state::interrupt_stack(m);
-    let n = state::with_s(sr);
+    let a = memory::with_cpu(m, status::banks::set_sm_flag(m.cpu, 4));
+    let n = steps::with_s(sr);
     let format = formats::format_word(1, vector);
     let f = formats::short_frame(n, pc, format);
     faults::push_frame(a, store, log, f)
@@ -168,12 +188,13 @@ fn throwaway_frame(
 fn second_frame(m: Core, store: &mut [u8], log: &mut [u32], pc: u32, sr: u16, vector: u32) -> Core
     ensures { λ r. ⌜ world r (now (store .exit)) (now (log .exit)) ≡ secondFrame (world m (now (store .entry)) (now (log .entry))) pc sr vector ⌝ }
 {
-    if state::m_is_set(m) {
-        if state::is_ec020_plus(m) {
+    if status::m_is_set(m.cpu) {
+        let k = cpu::fields::kind(m.cpu);
+        if types::is_ec020_plus(k) {
             return throwaway_frame(m, store, log, pc, sr, vector);
         }
-        if state::is_060(m) {
-            return state::clear_m(m);
+        if types::is_060(k) {
+            return memory::with_cpu(m, status::clear_m(m.cpu));
         }
         return m;
     }
@@ -184,23 +205,23 @@ fn second_frame(m: Core, store: &mut [u8], log: &mut [u32], pc: u32, sr: u16, ve
 pub fn service_interrupt(m: Core, store: &mut [u8], log: &mut [u32], level: u8) -> Core
     ensures { λ r. ⌜ world r (now (store .exit)) (now (log .exit)) ≡ serviceInterrupt (world m (now (store .entry)) (now (log .entry))) level ⌝ }
 {
-    let pc = steps::pc(m);
-    let sr = state::status(m);
-    let a = state::enter_level(m, level);
+    let pc = cpu::fields::pc(m.cpu);
+    let sr = status::get_sr(m.cpu);
+    let a = memory::with_cpu(m, steps::enter_level(m.cpu, level));
     let x = first_frame(a, store, log, pc, sr, level);
     let b = second_frame(x.core, store, log, pc, sr, x.vector);
     let d = faults::jump_vector(b, store, log, x.vector);
-    state::close(d)
+    memory::with_cpu(d, steps::close_interrupt(d.cpu))
 }
 
 // The interrupt call.
 pub fn check_and_service_interrupts(m: Core, store: &mut [u8], log: &mut [u32]) -> Serviced
     ensures { λ r. ⌜ tried (world (r .core) (now (store .exit)) (now (log .exit))) (r .taken) ≡ checkAndService (world m (now (store .entry)) (now (log .entry))) ⌝ }
 {
-    if state::takes(m) {
-        let level = state::level(m);
+    if requests::interrupts::takes_interrupt(m.cpu) {
+        let level = requests::interrupts::pending_level(m.cpu);
         let a = service_interrupt(m, store, log, level);
-        let b = state::clear_level(a);
+        let b = memory::with_cpu(a, requests::interrupts::clear_level(a.cpu));
         return Serviced {
             core: b,
             taken: true,

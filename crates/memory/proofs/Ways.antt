@@ -12,7 +12,7 @@ use Rattle.cpu.specs.Clocks.{clocksOf, hasClocks, setClocks}
 use Rattle.cpu.specs.declared.Cpu.{Cpu}
 use Rattle.memory.specs.Bytes.{getLong, getWord, putLong, putWord}
 use Rattle.memory.specs.Served.{clearOf, inStore, placeOf, servedOf, windowsInUse}
-use Rattle.memory.specs.World.{acknowledged, fetched, flush, noted, putCpu, rawRead, rawWrite, readValue, release, reply, responseOf, served, stored, tried, tryRead, tryWrite, widthOf, withCpu, world, written}
+use Rattle.memory.specs.World.{acknowledged, fetched, flush, noted, putCpu, rawRead, rawWrite, readValue, release, reply, responseOf, served, stored, tried, tryRead, tryWrite, widthOf, world, written}
 use Rattle.memory.specs.declared.Bus.{Bus}
 use Rattle.memory.specs.declared.Core.{Core}
 
@@ -49,11 +49,11 @@ unfolding tryRead rawRead readValue served fetched
 try-read-way-4 m s l address long n b s1 l1 r h0 h1 h2 h3 h4 = cc
 
 pub flush-sync-way : (m : Core) (s l : List ℕ) (b : Bool) (n : ℕ) (r : Cpu) (r1 : Core) (s1 l1 : List ℕ) (r2 : Core) → b ≡ hasClocks (m .cpu) → b ≡ true → n ≡ clocksOf (m .cpu) → r ≡ setClocks (m .cpu) 0 → r1 ≡ putCpu m r → world r2 s1 l1 ≡ noted (world r1 s l) 5 0 n → world r2 s1 l1 ≡ flush (world m s l)
-unfolding flush withCpu
+unfolding flush
 flush-sync-way m s l b n r r1 s1 l1 r2 h0 h1 h2 h3 h4 h5 = cc
 
 pub flush-sync-way-2 : (m : Core) (s l : List ℕ) (b : Bool) → b ≡ hasClocks (m .cpu) → b ≡ false → world m s l ≡ flush (world m s l)
-unfolding flush withCpu
+unfolding flush
 flush-sync-way-2 m s l b h0 h1 = cc
 
 pub release-sample-way : (m : Core) (s l s1 l1 : List ℕ) (r : Core) → world r s1 l1 ≡ noted (world m s l) 7 0 0 → world r s1 l1 ≡ release (world m s l)

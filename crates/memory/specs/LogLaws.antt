@@ -132,12 +132,12 @@ flush-none w h = rw h
 
 -- clocks that wait: one event with code 5, address 0 and the clocks; the record has no clocks then, and is else the same
 pub flush-one : (w : World) → hasClocks (w .core .cpu) ≡ true → Logged w (flush w) 5 0 (clocksOf (w .core .cpu)) × (flush w .core .cpu ≡ setClocks (w .core .cpu) 0)
-unfolding flush noted withCpu putCpu
+unfolding flush noted putCpu
 flush-one w h = rw h (record { log = refl; bus = refl }, refl)
 
 -- after a flush no clocks wait
 pub flush-clears : (w : World) → hasClocks (flush w .core .cpu) ≡ false
-unfolding flush noted withCpu putCpu setClocks hasClocks
+unfolding flush noted putCpu setClocks hasClocks
 flush-clears w = go (hasClocks (w .core .cpu)) refl
   where
     go : (t : Bool) → hasClocks (w .core .cpu) ≡ t → hasClocks (pick t (noted (withCpu w (setClocks (w .core .cpu) 0)) 5 0 (clocksOf (w .core .cpu))) w .core .cpu) ≡ false
@@ -146,7 +146,7 @@ flush-clears w = go (hasClocks (w .core .cpu)) refl
 
 -- a flush keeps the store
 pub flush-store : (w : World) → flush w .store ≡ w .store
-unfolding flush noted withCpu
+unfolding flush noted
 flush-store w = go (hasClocks (w .core .cpu))
   where
     go : (t : Bool) → pick t (noted (withCpu w (setClocks (w .core .cpu) 0)) 5 0 (clocksOf (w .core .cpu))) w .store ≡ w .store

@@ -37,8 +37,15 @@ reply w b v = record { after = w; ok = b; value = v }
 unfoldable pub putCpu : Core → Cpu → Core
 putCpu m c = record { cpu = c; bus = m .bus }
 
-unfoldable pub withCpu : World → Cpu → World
+abbrev pub withCpu : World → Cpu → World
 withCpu w c = record { core = putCpu (w .core) c; store = w .store; log = w .log }
+
+-- the record of a world, and one step of it
+abbrev pub cpuOf : World → Cpu
+cpuOf w = w .core .cpu
+
+abbrev pub step : (Cpu → Cpu) → World → World
+step f w = withCpu w (f (cpuOf w))
 
 -- the store is replaced
 unfoldable pub stored : World → List ℕ → World

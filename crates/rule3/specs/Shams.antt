@@ -25,7 +25,7 @@ module _ (engine : Engine) (xs : List (Step (machineOf engine))) (r : Cpu) (s : 
       → toldTest engine (end (machineOf engine) xs r s) ≡ false → Rule3 (machineOf engine) → ⊥
   caught e d f rule =
       let t : toldTest engine (end (machineOf engine) xs r s) ≡ true =
-        told-tested engine (end (machineOf engine) xs r s) (rule .tells xs r s (premises-tested engine xs r s e) (ltb-true 0 (depth (machineOf engine) (end (machineOf engine) xs r s)) d)) in
+      told-tested engine (end (machineOf engine) xs r s) (rule .tells xs r s (premises-tested engine xs r s e) (ltb-true 0 (depth (machineOf engine) (end (machineOf engine) xs r s)) d)) in
       let z : true ≡ false = sym t ∙ f in
       let y : _≡_ {A = ℕ} 0 1 = cc in absurd (omega arith)
 

@@ -9,37 +9,16 @@ use lib.ListN.{length, getD, set}
 use lib.Dec.{eqb, ltb, leb}
 use native.Mathlib.Numerals.{sub-one}
 use Rattle.cpu.specs.Clocks.{internalCycles}
-use Rattle.cpu.specs.Fields.{clearCause, clearFcOverride, halted, inException, pcOf, restoreRegisters, setException, vbrOf}
+use Rattle.cpu.specs.Fields.{clearCause, clearFcOverride, clearStopped, leaveStop, pcOf, ppcOf, restoreRegisters, setException, vbrOf}
 use Rattle.cpu.specs.declared.Cpu.{Cpu}
-use Rattle.memory.specs.World.{putCpu}
-use Rattle.memory.specs.declared.Core.{Core}
+use Rattle.requests.specs.Interrupts.{chargeInterrupt}
 use Rattle.status.specs.Banks.{enterSupervisor}
-use Rattle.status.specs.Status.{keepResume, restoreSr}
-use Rattle.steps.specs.Steps.{beginAddress, beginBus, enterBusError, vectorAddress}
+use Rattle.status.specs.Status.{keepResume, restoreSr, setIntMask}
+use Rattle.steps.specs.Steps.{beginAddress, beginBus, beginEntry, beginTrace, closeBus, closeInterrupt, enterBusError, enterLevel, stackedAddress, stacksNext, vectorAddress}
 
-pub in-exception-way : (m : Cpu) (b : Bool) → b ≡ inException m → b ≡ inException m
-unfolding inException
-in-exception-way m b h0 = cc
-
-pub pc-way : (m : Cpu) (n : ℕ) → n ≡ pcOf m → n ≡ pcOf m
-unfolding pcOf
-pc-way m n h0 = cc
-
-pub halt-way : (m : Core) (r : Cpu) (r1 : Core) → r ≡ halted (m .cpu) → r1 ≡ putCpu m r → r1 ≡ putCpu m (halted (m .cpu))
-unfolding putCpu
-halt-way m r r1 h0 h1 = cc
-
-pub internal-cycles-way : (m : Core) (n : ℕ) (r : Cpu) (r1 : Core) → r ≡ internalCycles (m .cpu) n → r1 ≡ putCpu m r → r1 ≡ putCpu m (internalCycles (m .cpu) n)
-unfolding putCpu
-internal-cycles-way m n r r1 h0 h1 = cc
-
-pub supervisor-way : (m : Core) (r : Cpu) (r1 : Core) → r ≡ enterSupervisor (m .cpu) → r1 ≡ putCpu m r → r1 ≡ putCpu m (enterSupervisor (m .cpu))
-unfolding putCpu
-supervisor-way m r r1 h0 h1 = cc
-
-pub vector-address-way : (c : Cpu) (v n n1 : ℕ) → n ≡ vbrOf c → n1 ≡ (((v % 1073741824) * 4) + n) % 2 ^ 32 → n1 ≡ vectorAddress c v
-unfolding vectorAddress
-vector-address-way c v n n1 h0 h1 = cc
+pub vector-address-way : (c : Cpu) (v n : ℕ) → n ≡ (((v % 1073741824) * 4) + (c .flow .vbr)) % 2 ^ 32 → n ≡ vectorAddress c v
+unfolding vectorAddress vbrOf
+vector-address-way c v n h0 = cc
 
 pub enter-bus-error-way : (c r r1 : Cpu) → r ≡ enterSupervisor c → r1 ≡ clearFcOverride r → r1 ≡ enterBusError c
 unfolding enterBusError
@@ -53,6 +32,29 @@ pub begin-address-way : (c r r1 : Cpu) → r ≡ restoreSr c → r1 ≡ restoreR
 unfolding beginAddress
 begin-address-way c r r1 h0 h1 = cc
 
-pub close-bus-way : (c r r1 : Cpu) → r ≡ setException c false → r1 ≡ keepResume r → r1 ≡ keepResume (setException c false)
-unfolding keepResume
+pub close-bus-way : (c r r1 : Cpu) → r ≡ setException c false → r1 ≡ keepResume r → r1 ≡ closeBus c
 close-bus-way c r r1 h0 h1 = cc
+
+pub stacked-address-way : (c : Cpu) (v : ℕ) (b : Bool) (n : ℕ) → b ≡ stacksNext v → b ≡ true → n ≡ pcOf c → n ≡ stackedAddress c v
+unfolding stackedAddress
+stacked-address-way c v b n h0 h1 h2 = cc
+
+pub stacked-address-way-2 : (c : Cpu) (v : ℕ) (b : Bool) (n : ℕ) → b ≡ stacksNext v → b ≡ false → n ≡ ppcOf c → n ≡ stackedAddress c v
+unfolding stackedAddress
+stacked-address-way-2 c v b n h0 h1 h2 = cc
+
+pub begin-entry-way : (c r r1 : Cpu) → r ≡ setException c true → r1 ≡ internalCycles r 4 → r1 ≡ beginEntry c
+unfolding beginEntry
+begin-entry-way c r r1 h0 h1 = cc
+
+pub begin-trace-way : (c r r1 : Cpu) → r ≡ leaveStop c → r1 ≡ internalCycles r 4 → r1 ≡ beginTrace c
+unfolding beginTrace
+begin-trace-way c r r1 h0 h1 = cc
+
+pub enter-level-way : (c : Cpu) (level : ℕ) (r r1 : Cpu) → r ≡ enterSupervisor c → r1 ≡ setIntMask r level → r1 ≡ enterLevel c level
+unfolding enterLevel
+enter-level-way c level r r1 h0 h1 = cc
+
+pub close-interrupt-way : (c r r1 : Cpu) → r ≡ clearStopped c → r1 ≡ chargeInterrupt r → r1 ≡ closeInterrupt c
+unfolding closeInterrupt
+close-interrupt-way c r r1 h0 h1 = cc

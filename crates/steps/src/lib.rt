@@ -1,75 +1,16 @@
-// What an entry tests and changes on the record of a core, one step each. It uses `memory` for the core, `frames` for a field's
-// mode, and everything below; `faults`, `exceptions` and `interrupts` use it.
+// What an entry tests and changes on the record, one step each, and the numbers that it computes. It uses `requests` for the end of
+// an interrupt, and everything below; `faults`, `exceptions` and `interrupts` use it.
 use cpu::Cpu;
-use frames::Field;
-use memory::Core;
 ghost use mathlib.Core.Path.{_≡_};
 ghost use mathlib.Core.Bool.{true, false};
-ghost use Prim.Native.Nat.{_+_, _%_, _^_};
-ghost use Rattle.memory.specs.World.{putCpu};
-ghost use Rattle.cpu.specs.Fields.{a7Of, pcOf, addressOf, isFaulted, inException, causeNumberOf, setPc, halted, setException, setWdata, startVector, lowerA7, oddPc};
-ghost use Rattle.status.specs.Status.{keepResume, statusOf};
-ghost use Rattle.status.specs.Banks.{enterSupervisor};
-ghost use Rattle.cpu.specs.Clocks.{prefetchEnabled, oneFetched, internalCycles, clearPrefetch, firstWord, secondWord};
-ghost use Rattle.steps.specs.Steps.{refusesOdd, vectorAddress, beginBus, beginAddress, enterBusError, isCounted, isRaw};
-
-// whether an entry that halts on a second fault is under way
-pub fn in_exception(m: Core) -> bool
-    ensures { λ r. ⌜ r ≡ inException (m .cpu) ⌝ }
-{
-    let c = m.cpu;
-    cpu::fields::in_exception(c)
-}
-
-// the program counter
-pub fn pc(m: Core) -> u32
-    ensures { λ r. ⌜ r ≡ pcOf (m .cpu) ⌝ }
-{
-    let c = m.cpu;
-    cpu::fields::pc(c)
-}
+ghost use Prim.Native.Nat.{_+_, _/_, _%_, _^_};
+ghost use Rattle.steps.specs.Steps.{refusesOdd, vectorAddress, beginBus, beginAddress, closeBus, enterBusError, stacksNext, stackedAddress, beginEntry, beginTrace, enterLevel, closeInterrupt, iackVector, withS};
 
 // a + n modulo 2^32.
 pub fn plus(a: u32, n: u32) -> u32
     ensures { λ r. ⌜ r ≡ (a + n) % 2 ^ 32 ⌝ }
 {
     std::num::wrapping_add_u32(a, n)
-}
-
-// a second fault halts
-pub fn halt(m: Core) -> Core
-    ensures { λ r. ⌜ r ≡ putCpu m (halted (m .cpu)) ⌝ }
-{
-    let c = m.cpu;
-    memory::with_cpu(m, cpu::fields::halt(c))
-}
-
-// `internal_cycles`
-pub fn internal_cycles(m: Core, n: u32) -> Core
-    ensures { λ r. ⌜ r ≡ putCpu m (internalCycles (m .cpu) n) ⌝ }
-{
-    let c = m.cpu;
-    memory::with_cpu(m, cpu::clocks::internal_cycles(c, n))
-}
-
-// supervisor state, trace off
-pub fn supervisor(m: Core) -> Core
-    ensures { λ r. ⌜ r ≡ putCpu m (enterSupervisor (m .cpu)) ⌝ }
-{
-    let c = m.cpu;
-    memory::with_cpu(m, status::banks::enter_supervisor(c))
-}
-
-pub fn is_counted(f: Field) -> bool
-    ensures { λ r. ⌜ r ≡ isCounted f ⌝ }
-{
-    f.mode == 2
-}
-
-pub fn is_raw(f: Field) -> bool
-    ensures { λ r. ⌜ r ≡ isRaw f ⌝ }
-{
-    f.mode == 1
 }
 
 // The low word of a long.
@@ -79,11 +20,37 @@ pub fn low_word(v: u32) -> u16
     (v % 0x10000) as u16
 }
 
+// The high word of a long.
+pub fn high_word(v: u32) -> u16
+    ensures { λ r. ⌜ r ≡ v / 0x10000 ⌝ }
+{
+    (v / 0x10000) as u16
+}
+
+// A status with S set.
+pub fn with_s(sr: u16) -> u32
+    ensures { λ r. ⌜ r ≡ withS sr ⌝ }
+{
+    let n = sr as u32;
+    n - n / 0x2000 % 2 * 0x2000 + 0x2000
+}
+
+// The vector of an acknowledge cycle.
+pub fn iack_vector(response: u32, level: u8) -> u32
+    ensures { λ r. ⌜ r ≡ iackVector response level ⌝ }
+{
+    if response == 0xFFFFFFFF {
+        return types::SPURIOUS_INTERRUPT + (level % 8) as u32;
+    }
+    response % 256
+}
+
 // Whether an odd guarded access is refused: kinds 1, 2, 10.
 pub fn refuses_odd(c: Cpu, a: u32) -> bool
     ensures { λ r. ⌜ r ≡ refusesOdd c a ⌝ }
 {
-    if cpu::fields::aligned_kind(c) {
+    let k = c.flow.cpu_type;
+    if types::is_pre_68020(k) {
         return a % 2 == 1;
     }
     false
@@ -93,7 +60,8 @@ pub fn refuses_odd(c: Cpu, a: u32) -> bool
 pub fn vector_address(c: Cpu, v: u32) -> u32
     ensures { λ r. ⌜ r ≡ vectorAddress c v ⌝ }
 {
-    std::num::wrapping_add_u32(v % 1073741824 * 4, cpu::fields::vbr(c))
+    let base = c.flow.vbr;
+    std::num::wrapping_add_u32(v % 1073741824 * 4, base)
 }
 
 // A bus error entry: supervisor state, trace off, and the function code that stood in is consumed.
@@ -124,8 +92,69 @@ pub fn begin_address(c: Cpu) -> Cpu
 
 // `trigger_bus_error` after its entry.
 pub fn close_bus(c: Cpu) -> Cpu
-    ensures { λ r. ⌜ r ≡ keepResume (setException c false) ⌝ }
+    ensures { λ r. ⌜ r ≡ closeBus c ⌝ }
 {
     let a = cpu::fields::set_exception(c, false);
     status::keep_resume(a)
+}
+
+// Whether `take_exception` stacks the address of the next instruction.
+fn stacks_next(v: u32) -> bool
+    ensures { λ r. ⌜ r ≡ stacksNext v ⌝ }
+{
+    if v == types::ZERO_DIVIDE {
+        return true;
+    }
+    if v == types::TRAPV {
+        return true;
+    }
+    if v == types::TRACE {
+        return true;
+    }
+    if v < 24 {
+        return false;
+    }
+    v <= 47
+}
+
+// The address that `take_exception` stacks.
+pub fn stacked_address(c: Cpu, v: u32) -> u32
+    ensures { λ r. ⌜ r ≡ stackedAddress c v ⌝ }
+{
+    if stacks_next(v) {
+        return cpu::fields::pc(c);
+    }
+    cpu::fields::ppc(c)
+}
+
+// `take_exception` before its frame.
+pub fn begin_entry(c: Cpu) -> Cpu
+    ensures { λ r. ⌜ r ≡ beginEntry c ⌝ }
+{
+    let a = cpu::fields::set_exception(c, true);
+    cpu::clocks::internal_cycles(a, 4)
+}
+
+// `exception_trace` before its frame.
+pub fn begin_trace(c: Cpu) -> Cpu
+    ensures { λ r. ⌜ r ≡ beginTrace c ⌝ }
+{
+    let a = cpu::fields::leave_stop(c);
+    cpu::clocks::internal_cycles(a, 4)
+}
+
+// The start of every interrupt: supervisor state, trace off, the mask at the level.
+pub fn enter_level(c: Cpu, level: u8) -> Cpu
+    ensures { λ r. ⌜ r ≡ enterLevel c level ⌝ }
+{
+    let a = status::banks::enter_supervisor(c);
+    status::set_int_mask(a, level)
+}
+
+// The end of every interrupt: `stopped` is 0 and the cycles are charged.
+pub fn close_interrupt(c: Cpu) -> Cpu
+    ensures { λ r. ⌜ r ≡ closeInterrupt c ⌝ }
+{
+    let a = cpu::fields::clear_stopped(c);
+    requests::interrupts::charge_interrupt(a)
 }

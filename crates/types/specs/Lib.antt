@@ -1,4 +1,5 @@
 pub mod Kinds
+pub mod Vectors
 pub mod Causes
 pub mod Tables
 pub mod Every

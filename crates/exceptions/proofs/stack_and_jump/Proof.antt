@@ -5,43 +5,52 @@ use Rattle.exceptions.proofs.stack_and_jump.Statement.{statement}
 use Rattle.exceptions.proofs.stack_and_jump.Tie as tie
 use Rattle.exceptions.proofs.stack_and_jump.Reads as reads
 use Rattle.exceptions.proofs.stack_and_jump.Lts as lts
+use Rattle.cpu.proofs.fields.set_exception.Reads as set-exception-reads
 use Rattle.exceptions.proofs.formats.offset_word.Reads as offset-word-reads
 use Rattle.exceptions.proofs.stack_short.Reads as stack-short-reads
-use Rattle.exceptions.proofs.state.finish.Reads as finish-reads
-use Rattle.exceptions.proofs.state.stacked_address.Reads as stacked-address-reads
 use Rattle.faults.proofs.jump_vector.Reads as jump-vector-reads
+use Rattle.memory.proofs.with_cpu.Reads as with-cpu-reads
+use Rattle.steps.proofs.stacked_address.Reads as stacked-address-reads
 
--- src/lib.rt:37:9
+-- src/lib.rt:36:9
 stacked-address-requires : tie.Need-stacked-address-requires
 stacked-address-requires c κs = search needs
 
--- src/lib.rt:38:9
+-- src/lib.rt:37:9
 offset-word-requires : tie.Need-offset-word-requires
 offset-word-requires c κs = search needs
 
--- src/lib.rt:39:9
+-- src/lib.rt:38:44
+cast-stack-short : tie.Need-cast-stack-short
+cast-stack-short c = search needs
+
+-- src/lib.rt:38:9
 stack-short-requires : tie.Need-stack-short-requires
 stack-short-requires c κs = search needs
 
--- src/lib.rt:40:9
+-- src/lib.rt:39:9
 jump-vector-requires : tie.Need-jump-vector-requires
 jump-vector-requires c κs = search needs
 
--- src/lib.rt:41:5
-finish-requires : tie.Need-finish-requires
-finish-requires c κs = search needs
+-- src/lib.rt:40:25
+set-exception-requires : tie.Need-set-exception-requires
+set-exception-requires c κs = search needs
 
--- src/lib.rt:34:1
+-- src/lib.rt:40:5
+with-cpu-requires : tie.Need-with-cpu-requires
+with-cpu-requires c κs = search needs
+
+-- src/lib.rt:33:1
 same-length : tie.Need-same-length
-same-length c = c .before .before .before .before .before .jump-vector .kept .1 .0 ∙ c .before .before .before .before .before .before .before .before .before .before .before .before .stack-short .kept .1 .0
+same-length c = c .before .before .before .before .before .before .jump-vector .kept .1 .0 ∙ c .before .before .before .before .before .before .before .before .before .before .before .before .before .stack-short .kept .1 .0
 
--- src/lib.rt:34:1
+-- src/lib.rt:33:1
 same-length-2 : tie.Need-same-length-2
-same-length-2 c = c .before .before .before .before .before .jump-vector .kept .1 .1 .0 ∙ c .before .before .before .before .before .before .before .before .before .before .before .before .stack-short .kept .1 .1 .0
+same-length-2 c = c .before .before .before .before .before .before .jump-vector .kept .1 .1 .0 ∙ c .before .before .before .before .before .before .before .before .before .before .before .before .before .stack-short .kept .1 .1 .0
 
--- src/lib.rt:34:1
+-- src/lib.rt:33:1
 returns : tie.Need-returns
-returns c = stack-and-jump-way _ _ _ _ _ _ _ _ _ _ _ _ _ (c .before .before .before .before .before .before .before .before .before .before .before .before .before .before .before .before .stacked-address .ensures) (c .before .before .before .before .before .before .before .before .before .before .before .before .before .before .before .offset-word .ensures) (c .before .before .before .before .before .before .before .before .before .before .before .before .stack-short .ensures) (c .before .before .before .before .before .jump-vector .ensures) (c .finish .ensures)
+returns c = stack-and-jump-way _ _ _ _ _ _ _ _ _ _ _ _ _ _ (c .before .before .before .before .before .before .before .before .before .before .before .before .before .before .before .before .before .stacked-address .ensures) (c .before .before .before .before .before .before .before .before .before .before .before .before .before .before .before .before .offset-word .ensures) (c .before .before .before .before .before .before .before .before .before .before .before .before .before .stack-short .ensures) (c .before .before .before .before .before .before .jump-vector .ensures) (c .before .set-exception .ensures) (c .with-cpu .ensures)
 
 pub stack-and-jump-spec : {M : Type 1} → statement M
 stack-and-jump-spec =
@@ -49,9 +58,11 @@ stack-and-jump-spec =
     (tie.spec
     stacked-address-requires
     offset-word-requires
+    cast-stack-short
     stack-short-requires
     jump-vector-requires
-    finish-requires
+    set-exception-requires
+    with-cpu-requires
     same-length
     same-length-2
     returns)

@@ -5,14 +5,17 @@ use Rattle.exceptions.proofs.trap.Statement.{statement}
 use Rattle.exceptions.proofs.trap.Tie as tie
 use Rattle.exceptions.proofs.trap.Reads as reads
 use Rattle.exceptions.proofs.trap.Lts as lts
-use Rattle.exceptions.proofs.state.trap_vector.Reads as trap-vector-reads
 use Rattle.exceptions.proofs.take_exception.Reads as take-exception-reads
 
--- src/lib.rt:88:9
-trap-vector-requires : tie.Need-trap-vector-requires
-trap-vector-requires c κs = search needs
+-- src/lib.rt:88:54
+cast-take-exception : tie.Need-cast-take-exception
+cast-take-exception c = search needs
 
--- src/lib.rt:89:5
+-- src/lib.rt:88:35
+add-take-exception : tie.Need-add-take-exception
+add-take-exception c = search needs
+
+-- src/lib.rt:88:5
 take-exception-requires : tie.Need-take-exception-requires
 take-exception-requires c κs = search needs
 
@@ -26,9 +29,15 @@ same-length-2 c = c .before .before .before .before .take-exception .kept .1 .1 
 
 -- src/lib.rt:85:1
 returns : tie.Need-returns
-returns c = trap-way _ _ _ _ _ _ _ _ (c .before .before .before .before .before .before .before .trap-vector .ensures) (c .before .before .before .before .take-exception .ensures)
+returns c = trap-way _ _ _ _ _ _ _ (c .before .before .before .before .take-exception .ensures)
 
 pub trap-spec : {M : Type 1} → statement M
 trap-spec =
     tie.close
-    (tie.spec trap-vector-requires take-exception-requires same-length same-length-2 returns)
+    (tie.spec
+    cast-take-exception
+    add-take-exception
+    take-exception-requires
+    same-length
+    same-length-2
+    returns)

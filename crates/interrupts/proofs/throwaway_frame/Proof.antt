@@ -8,12 +8,17 @@ use Rattle.interrupts.proofs.throwaway_frame.Lts as lts
 use Rattle.exceptions.proofs.formats.format_word.Reads as format-word-reads
 use Rattle.exceptions.proofs.formats.short_frame.Reads as short-frame-reads
 use Rattle.faults.proofs.push_frame.Reads as push-frame-reads
-use Rattle.interrupts.proofs.state.interrupt_stack.Reads as interrupt-stack-reads
-use Rattle.interrupts.proofs.state.with_s.Reads as with-s-reads
+use Rattle.memory.proofs.with_cpu.Reads as with-cpu-reads
+use Rattle.status.proofs.banks.set_sm_flag.Reads as set-sm-flag-reads
+use Rattle.steps.proofs.with_s.Reads as with-s-reads
+
+-- src/lib.rt:160:33
+set-sm-flag-requires : tie.Need-set-sm-flag-requires
+set-sm-flag-requires c κs = search needs
 
 -- src/lib.rt:160:9
-interrupt-stack-requires : tie.Need-interrupt-stack-requires
-interrupt-stack-requires c κs = search needs
+with-cpu-requires : tie.Need-with-cpu-requires
+with-cpu-requires c κs = search needs
 
 -- src/lib.rt:161:9
 with-s-requires : tie.Need-with-s-requires
@@ -41,13 +46,14 @@ same-length-2 c = c .before .before .before .before .push-frame .kept .1 .1 .0
 
 -- src/lib.rt:150:1
 returns : tie.Need-returns
-returns c = throwaway-frame-way _ _ _ _ _ _ _ _ _ _ _ _ _ (c .before .before .before .before .before .before .before .before .before .before .interrupt-stack .ensures) (c .before .before .before .before .before .before .before .before .before .with-s .ensures) (c .before .before .before .before .before .before .before .before .format-word .ensures) (c .before .before .before .before .before .before .before .short-frame .ensures) (c .before .before .before .before .push-frame .ensures)
+returns c = throwaway-frame-way _ _ _ _ _ _ _ _ _ _ _ _ _ _ (c .before .before .before .before .before .before .before .before .before .before .before .set-sm-flag .ensures) (c .before .before .before .before .before .before .before .before .before .before .with-cpu .ensures) (c .before .before .before .before .before .before .before .before .before .with-s .ensures) (c .before .before .before .before .before .before .before .before .format-word .ensures) (c .before .before .before .before .before .before .before .short-frame .ensures) (c .before .before .before .before .push-frame .ensures)
 
 pub throwaway-frame-spec : {M : Type 1} → statement M
 throwaway-frame-spec =
     tie.close
     (tie.spec
-    interrupt-stack-requires
+    set-sm-flag-requires
+    with-cpu-requires
     with-s-requires
     format-word-requires
     short-frame-requires

@@ -9,14 +9,15 @@ use Rattle.exceptions.proofs.formats.offset_word.Tie as tie
 use Rattle.exceptions.proofs.formats.offset_word.Reads as reads
 use Rattle.exceptions.proofs.formats.offset_word.Lts as lts
 
--- src/formats.rt:19:5
 mul-result : tie.Need-mul-result
 mul-result c = search needs
 
--- src/formats.rt:16:1
+cast-result : tie.Need-cast-result
+cast-result c = search needs
+
 returns : tie.Need-returns
 unfolding offsetWord
 returns c = omega arith
 
 pub offset-word-spec : {M : Type 1} → statement M
-offset-word-spec = tie.close (tie.spec mul-result returns)
+offset-word-spec = tie.close (tie.spec mul-result cast-result returns)

@@ -78,8 +78,6 @@ use Rattle.steps.proofs.begin_address.Reads as begin-address-reads
 use Rattle.steps.proofs.begin_bus.Reads as begin-bus-reads
 use Rattle.steps.proofs.close_bus.Reads as close-bus-reads
 use Rattle.steps.proofs.enter_bus_error.Reads as enter-bus-error-reads
-use Rattle.steps.proofs.is_counted.Reads as is-counted-reads
-use Rattle.steps.proofs.is_raw.Reads as is-raw-reads
 use Rattle.steps.proofs.low_word.Reads as low-word-reads
 use Rattle.steps.proofs.refuses_odd.Reads as refuses-odd-reads
 use Rattle.steps.proofs.vector_address.Reads as vector-address-reads
@@ -797,7 +795,7 @@ prefetch-second-returns-6 t c = prefetch-second-way-6 _ _ _ _ _ (c .before .pref
 
 -- ---- push-field
 abbrev push-field-claims : ℕ → push-field-lts.Claims
-push-field-claims t = (width-reads.Asked, width-reads.Learnt, lower-a7-reads.Asked, lower-a7-reads.Learnt, with-cpu-reads.Asked, with-cpu-reads.Learnt, is-counted-reads.Asked, is-counted-reads.Learnt, a7-reads.Asked, a7-reads.Learnt, is-raw-reads.Asked, is-raw-reads.Learnt, address-reads.Asked, address-reads.Learnt, raw-write-reads.Asked, raw-write-reads.Learnt, write-at-below t, write-at.Post)
+push-field-claims t = (width-reads.Asked, width-reads.Learnt, lower-a7-reads.Asked, lower-a7-reads.Learnt, with-cpu-reads.Asked, with-cpu-reads.Learnt, a7-reads.Asked, a7-reads.Learnt, address-reads.Asked, address-reads.Learnt, raw-write-reads.Asked, raw-write-reads.Learnt, write-at-below t, write-at.Post)
 
 -- src/cycle.rt:132:9
 push-field-width-requires : (t : ℕ) → push-field-lts.Need-width-requires (push-field-claims t) (push-field-at t) push-field.Post
@@ -811,21 +809,13 @@ push-field-lower-a7-requires t c κs = tt
 push-field-with-cpu-requires : (t : ℕ) → push-field-lts.Need-with-cpu-requires (push-field-claims t) (push-field-at t) push-field.Post
 push-field-with-cpu-requires t c κs = tt
 
--- src/cycle.rt:134:8
-push-field-is-counted-requires : (t : ℕ) → push-field-lts.Need-is-counted-requires (push-field-claims t) (push-field-at t) push-field.Post
-push-field-is-counted-requires t c κs = tt
-
 -- src/cycle.rt:135:9
 push-field-returns : (t : ℕ) → push-field-lts.Need-returns (push-field-claims t) (push-field-at t) push-field.Post
-push-field-returns t c = push-field-way _ _ _ _ _ _ _ _ _ (c .before .before .before .before .width .ensures) (c .before .before .before .lower-a7 .ensures) (c .before .before .with-cpu .ensures) (c .before .is-counted .ensures) (c .if1 .taken)
+push-field-returns t c = push-field-way _ _ _ _ _ _ _ _ (c .before .before .before .before .width .ensures) (c .before .before .before .lower-a7 .ensures) (c .before .before .with-cpu .ensures) (c .if1 .taken)
 
 -- src/cycle.rt:137:9
 push-field-a7-requires : (t : ℕ) → push-field-lts.Need-a7-requires (push-field-claims t) (push-field-at t) push-field.Post
 push-field-a7-requires t c κs = tt
-
--- src/cycle.rt:138:8
-push-field-is-raw-requires : (t : ℕ) → push-field-lts.Need-is-raw-requires (push-field-claims t) (push-field-at t) push-field.Post
-push-field-is-raw-requires t c κs = tt
 
 -- src/cycle.rt:139:13
 push-field-address-requires : (t : ℕ) → push-field-lts.Need-address-requires (push-field-claims t) (push-field-at t) push-field.Post
@@ -845,11 +835,11 @@ push-field-same-length-2 t c = c .before .before .before .before .raw-write .kep
 
 -- src/cycle.rt:140:9
 push-field-returns-2 : (t : ℕ) → push-field-lts.Need-returns-2 (push-field-claims t) (push-field-at t) push-field.Post
-push-field-returns-2 t c = push-field-way-2 _ _ _ _ _ _ _ _ _ _ _ _ _ _ _ (c .before .before .before .before .before .before .before .before .before .before .before .before .before .before .before .width .ensures) (c .before .before .before .before .before .before .before .before .before .before .before .before .before .before .lower-a7 .ensures) (c .before .before .before .before .before .before .before .before .before .before .before .before .before .with-cpu .ensures) (c .before .before .before .before .before .before .before .before .before .before .before .before .is-counted .ensures) (c .before .before .before .before .before .before .before .before .before .before .before .if1 .left) (c .before .before .before .before .before .before .before .before .before .before .a7 .ensures) (c .before .before .before .before .before .before .before .before .before .is-raw .ensures) (c .before .before .before .before .before .before .before .before .if2 .taken) (c .before .before .before .before .before .before .before .address .ensures) (c .before .before .before .before .raw-write .ensures)
+push-field-returns-2 t c = push-field-way-2 _ _ _ _ _ _ _ _ _ _ _ _ _ (c .before .before .before .before .before .before .before .before .before .before .before .before .before .before .before .width .ensures) (c .before .before .before .before .before .before .before .before .before .before .before .before .before .before .lower-a7 .ensures) (c .before .before .before .before .before .before .before .before .before .before .before .before .before .with-cpu .ensures) (c .before .before .before .before .before .before .before .before .before .before .before .if1 .left) (c .before .before .before .before .before .before .before .before .before .before .a7 .ensures) (c .before .before .before .before .before .before .before .before .if2 .taken) (c .before .before .before .before .before .before .before .address .ensures) (c .before .before .before .before .raw-write .ensures)
 
 -- src/cycle.rt:142:5
 push-field-write-at-requires : (t : ℕ) → push-field-lts.Need-write-at-requires (push-field-claims t) (push-field-at t) push-field.Post
-push-field-write-at-requires t c κs = (omega (arith, c .before .before .before .before .before .before .before .before .before .before .before .before .pre .0), tt)
+push-field-write-at-requires t c κs = (omega (arith, c .before .before .before .before .before .before .before .before .before .before .before .before .pre .0, c .before .before .if2 .left, c .before .before .before .before .before .if1 .left), tt)
 
 -- src/cycle.rt:129:1
 push-field-same-length-3 : (t : ℕ) → push-field-lts.Need-same-length-3 (push-field-claims t) (push-field-at t) push-field.Post
@@ -861,7 +851,7 @@ push-field-same-length-4 t c = c .before .before .before .before .write-at .kept
 
 -- src/cycle.rt:129:1
 push-field-returns-3 : (t : ℕ) → push-field-lts.Need-returns-3 (push-field-claims t) (push-field-at t) push-field.Post
-push-field-returns-3 t c = push-field-way-3 _ _ _ _ _ _ _ _ _ _ _ _ _ _ (c .before .before .before .before .before .before .before .before .before .before .before .before .before .before .width .ensures) (c .before .before .before .before .before .before .before .before .before .before .before .before .before .lower-a7 .ensures) (c .before .before .before .before .before .before .before .before .before .before .before .before .with-cpu .ensures) (c .before .before .before .before .before .before .before .before .before .before .before .is-counted .ensures) (c .before .before .before .before .before .before .before .before .before .before .if1 .left) (c .before .before .before .before .before .before .before .before .before .a7 .ensures) (c .before .before .before .before .before .before .before .before .is-raw .ensures) (c .before .before .before .before .before .before .before .if2 .left) (c .before .before .before .before .write-at .ensures)
+push-field-returns-3 t c = push-field-way-3 _ _ _ _ _ _ _ _ _ _ _ _ (c .before .before .before .before .before .before .before .before .before .before .before .before .before .before .width .ensures) (c .before .before .before .before .before .before .before .before .before .before .before .before .before .lower-a7 .ensures) (c .before .before .before .before .before .before .before .before .before .before .before .before .with-cpu .ensures) (c .before .before .before .before .before .before .before .before .before .before .if1 .left) (c .before .before .before .before .before .before .before .before .before .a7 .ensures) (c .before .before .before .before .before .before .before .if2 .left) (c .before .before .before .before .write-at .ensures)
 
 -- ---- push-fields
 abbrev push-fields-claims : ℕ → push-fields-lts.Claims
@@ -1607,12 +1597,8 @@ pub +exception-address-error+exception-bus-error+jump-vector+prefetch-first+pref
       lower-a7-reads.Learnt,
       with-cpu-reads.Asked,
       with-cpu-reads.Learnt,
-      is-counted-reads.Asked,
-      is-counted-reads.Learnt,
       a7-reads.Asked,
       a7-reads.Learnt,
-      is-raw-reads.Asked,
-      is-raw-reads.Learnt,
       address-reads.Asked,
       address-reads.Learnt,
       raw-write-reads.Asked,
@@ -1625,10 +1611,8 @@ pub +exception-address-error+exception-bus-error+jump-vector+prefetch-first+pref
     (push-field-width-requires t)
     (push-field-lower-a7-requires t)
     (push-field-with-cpu-requires t)
-    (push-field-is-counted-requires t)
     (push-field-returns t)
     (push-field-a7-requires t)
-    (push-field-is-raw-requires t)
     (push-field-address-requires t)
     (push-field-raw-write-requires t)
     (push-field-same-length t)
