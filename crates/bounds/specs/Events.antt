@@ -11,7 +11,7 @@ use Rattle.cpu.specs.Fields.{kindOf, addressOf, isFaulted, inException, causeNu
 use Rattle.status.specs.Banks.{enterSupervisor}
 use Rattle.cpu.specs.Clocks.{prefetchEnabled}
 use Rattle.memory.specs.LogLaws.{replay, spell}
-use Rattle.memory.specs.World.{World, cpuOf, withCpu, step}
+use Rattle.memory.specs.World.{World, cpuOf, step}
 use Rattle.frames.specs.declared.Field.{Field}
 use Rattle.frames.specs.declared.Frame.{Frame}
 use Rattle.frames.specs.Frames.{fieldAt, busFrame, addressFrame, isCounted}
@@ -63,11 +63,11 @@ more-bill k Exc c l w h p = (p .0, pay (omega arith) (p .1))
 
 -- the ways through a trigger, over any statement of the world that it comes to
 module _ (R : World → Type 0) (t : ℕ) (w : World) (a : ℕ) (wr i : Bool) where
-  bus-ways : (z : ℕ) → R w → R (withCpu w (halted (cpuOf w))) → (isFaulted (cpuOf w) ≡ false → R (step closeBus (exceptionBusError (trigger t) (withCpu w (beginBus (cpuOf w))) a wr i z (causeNumberOf (cpuOf w))))) → R (trigger (suc t) w (busError a wr i z))
+  bus-ways : (z : ℕ) → R w → R (step halted w) → (isFaulted (cpuOf w) ≡ false → R (step closeBus (exceptionBusError (trigger t) (step beginBus w) a wr i z (causeNumberOf (cpuOf w))))) → R (trigger (suc t) w (busError a wr i z))
   unfolding trigger raiseBus
   bus-ways z f g h = pick-when R (isFaulted (cpuOf w)) (λ x. f) (λ x. pick-one R (inException (cpuOf w)) g (h x))
 
-  address-ways : R w → (isFaulted (cpuOf w) ≡ false → R (step keepResume (exceptionAddressError (trigger t) (withCpu w (beginAddress (cpuOf w))) a wr i))) → R (trigger (suc t) w (addressError a wr i))
+  address-ways : R w → (isFaulted (cpuOf w) ≡ false → R (step keepResume (exceptionAddressError (trigger t) (step beginAddress w) a wr i))) → R (trigger (suc t) w (addressError a wr i))
   unfolding trigger raiseAddress
   address-ways f g = pick-when R (isFaulted (cpuOf w)) (λ x. f) g
 
@@ -85,7 +85,7 @@ module _ (k : ℕ) (l : List ℕ) where
         let s = ap busWrites (p .0 .same) in
         let r = refills-sum (isPrefetchKind k) (suc (suc (afterFields (busFrame (cpuOf w) a wr i z cause) (busFrame (cpuOf w) a wr i z cause .count) n))) in
         more-bill k Exc c l (exceptionBusError t w a wr i z cause) (omega arith)
-        (frame-good (Bill k Exc c l) (Safe k) (isPrefetchKind k) t t (bill-steps k Exc c l) T n (withCpu w (enterBusError (cpuOf w))) (busFrame (cpuOf w) a wr i z cause) 2
+        (frame-good (Bill k Exc c l) (Safe k) (isPrefetchKind k) t t (bill-steps k Exc c l) T n (step enterBusError w) (busFrame (cpuOf w) a wr i z cause) 2
         (λ h m x g e. clash h (bus-plain (cpuOf w) a wr i z cause (ap isPre68020 (p .0 .same) ∙ e))) (super-bus-kept k Exc w (p .0), super-bus-books c l n w (p .1)) .1)
 
     entryAddress-cost : (n : ℕ) (w : World) (a : ℕ) (wr i : Bool) → Bill k Exc c l n w → Bill k Exc c l (ownCost k + n) (exceptionAddressError t w a wr i)
@@ -95,7 +95,7 @@ module _ (k : ℕ) (l : List ℕ) where
         let s = ap addressWrites (p .0 .same) in
         let r = refills-sum (isPrefetchKind k) (suc (suc (afterFields (addressFrame (cpuOf w) a wr i) (addressFrame (cpuOf w) a wr i .count) n))) in
         more-bill k Exc c l (exceptionAddressError t w a wr i) (omega arith)
-        (frame-good (Bill k Exc c l) (Safe k) (isPrefetchKind k) t t (bill-steps k Exc c l) T n (withCpu w (enterSupervisor (cpuOf w))) (addressFrame (cpuOf w) a wr i) 3
+        (frame-good (Bill k Exc c l) (Safe k) (isPrefetchKind k) t t (bill-steps k Exc c l) T n (step enterSupervisor w) (addressFrame (cpuOf w) a wr i) 3
         (λ h. clash h (address-plain (cpuOf w) a wr i)) (super-kept k Exc w (p .0), super-books c l n w (p .1)) .1)
 
   -- while an entry is under way a bus fault is free
@@ -110,11 +110,11 @@ module _ (k : ℕ) (l : List ℕ) where
   bus-cost : (c : ℕ) → busCost k ≤ c → (t n : ℕ) (w : World) (a : ℕ) (wr i : Bool) (z : ℕ) → Bill k Either c l n w → Bill k Either c l n (trigger (suc t) w (busError a wr i z))
   bus-cost c e t n w a wr i z p = bus-ways (Bill k Either c l n) t w a wr i z p (halted-kept k Either w (p .0), halted-books c l n w (p .1)) opened
     where
-      opened : isFaulted (cpuOf w) ≡ false → Bill k Either c l n (step closeBus (exceptionBusError (trigger t) (withCpu w (beginBus (cpuOf w))) a wr i z (causeNumberOf (cpuOf w))))
+      opened : isFaulted (cpuOf w) ≡ false → Bill k Either c l n (step closeBus (exceptionBusError (trigger t) (step beginBus w) a wr i z (causeNumberOf (cpuOf w))))
       opened h =
           let r : c ≤ n = afford c l n w h (p .1) in
-          let x : World = exceptionBusError (trigger t) (withCpu w (beginBus (cpuOf w))) a wr i z (causeNumberOf (cpuOf w)) in
-          let d : Bill k Set 0 l (busCost k + (n - busCost k)) x = entryBus-cost Set 0 (trigger t) (raises-in 0 t) (n - busCost k) (withCpu w (beginBus (cpuOf w))) a wr i z (causeNumberOf (cpuOf w)) (bus-kept k Either w (p .0), begin-bus c l 0 n (n - busCost k) w h (omega arith) (p .1)) in
+          let x : World = exceptionBusError (trigger t) (step beginBus w) a wr i z (causeNumberOf (cpuOf w)) in
+          let d : Bill k Set 0 l (busCost k + (n - busCost k)) x = entryBus-cost Set 0 (trigger t) (raises-in 0 t) (n - busCost k) (step beginBus w) a wr i z (causeNumberOf (cpuOf w)) (bus-kept k Either w (p .0), begin-bus c l 0 n (n - busCost k) w h (omega arith) (p .1)) in
           (close-bus-kept k x (d .0), close-bus-books 0 l c n (busCost k + (n - busCost k)) x (omega arith) (d .1))
 
   -- so a bus fault that can be paid for keeps the bill
@@ -125,11 +125,11 @@ module _ (k : ℕ) (l : List ℕ) where
   address-cost : (Exc : Bool → Type 0) (b c : ℕ) → ownCost k + b ≤ c → (t : ℕ) → Raises (Bill k Exc b l) (Safe k) (isPrefetchKind k) (trigger t) (trigger t) → (n : ℕ) (w : World) (a : ℕ) (wr i : Bool) → Bill k Exc c l n w → Bill k Exc c l n (trigger (suc t) w (addressError a wr i))
   address-cost Exc b c e t T n w a wr i p = address-ways (Bill k Exc c l n) t w a wr i p opened
     where
-      opened : isFaulted (cpuOf w) ≡ false → Bill k Exc c l n (step keepResume (exceptionAddressError (trigger t) (withCpu w (beginAddress (cpuOf w))) a wr i))
+      opened : isFaulted (cpuOf w) ≡ false → Bill k Exc c l n (step keepResume (exceptionAddressError (trigger t) (step beginAddress w) a wr i))
       opened h =
           let r : c ≤ n = afford c l n w h (p .1) in
-          let x : World = exceptionAddressError (trigger t) (withCpu w (beginAddress (cpuOf w))) a wr i in
-          let d : Bill k Exc b l (ownCost k + (n - ownCost k)) x = entryAddress-cost Exc b (trigger t) T (n - ownCost k) (withCpu w (beginAddress (cpuOf w))) a wr i (address-kept k Exc w (p .0), begin-address c l b n (n - ownCost k) w h (omega arith) (p .1)) in
+          let x : World = exceptionAddressError (trigger t) (step beginAddress w) a wr i in
+          let d : Bill k Exc b l (ownCost k + (n - ownCost k)) x = entryAddress-cost Exc b (trigger t) T (n - ownCost k) (step beginAddress w) a wr i (address-kept k Exc w (p .0), begin-address c l b n (n - ownCost k) w h (omega arith) (p .1)) in
           (close-address-kept k Exc x (d .0), close-address-books b l c n (ownCost k + (n - ownCost k)) x (omega arith) (d .1))
 
   guard-bus : busCost k ≤ guardCost k

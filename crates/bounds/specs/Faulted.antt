@@ -21,7 +21,7 @@ use Rattle.bounds.specs.Skeleton.{Steps, Raises, pick-one, pick-when, fl
 abbrev pub Faulted : World → Type 0
 Faulted w = isFaulted (cpuOf w) ≡ true
 
-halts : (w : World) → Faulted (withCpu w (halted (cpuOf w)))
+halts : (w : World) → Faulted (step halted w)
 unfolding isFaulted halted putCpu
 halts w = refl
 
@@ -45,9 +45,9 @@ address-ends w x p = pick-when Faulted (isFaulted (cpuOf w)) (λ h. h) (λ h. p)
 pub trigger-faulted : (n : ℕ) (w : World) (q : Fault) → isFaulted (trigger n w q .core .cpu) ≡ true
 unfolding trigger
 trigger-faulted zero w (busError a wr i z) = bus-ends w _ (halts w)
-trigger-faulted (suc n) w (busError a wr i z) = bus-ends w _ (closes (exceptionBusError (trigger n) (withCpu w (beginBus (cpuOf w))) a wr i z (causeNumberOf (cpuOf w))))
+trigger-faulted (suc n) w (busError a wr i z) = bus-ends w _ (closes (exceptionBusError (trigger n) (step beginBus w) a wr i z (causeNumberOf (cpuOf w))))
 trigger-faulted zero w (addressError a wr i) = address-ends w _ (halts w)
-trigger-faulted (suc n) w (addressError a wr i) = address-ends w _ (ends (exceptionAddressError (trigger n) (withCpu w (beginAddress (cpuOf w))) a wr i))
+trigger-faulted (suc n) w (addressError a wr i) = address-ends w _ (ends (exceptionAddressError (trigger n) (step beginAddress w) a wr i))
 
 -- on a faulted record a trigger does nothing
 pub trigger-none : (n : ℕ) (w : World) (q : Fault) → isFaulted (w .core .cpu) ≡ true → trigger n w q ≡ w
@@ -144,11 +144,11 @@ steps = record { weaken = λ n w p. p; flushes = flushes; lowers = λ n w g p. p
 raises : (n : ℕ) → Raises Stays (λ a. Unit {0}) true (trigger n) (trigger n)
 raises n = record { fetching = λ m w p h. refl; bus = λ m w a wr i z p. (refl, trigger-faulted n w (busError a wr i z)); odd = λ m w a wr i p o h. (refl, trigger-faulted n w _); vector = λ m w v p. tt }
 
-enter-faulted : (w : World) → Faulted w → Faulted (withCpu w (enterSupervisor (cpuOf w)))
+enter-faulted : (w : World) → Faulted w → Faulted (step enterSupervisor w)
 unfolding putCpu isFaulted enterSupervisor clearTrace setSFlag restoreSp putS backupSp
 enter-faulted w p = p
 
-enter-bus-faulted : (w : World) → Faulted w → Faulted (withCpu w (enterBusError (cpuOf w)))
+enter-bus-faulted : (w : World) → Faulted w → Faulted (step enterBusError w)
 unfolding putCpu isFaulted enterBusError clearFcOverride enterSupervisor clearTrace setSFlag restoreSp putS backupSp
 enter-bus-faulted w p = p
 
@@ -176,9 +176,9 @@ module _ (n : ℕ) (w : World) (h : isFaulted (w .core .cpu) ≡ true) where
 -- through an address error entry that is called
 pub entryAddress-faulted : (n : ℕ) (w : World) (a : ℕ) (wr i : Bool) → isFaulted (w .core .cpu) ≡ true → isFaulted (exceptionAddressError (trigger n) w a wr i .core .cpu) ≡ true
 unfolding exceptionAddressError
-entryAddress-faulted n w a wr i h = frame-faulted n (withCpu w (enterSupervisor (cpuOf w))) (enter-faulted w h) (addressFrame (cpuOf w) a wr i) 3
+entryAddress-faulted n w a wr i h = frame-faulted n (step enterSupervisor w) (enter-faulted w h) (addressFrame (cpuOf w) a wr i) 3
 
 -- through a bus error entry that is called
 pub entryBus-faulted : (n : ℕ) (w : World) (a : ℕ) (wr i : Bool) (z cause : ℕ) → isFaulted (w .core .cpu) ≡ true → isFaulted (exceptionBusError (trigger n) w a wr i z cause .core .cpu) ≡ true
 unfolding exceptionBusError
-entryBus-faulted n w a wr i z cause h = frame-faulted n (withCpu w (enterBusError (cpuOf w))) (enter-bus-faulted w h) (busFrame (cpuOf w) a wr i z cause) 2
+entryBus-faulted n w a wr i z cause h = frame-faulted n (step enterBusError w) (enter-bus-faulted w h) (busFrame (cpuOf w) a wr i z cause) 2

@@ -91,27 +91,27 @@ module _ (c : ℕ) (l : List ℕ) where
   afford n w h p = let z = (rw h at p) .cost in omega arith
 
   -- a trigger of a bus error begins, from a record that is not faulted
-  pub begin-bus : (d n m : ℕ) (w : World) → isFaulted (cpuOf w) ≡ false → d + n ≤ c + m → Books c l n w → Books d l m (withCpu w (beginBus (cpuOf w)))
+  pub begin-bus : (d n m : ℕ) (w : World) → isFaulted (cpuOf w) ≡ false → d + n ≤ c + m → Books c l n w → Books d l m (step beginBus w)
   unfolding beginBus clearCause setException restoreRegisters restoreSr setSrNointNosp putCpu hasClocks isFaulted
   begin-bus d n m w h e p = rw h (pay (omega arith) (rw h at p))
 
   -- a trigger of an address error begins
-  pub begin-address : (d n m : ℕ) (w : World) → isFaulted (cpuOf w) ≡ false → d + n ≤ c + m → Books c l n w → Books d l m (withCpu w (beginAddress (cpuOf w)))
+  pub begin-address : (d n m : ℕ) (w : World) → isFaulted (cpuOf w) ≡ false → d + n ≤ c + m → Books c l n w → Books d l m (step beginAddress w)
   unfolding beginAddress restoreRegisters restoreSr setSrNointNosp putCpu hasClocks isFaulted
   begin-address d n m w h e p = rw h (pay (omega arith) (rw h at p))
 
   -- a halt costs nothing
-  pub halted-books : (n : ℕ) (w : World) → Books c l n w → Books c l n (withCpu w (halted (cpuOf w)))
+  pub halted-books : (n : ℕ) (w : World) → Books c l n w → Books c l n (step halted w)
   unfolding halted putCpu hasClocks isFaulted
   halted-books n w p = pay (omega arith) p
 
   -- nor does supervisor state
-  pub super-books : (n : ℕ) (w : World) → Books c l n w → Books c l n (withCpu w (enterSupervisor (cpuOf w)))
+  pub super-books : (n : ℕ) (w : World) → Books c l n w → Books c l n (step enterSupervisor w)
   unfolding putCpu hasClocks isFaulted enterSupervisor clearTrace setSFlag restoreSp putS backupSp
   super-books n w p = p
 
   -- nor does that of a bus error entry
-  pub super-bus-books : (n : ℕ) (w : World) → Books c l n w → Books c l n (withCpu w (enterBusError (cpuOf w)))
+  pub super-bus-books : (n : ℕ) (w : World) → Books c l n w → Books c l n (step enterBusError w)
   unfolding putCpu hasClocks isFaulted enterBusError clearFcOverride enterSupervisor clearTrace setSFlag restoreSp putS backupSp
   super-bus-books n w p = p
 

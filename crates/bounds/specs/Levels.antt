@@ -11,7 +11,7 @@ use Rattle.cpu.specs.Fields.{kindOf, vbrOf, addressOf, checksAlignment, isFault
 use Rattle.status.specs.Status.{keepResume, clearTrace, restoreSr, setSrNointNosp}
 use Rattle.status.specs.Banks.{enterSupervisor, setSFlag, restoreSp, putS, backupSp}
 use Rattle.cpu.specs.Clocks.{prefetchEnabled, setClocks, clearPrefetch, firstWord, secondWord}
-use Rattle.memory.specs.World.{World, putCpu, withCpu, noted, stored, flush, release, rawWrite, rawRead, cpuOf, step}
+use Rattle.memory.specs.World.{World, putCpu, noted, stored, flush, release, rawWrite, rawRead, cpuOf, step}
 use Rattle.frames.specs.declared.Field.{Field}
 use Rattle.frames.specs.declared.Frame.{Frame}
 use Rattle.frames.specs.Frames.{busFrame, addressFrame}
@@ -117,27 +117,27 @@ module _ (k : ℕ) (Exc : Bool → Type 0) where
       go false e = clash {b = false} e refl
 
   -- a halt keeps it
-  pub halted-kept : (w : World) → Kept k Exc 0 w → Kept k Exc 0 (withCpu w (halted (cpuOf w)))
+  pub halted-kept : (w : World) → Kept k Exc 0 w → Kept k Exc 0 (step halted w)
   unfolding halted putCpu kindOf vbrOf inException
   halted-kept w p = p
 
   -- so does the first step of a trigger of an address error
-  pub address-kept : (w : World) → Kept k Exc 0 w → Kept k Exc 0 (withCpu w (beginAddress (cpuOf w)))
+  pub address-kept : (w : World) → Kept k Exc 0 w → Kept k Exc 0 (step beginAddress w)
   unfolding beginAddress restoreRegisters restoreSr setSrNointNosp putCpu kindOf vbrOf inException
   address-kept w p = p
 
   -- a trigger of a bus error begins an entry
-  pub bus-kept : (w : World) → Kept k Exc 0 w → Kept k Set 0 (withCpu w (beginBus (cpuOf w)))
+  pub bus-kept : (w : World) → Kept k Exc 0 w → Kept k Set 0 (step beginBus w)
   unfolding beginBus clearCause setException restoreRegisters restoreSr setSrNointNosp putCpu kindOf vbrOf inException
   bus-kept w p = record { same = p .same; base = p .base; state = refl }
 
   -- supervisor state keeps it
-  pub super-kept : (w : World) → Kept k Exc 0 w → Kept k Exc 0 (withCpu w (enterSupervisor (cpuOf w)))
+  pub super-kept : (w : World) → Kept k Exc 0 w → Kept k Exc 0 (step enterSupervisor w)
   unfolding putCpu kindOf vbrOf inException enterSupervisor clearTrace setSFlag restoreSp putS backupSp
   super-kept w p = p
 
   -- so does that of a bus error entry
-  pub super-bus-kept : (w : World) → Kept k Exc 0 w → Kept k Exc 0 (withCpu w (enterBusError (cpuOf w)))
+  pub super-bus-kept : (w : World) → Kept k Exc 0 w → Kept k Exc 0 (step enterBusError w)
   unfolding putCpu kindOf vbrOf inException enterBusError clearFcOverride enterSupervisor clearTrace setSFlag restoreSp putS backupSp
   super-bus-kept w p = p
 
@@ -152,14 +152,14 @@ module _ (k : ℕ) (Exc : Bool → Type 0) where
     pub entryAddress-good : (w : World) (a : ℕ) (wr i : Bool) → Kept k Exc 0 w → Good (Kept k Exc) 0 (exceptionAddressError t w a wr i) (exceptionAddressError u w a wr i)
     unfolding exceptionAddressError
     entryAddress-good w a wr i p =
-        frame-good (Kept k Exc) (Safe k) (isPrefetchKind k) t u steps T 0 (withCpu w (enterSupervisor (cpuOf w))) (addressFrame (cpuOf w) a wr i) 3
+        frame-good (Kept k Exc) (Safe k) (isPrefetchKind k) t u steps T 0 (step enterSupervisor w) (addressFrame (cpuOf w) a wr i) 3
         (λ h. clash h (address-plain (cpuOf w) a wr i)) (super-kept w p)
 
     -- so is a bus error entry
     pub entryBus-good : (w : World) (a : ℕ) (wr i : Bool) (z cause : ℕ) → Kept k Exc 0 w → Good (Kept k Exc) 0 (exceptionBusError t w a wr i z cause) (exceptionBusError u w a wr i z cause)
     unfolding exceptionBusError
     entryBus-good w a wr i z cause p =
-        frame-good (Kept k Exc) (Safe k) (isPrefetchKind k) t u steps T 0 (withCpu w (enterBusError (cpuOf w))) (busFrame (cpuOf w) a wr i z cause) 2
+        frame-good (Kept k Exc) (Safe k) (isPrefetchKind k) t u steps T 0 (step enterBusError w) (busFrame (cpuOf w) a wr i z cause) 2
         (λ h m x g e. clash h (bus-plain (cpuOf w) a wr i z cause (ap isPre68020 (p .same) ∙ e))) (super-bus-kept w p)
 
 -- a trigger of a bus error ends
@@ -169,12 +169,12 @@ close-bus-kept k w p = record { same = p .same; base = p .base; state = tt }
 
 -- THE EQUATIONS OF THE RECURSION: t on the left, and v inside
 pub record Unrolls (t v : Raise) : Type 0 where
-  pub bus : (w : World) (a : ℕ) (wr i : Bool) (z : ℕ) → Domain w → t w (busError a wr i z) ≡ raiseBus w (step closeBus (exceptionBusError v (withCpu w (beginBus (cpuOf w))) a wr i z (causeNumberOf (cpuOf w))))
-  pub address : (w : World) (a : ℕ) (wr i : Bool) → Domain w → t w (addressError a wr i) ≡ raiseAddress w (step keepResume (exceptionAddressError v (withCpu w (beginAddress (cpuOf w))) a wr i))
+  pub bus : (w : World) (a : ℕ) (wr i : Bool) (z : ℕ) → Domain w → t w (busError a wr i z) ≡ raiseBus w (step closeBus (exceptionBusError v (step beginBus w) a wr i z (causeNumberOf (cpuOf w))))
+  pub address : (w : World) (a : ℕ) (wr i : Bool) → Domain w → t w (addressError a wr i) ≡ raiseAddress w (step keepResume (exceptionAddressError v (step beginAddress w) a wr i))
 
 -- while an entry is under way a bus fault halts
 abbrev pub Halts : Raise → Type 0
-Halts t = (w : World) (a : ℕ) (wr i : Bool) (z : ℕ) → Domain w → inException (cpuOf w) ≡ true → t w (busError a wr i z) ≡ pick (isFaulted (cpuOf w)) w (withCpu w (halted (cpuOf w)))
+Halts t = (w : World) (a : ℕ) (wr i : Bool) (z : ℕ) → Domain w → inException (cpuOf w) ≡ true → t w (busError a wr i z) ≡ pick (isFaulted (cpuOf w)) w (step halted w)
 
 -- what meets the equations halts
 pub unrolled-halts : (t v : Raise) → Unrolls t v → Halts t
@@ -212,18 +212,18 @@ module _ (k : ℕ) where
   ending : (Exc : Bool → Type 0) {x y : World} → Good (Kept k Exc) 0 x y → Good (Kept k Exc) 0 (step keepResume x) (step keepResume y)
   ending Exc {x} {y} g = (ap (step keepResume) (g .0), close-address-kept k Exc x (g .1))
 
-  bus-body : (v x : Raise) → Raises (Kept k Set) (Safe k) (isPrefetchKind k) v x → (w : World) (a : ℕ) (wr i : Bool) (z cause : ℕ) → Kept k Either 0 w → Good (Kept k Either) 0 (raiseBus w (step closeBus (exceptionBusError v (withCpu w (beginBus (cpuOf w))) a wr i z cause))) (raiseBus w (step closeBus (exceptionBusError x (withCpu w (beginBus (cpuOf w))) a wr i z cause)))
+  bus-body : (v x : Raise) → Raises (Kept k Set) (Safe k) (isPrefetchKind k) v x → (w : World) (a : ℕ) (wr i : Bool) (z cause : ℕ) → Kept k Either 0 w → Good (Kept k Either) 0 (raiseBus w (step closeBus (exceptionBusError v (step beginBus w) a wr i z cause))) (raiseBus w (step closeBus (exceptionBusError x (step beginBus w) a wr i z cause)))
   unfolding raiseBus
   bus-body v x T w a wr i z cause p =
       pick-if (Good (Kept k Either) 0) (isFaulted (cpuOf w)) (λ h. (refl, p))
       (λ h. pick-if (Good (Kept k Either) 0) (inException (cpuOf w)) (λ h. (refl, halted-kept k Either w p))
-      (λ h. closing (entryBus-good k Set v x T (withCpu w (beginBus (cpuOf w))) a wr i z cause (bus-kept k Either w p))))
+      (λ h. closing (entryBus-good k Set v x T (step beginBus w) a wr i z cause (bus-kept k Either w p))))
 
-  address-body : (Exc : Bool → Type 0) (v x : Raise) → Raises (Kept k Exc) (Safe k) (isPrefetchKind k) v x → (w : World) (a : ℕ) (wr i : Bool) → Kept k Exc 0 w → Good (Kept k Exc) 0 (raiseAddress w (step keepResume (exceptionAddressError v (withCpu w (beginAddress (cpuOf w))) a wr i))) (raiseAddress w (step keepResume (exceptionAddressError x (withCpu w (beginAddress (cpuOf w))) a wr i)))
+  address-body : (Exc : Bool → Type 0) (v x : Raise) → Raises (Kept k Exc) (Safe k) (isPrefetchKind k) v x → (w : World) (a : ℕ) (wr i : Bool) → Kept k Exc 0 w → Good (Kept k Exc) 0 (raiseAddress w (step keepResume (exceptionAddressError v (step beginAddress w) a wr i))) (raiseAddress w (step keepResume (exceptionAddressError x (step beginAddress w) a wr i)))
   unfolding raiseAddress
   address-body Exc v x T w a wr i p =
       pick-if (Good (Kept k Exc) 0) (isFaulted (cpuOf w)) (λ h. (refl, p))
-      (λ h. ending Exc (entryAddress-good k Exc v x T (withCpu w (beginAddress (cpuOf w))) a wr i (address-kept k Exc w p)))
+      (λ h. ending Exc (entryAddress-good k Exc v x T (step beginAddress w) a wr i (address-kept k Exc w p)))
 
   same : (Exc : Bool → Type 0) {x y a b : World} → a ≡ x → b ≡ y → Good (Kept k Exc) 0 x y → Good (Kept k Exc) 0 a b
   same Exc e f g = (e ∙ g .0 ∙ sym f, rw e (g .1))

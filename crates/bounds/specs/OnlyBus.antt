@@ -5,7 +5,7 @@ use mathlib.Core.Path.{_≡_, refl, ap}
 use mathlib.Core.Bool.{Bool, true, false}
 use Rattle.types.specs.Kinds.{isPrefetchKind}
 use Rattle.cpu.specs.Fields.{kindOf, addressOf, isFaulted, inException, causeNumberOf}
-use Rattle.memory.specs.World.{World, cpuOf, withCpu, step}
+use Rattle.memory.specs.World.{World, cpuOf, step}
 use Rattle.steps.specs.Steps.{refusesOdd, vectorAddress, beginBus, beginAddress, closeBus}
 use Rattle.status.specs.Status.{keepResume}
 use Rattle.faults.specs.Faults.{busError, addressError, Raise, readOr, prefetchRead, firstFrom, prefetchFirst, secondFrom, prefetchSecond, jumpVector, exceptionAddressError, exceptionBusError, raiseBus, raiseAddress, trigger, Fault}
@@ -68,13 +68,13 @@ module _ (n : ℕ) (s : Raise) (w : World) (d : Domain w) where
 -- and so does the entry of a trigger
 module _ (n : ℕ) (s : Raise) (w : World) (d : Domain w) where
   -- the entry of an address fault
-  pub address-only-bus : (a : ℕ) (wr i : Bool) → trigger (suc n) w (addressError a wr i) ≡ raiseAddress w (step keepResume (exceptionAddressError (busOr (trigger n) s) (withCpu w (beginAddress (cpuOf w))) a wr i))
+  pub address-only-bus : (a : ℕ) (wr i : Bool) → trigger (suc n) w (addressError a wr i) ≡ raiseAddress w (step keepResume (exceptionAddressError (busOr (trigger n) s) (step beginAddress w) a wr i))
   unfolding trigger
   address-only-bus a wr i =
-      ap (λ x. raiseAddress w (step keepResume x)) (entryAddress-only-bus n s (withCpu w (beginAddress (cpuOf w))) (domain (kindOf (cpuOf w)) Either (withCpu w (beginAddress (cpuOf w))) (address-kept (kindOf (cpuOf w)) Either w (inside w d))) a wr i)
+      ap (λ x. raiseAddress w (step keepResume x)) (entryAddress-only-bus n s (step beginAddress w) (domain (kindOf (cpuOf w)) Either (step beginAddress w) (address-kept (kindOf (cpuOf w)) Either w (inside w d))) a wr i)
 
   -- the entry of a bus fault
-  pub bus-only-bus : (a : ℕ) (wr i : Bool) (z : ℕ) → trigger (suc n) w (busError a wr i z) ≡ raiseBus w (step closeBus (exceptionBusError (busOr (trigger n) s) (withCpu w (beginBus (cpuOf w))) a wr i z (causeNumberOf (cpuOf w))))
+  pub bus-only-bus : (a : ℕ) (wr i : Bool) (z : ℕ) → trigger (suc n) w (busError a wr i z) ≡ raiseBus w (step closeBus (exceptionBusError (busOr (trigger n) s) (step beginBus w) a wr i z (causeNumberOf (cpuOf w))))
   unfolding trigger
   bus-only-bus a wr i z =
-      ap (λ x. raiseBus w (step closeBus x)) (entryBus-only-bus n s (withCpu w (beginBus (cpuOf w))) (domain (kindOf (cpuOf w)) Set (withCpu w (beginBus (cpuOf w))) (bus-kept (kindOf (cpuOf w)) Either w (inside w d))) a wr i z (causeNumberOf (cpuOf w)))
+      ap (λ x. raiseBus w (step closeBus x)) (entryBus-only-bus n s (step beginBus w) (domain (kindOf (cpuOf w)) Set (step beginBus w) (bus-kept (kindOf (cpuOf w)) Either w (inside w d))) a wr i z (causeNumberOf (cpuOf w)))

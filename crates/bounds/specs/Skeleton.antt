@@ -6,7 +6,7 @@ use mathlib.Core.List.{List}
 use Rattle.types.specs.Kinds.{pick, either}
 use Rattle.cpu.specs.Fields.{pcOf, a7Of, addressOf, isFaulted, setPc, setWdata, startVector, lowerA7, oddPc}
 use Rattle.cpu.specs.Clocks.{hasClocks, clocksOf, setClocks, prefetchEnabled, oneFetched, internalCycles, clearPrefetch, firstWord, secondWord}
-use Rattle.memory.specs.World.{World, Attempt, reply, widthOf, noted, stored, withCpu, served, readValue, flush, release, rawWrite, rawRead, tryWrite, tryRead, cpuOf}
+use Rattle.memory.specs.World.{World, Attempt, reply, widthOf, noted, stored, withCpu, served, readValue, flush, release, rawWrite, rawRead, tryWrite, tryRead, cpuOf, step}
 use Rattle.frames.specs.declared.Field.{Field}
 use Rattle.frames.specs.declared.Frame.{Frame}
 use Rattle.frames.specs.Frames.{fieldAt, isCounted, isRaw}
@@ -54,7 +54,7 @@ pub record Steps (P : ℕ → World → Type 0) (q : Bool) : Type 0 where
   pub releases : (n : ℕ) (w : World) → P n w → P (suc n) (release w)
   pub starts : (n : ℕ) (w : World) (v : ℕ) → P n w → P n (withCpu w (startVector (cpuOf w) v))
   pub goes : (n : ℕ) (w : World) (v : ℕ) → P n w → P n (withCpu w (setPc (cpuOf w) v))
-  pub drops : (n : ℕ) (w : World) → P n w → P n (withCpu w (clearPrefetch (cpuOf w)))
+  pub drops : (n : ℕ) (w : World) → P n w → P n (step clearPrefetch w)
   pub firsts : (n : ℕ) (w : World) (v : ℕ) → P n w → P n (withCpu w (firstWord (cpuOf w) v))
   pub seconds : (n : ℕ) (w : World) (v : ℕ) → P n w → P n (withCpu w (secondWord (cpuOf w) v))
   pub clocks : (n : ℕ) (w : World) → (prefetchEnabled (cpuOf w) ≡ true → q ≡ true) → P n w → P (more q n) (withCpu w (internalCycles (cpuOf w) 2))

@@ -8,7 +8,7 @@ use borrow.Author.Tests.{le-ltb, le-leb, lt-leb, ne-eqb}
 use Rattle.types.specs.Kinds.{pick}
 use Rattle.types.specs.Tables.{exceptionCycles}
 use Rattle.cpu.specs.Fields.{inException, halted, rewindPc}
-use Rattle.memory.specs.World.{World, putCpu, cpuOf, withCpu}
+use Rattle.memory.specs.World.{World, putCpu, cpuOf, step}
 use Rattle.steps.specs.Steps.{beginEntry}
 use Rattle.exceptions.specs.Exceptions.{entry, taken, takeException, takeGroup2, trap, exceptionTrace, takeRewound, takeFpUnimp060, takeFpDisabled060}
 
@@ -42,7 +42,7 @@ module _ (w : World) where
   unfolding takeException
   takeException-cycles v = go (inException (cpuOf w))
     where
-      go : (b : Bool) → pick b (entry (withCpu w (halted (cpuOf w))) 0) (entry (taken (withCpu w (beginEntry (cpuOf w))) v) (exceptionCycles v)) .cycles ≡ pick b 0 (exceptionCycles v)
+      go : (b : Bool) → pick b (entry (step halted w) 0) (entry (taken (step beginEntry w) v) (exceptionCycles v)) .cycles ≡ pick b 0 (exceptionCycles v)
       go true = refl
       go false = refl
 
@@ -73,7 +73,7 @@ module _ (w : World) where
 -- the wrappers that take PC back: line A at 10, line F at 11, breakpoint and illegal at 4
 pub takeRewound-cycles : (w : World) (v : ℕ) → takeRewound w v .cycles ≡ pick (inException (cpuOf w)) 0 (exceptionCycles v)
 unfolding takeRewound rewindPc putCpu inException
-takeRewound-cycles w v = takeException-cycles (withCpu w (rewindPc (cpuOf w))) v
+takeRewound-cycles w v = takeException-cycles (step rewindPc w) v
 
 -- so outside an entry an exception answers the table's cycles, and while one is under way just 0
 pub outside-cycles : (w : World) (v : ℕ) → inException (cpuOf w) ≡ false → takeException w v .cycles ≡ exceptionCycles v

@@ -11,7 +11,7 @@ use Rattle.cpu.specs.declared.Cpu.{Cpu}
 use Rattle.cpu.specs.Fields.{kindOf, vbrOf, pcOf, ppcOf, inException, halted, setException, rewindPc, noteFpiar, leaveStop}
 use Rattle.status.specs.Status.{statusOf}
 use Rattle.cpu.specs.Clocks.{setClocks, internalCycles}
-use Rattle.memory.specs.World.{World, putCpu, cpuOf, withCpu}
+use Rattle.memory.specs.World.{World, putCpu, cpuOf, withCpu, step}
 use Rattle.frames.specs.Frames.{fieldAt, isCounted}
 use Rattle.steps.specs.Steps.{stackedAddress, beginEntry, beginTrace}
 use Rattle.faults.specs.Faults.{raised, jumpVector, pushFrame}
@@ -130,7 +130,7 @@ module _ (w : World) (s : w .core .bus .events ≡ 0) (d : Domain w) where
   K = kindOf (cpuOf w)
 
   -- an entry that is taken: while it is under way a bus fault halts, so an address fault is all that may cost
-  taken-events : (v : ℕ) → Written (entryCost K (underCost K) 3) (w .log) (taken (withCpu w (beginEntry (cpuOf w))) v)
+  taken-events : (v : ℕ) → Written (entryCost K (underCost K) 3) (w .log) (taken (step beginEntry w) v)
   unfolding taken finished beginEntry setException putCpu kindOf vbrOf inException
   taken-events v =
       let m = under-most K in
@@ -148,10 +148,10 @@ module _ (w : World) (s : w .core .bus .events ≡ 0) (d : Domain w) where
   unfolding takeException
   takeException-events v = go (inException (cpuOf w))
     where
-      stopped : Written 0 (w .log) (withCpu w (halted (cpuOf w)))
+      stopped : Written 0 (w .log) (step halted w)
       stopped = on-written 0 (w .log) w (halted (cpuOf w)) (none w s d)
 
-      go : (b : Bool) → Written (pick b 0 (entryCost K (underCost K) 3)) (w .log) (pick b (entry (withCpu w (halted (cpuOf w))) 0) (entry (taken (withCpu w (beginEntry (cpuOf w))) v) (exceptionCycles v)) .after)
+      go : (b : Bool) → Written (pick b 0 (entryCost K (underCost K) 3)) (w .log) (pick b (entry (step halted w) 0) (entry (taken (step beginEntry w) v) (exceptionCycles v)) .after)
       go true = stopped
       go false = taken-events v
 
@@ -179,7 +179,7 @@ module _ (w : World) (s : w .core .bus .events ≡ 0) (d : Domain w) where
   -- `exception_trace`
   pub exceptionTrace-events : Written (entryCost K (guardCost K) (group2Writes K)) (w .log) (exceptionTrace w .after)
   unfolding exceptionTrace beginTrace leaveStop putCpu kindOf vbrOf inException
-  exceptionTrace-events = group2-events (withCpu w (internalCycles (leaveStop (cpuOf w)) 4)) 9 (clocks-start K Either (guardCost K) (withCpu w (leaveStop (cpuOf w))) 4 s (record { same = refl; base = d; state = tt }))
+  exceptionTrace-events = group2-events (withCpu w (internalCycles (leaveStop (cpuOf w)) 4)) 9 (clocks-start K Either (guardCost K) (step leaveStop w) 4 s (record { same = refl; base = d; state = tt }))
 
   -- `take_fp_unimp_060`: four writes
   pub takeFpUnimp060-events : (ea : ℕ) → Written (entryCost K (guardCost K) 4) (w .log) (takeFpUnimp060 w ea .after)
@@ -189,7 +189,7 @@ module _ (w : World) (s : w .core .bus .events ≡ 0) (d : Domain w) where
       let c : ℕ = guardCost K in
       let l : List ℕ = w .log in
       let T = raises-any K l 0 in
-      let x : World = withCpu w (noteFpiar (cpuOf w)) in
+      let x : World = step noteFpiar w in
       let p : Bill K Either c l (suc c) x = (record { same = refl; base = d; state = tt }, start c x s) in
       jump-events K l Either c (suc (suc (suc (suc (suc c))))) (entryCost K c 4) (stackUnimp x ea) 11 (omega arith) (omega arith) T (long-bill K Either c l T (suc c) (supervised x) (statusOf (cpuOf x)) (pcOf (cpuOf x)) (formatWord 2 11) ea (super-bill K Either c l (suc c) x p))
 
@@ -211,7 +211,7 @@ module _ (w : World) (s : w .core .bus .events ≡ 0) (d : Domain w) where
 
   pub takeRewound-events : (v : ℕ) → Written (pick (inException (cpuOf w)) 0 (entryCost (kindOf (cpuOf w)) (underCost (kindOf (cpuOf w))) 3)) (w .log) (takeRewound w v .after)
   unfolding takeRewound rewindPc putCpu kindOf vbrOf inException
-  takeRewound-events v = takeException-events (withCpu w (rewindPc (cpuOf w))) s d v
+  takeRewound-events v = takeException-events (step rewindPc w) s d v
 
 -- THE BOUNDS over all kinds: 22 where the entry is under way while it stacks (kind 2), else 37 and 38 (kinds 0, 3 to 6)
 pub taken-most : (k : ℕ) → entryCost k (underCost k) 3 ≤ 22

@@ -15,7 +15,7 @@ use Rattle.status.specs.Banks.{enterSupervisor, setSFlag, restoreSp, putS, back
 use Rattle.cpu.specs.Clocks.{hasClocks, setClocks, internalCycles}
 use Rattle.requests.specs.Interrupts.{pendingLevel, maskLevel, takesInterrupt, clearLevel, chargeInterrupt, charged}
 use Rattle.requests.specs.Laws.{seven-taken, taken-above, taken-exceeds, exceeding-taken}
-use Rattle.memory.specs.World.{World, Attempt, tried, putCpu, noted, flush, responseOf, acknowledged, cpuOf, withCpu}
+use Rattle.memory.specs.World.{World, Attempt, tried, putCpu, noted, flush, responseOf, acknowledged, cpuOf, withCpu, step}
 use Rattle.faults.specs.Faults.{raised, writeAt, jumpVector}
 use Rattle.exceptions.specs.Frames.{formatWord, offsetWord}
 use Rattle.steps.specs.Steps.{enterLevel, withS, closeInterrupt}
@@ -118,21 +118,21 @@ module _ (k : ℕ) (c : ℕ) (l : List ℕ) where
     unfolding throwaway setSmFlag setSmFlagNosp restoreSp backupSp putCpu kindOf vbrOf inException hasClocks isFaulted
     throwaway-bill n w pc sr v p = short-bill k Either c l T n (withCpu w (setSmFlag (cpuOf w) 4)) (withS sr) pc (formatWord 1 v) p
 
-    cleared-bill : (n : ℕ) (w : World) → P n w → P n (withCpu w (clearM (cpuOf w)))
+    cleared-bill : (n : ℕ) (w : World) → P n w → P n (step clearM w)
     unfolding clearM putCpu kindOf vbrOf inException hasClocks isFaulted
     cleared-bill n w p = p
 
     secondFrame-bill : (n : ℕ) (w : World) (pc sr v : ℕ) → P n w → P (n + secondCost k) (secondFrame w pc sr v)
     unfolding secondFrame
-    secondFrame-bill n w pc sr v p = pick-one (P (n + secondCost k)) (mIsSet (cpuOf w)) (subst (λ j. P (n + secondCost j) (pick (isEc020Plus (kindOf (cpuOf w))) (throwaway w pc sr v) (pick (is060 (kindOf (cpuOf w))) (withCpu w (clearM (cpuOf w))) w))) (p .0 .same) (go (isEc020Plus (kindOf (cpuOf w))))) same
+    secondFrame-bill n w pc sr v p = pick-one (P (n + secondCost k)) (mIsSet (cpuOf w)) (subst (λ j. P (n + secondCost j) (pick (isEc020Plus (kindOf (cpuOf w))) (throwaway w pc sr v) (pick (is060 (kindOf (cpuOf w))) (step clearM w) w))) (p .0 .same) (go (isEc020Plus (kindOf (cpuOf w))))) same
       where
         same : P (n + secondCost k) w
         same = more-bill k Either c l w (omega arith) p
 
-        other : P (n + 0) (pick (is060 (kindOf (cpuOf w))) (withCpu w (clearM (cpuOf w))) w)
-        other = more-bill k Either c l (pick (is060 (kindOf (cpuOf w))) (withCpu w (clearM (cpuOf w))) w) (omega arith) (pick-one (P n) (is060 (kindOf (cpuOf w))) (cleared-bill n w p) p)
+        other : P (n + 0) (pick (is060 (kindOf (cpuOf w))) (step clearM w) w)
+        other = more-bill k Either c l (pick (is060 (kindOf (cpuOf w))) (step clearM w) w) (omega arith) (pick-one (P n) (is060 (kindOf (cpuOf w))) (cleared-bill n w p) p)
 
-        go : (b : Bool) → P (n + pick b 3 0) (pick b (throwaway w pc sr v) (pick (is060 (kindOf (cpuOf w))) (withCpu w (clearM (cpuOf w))) w))
+        go : (b : Bool) → P (n + pick b 3 0) (pick b (throwaway w pc sr v) (pick (is060 (kindOf (cpuOf w))) (step clearM w) w))
         go true = more-bill k Either c l (throwaway w pc sr v) (omega arith) (throwaway-bill n w pc sr v p)
         go false = other
 

@@ -16,7 +16,7 @@ use Rattle.cpu.specs.Fields.{kindOf, pcOf, ppcOf, a7Of, inException, halted, re
 use Rattle.memory.specs.declared.Core.{Core}
 use Rattle.memory.specs.declared.Bus.{Bus}
 use Rattle.memory.specs.ByteLaws.{AllBytes}
-use Rattle.memory.specs.World.{World, world, tried, putCpu, cpuOf, withCpu}
+use Rattle.memory.specs.World.{World, world, tried, putCpu, cpuOf, step}
 use Rattle.types.specs.Tables.{exceptionCycles}
 use Rattle.types.specs.Causes.{causeNumber}
 use Rattle.requests.specs.Interrupts.{pendingLevel, maskLevel, takesInterrupt}
@@ -333,7 +333,7 @@ exc-reads : (w : World) (v : ℕ) (p : Plan) → Agrees (ofEntry (takeException 
 unfolding ofEntry cycles takeException
 exc-reads w v p = go (inException (cpuOf w))
   where
-    go : (b : Bool) → Agrees (ofEntry (pick b (entry (withCpu w (halted (cpuOf w))) 0) (entry (done (withCpu w (beginEntry (cpuOf w))) v) (exceptionCycles v)))) (pick b none (some p))
+    go : (b : Bool) → Agrees (ofEntry (pick b (entry (step halted w) 0) (entry (done (step beginEntry w) v) (exceptionCycles v)))) (pick b none (some p))
     go true = refl
     go false = rw (costs v)
 
@@ -344,7 +344,7 @@ rewound-in c = refl
 rewound-reads : (w : World) (v : ℕ) (p : Plan) → Agrees (ofEntry (takeRewound w v)) (pick (inException (cpuOf w)) none (some p))
 unfolding takeRewound putCpu
 rewound-reads w v p =
-    subst (λ (b : Bool). Agrees (ofEntry (takeException (withCpu w (rewindPc (cpuOf w))) v)) (pick b none (some p))) (rewound-in (cpuOf w)) (exc-reads (withCpu w (rewindPc (cpuOf w))) v p)
+    subst (λ (b : Bool). Agrees (ofEntry (takeException (step rewindPc w) v)) (pick b none (some p))) (rewound-in (cpuOf w)) (exc-reads (step rewindPc w) v p)
 
 costly : (z : World) (v : ℕ) (p : Plan) → Agrees (ofEntry (entry z (exceptionCycles v))) (some p)
 unfolding ofEntry cycles

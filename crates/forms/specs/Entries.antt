@@ -13,7 +13,7 @@ use Rattle.cpu.specs.Clocks.{internalCycles, prefetchEnabled, setClocks, clocks
 use Rattle.status.specs.Status.{statusOf, compose, clearTrace}
 use Rattle.status.specs.Banks.{spIndex, backupSp, restoreSp, putS, setSFlag, enterSupervisor}
 use Rattle.memory.specs.declared.Core.{Core}
-use Rattle.memory.specs.World.{World, world, putCpu, cpuOf, withCpu}
+use Rattle.memory.specs.World.{World, world, putCpu, cpuOf, withCpu, step}
 use Rattle.frames.specs.declared.Frame.{Frame}
 use Rattle.frames.specs.Frames.{addressFrame, busFrame}
 use Rattle.steps.specs.Steps.{enterBusError, stacksNext, stackedAddress, beginEntry, beginTrace}
@@ -34,7 +34,7 @@ use Rattle.forms.specs.Plans.{Push, Plan, turned, stackAll, planned, All
 abbrev pub Seen : (Cpu → Cpu) → Type 0
 Seen f = (c : Cpu) → gistCpu (f c) ≡ gistCpu (f (gistCpu c))
 
-pub turn-form : (w x : World) (f : Cpu → Cpu) → Seen f → gist w ≡ x → gist (withCpu w (f (cpuOf w))) ≡ turned x f
+pub turn-form : (w x : World) (f : Cpu → Cpu) → Seen f → gist w ≡ x → gist (step f w) ≡ turned x f
 unfolding turned gist putCpu calm
 turn-form w x f s e =
     ap (λ (c : Cpu). world (record { cpu = c; bus = calm (w .core .bus) }) (w .store) []) (s (cpuOf w)) ∙ ap (λ (y : World). turned y f) e
@@ -145,16 +145,16 @@ module _ (c : Cpu) where
   unfolding stackedAddress pcOf ppcOf setException
   marked-stacked v = refl
 
-begin-gist : (w : World) → gist (supervised (withCpu w (beginEntry (cpuOf w)))) ≡ gist (withCpu w (enterSupervisor (setException (cpuOf w) true)))
+begin-gist : (w : World) → gist (supervised (step beginEntry w)) ≡ gist (withCpu w (enterSupervisor (setException (cpuOf w) true)))
 unfolding beginEntry putCpu
 begin-gist w =
-    turn-form (withCpu w (beginEntry (cpuOf w))) (gist (withCpu w (setException (cpuOf w) true))) enterSupervisor seen-supervisor (cycles-gist (withCpu w (setException (cpuOf w) true)) 4)
+    turn-form (step beginEntry w) (gist (withCpu w (setException (cpuOf w) true))) enterSupervisor seen-supervisor (cycles-gist (withCpu w (setException (cpuOf w) true)) 4)
     ∙ sym (turn-form (withCpu w (setException (cpuOf w) true)) (gist (withCpu w (setException (cpuOf w) true))) enterSupervisor seen-supervisor refl)
 
 -- the frame of a record c, whose gist and turn are given
 taken-form : (w x : World) (turn : Cpu → Cpu) (v : ℕ) → gist (withCpu w (enterSupervisor (setException (cpuOf w) true))) ≡ turned x turn
     → Clean x (single turn (shortOf (kindOf (cpuOf w)) (statusOf (cpuOf w)) (stackedAddress (cpuOf w) v) (offsetWord v)) v (λ d. setException d false))
-    → gist (taken (withCpu w (beginEntry (cpuOf w))) v) ≡ planned x (single turn (shortOf (kindOf (cpuOf w)) (statusOf (cpuOf w)) (stackedAddress (cpuOf w) v) (offsetWord v)) v (λ d. setException d false))
+    → gist (taken (step beginEntry w) v) ≡ planned x (single turn (shortOf (kindOf (cpuOf w)) (statusOf (cpuOf w)) (stackedAddress (cpuOf w) v) (offsetWord v)) v (λ d. setException d false))
 unfolding taken finished beginEntry AllReady stackAll putCpu
 taken-form w x turn v e h =
     let c : Cpu = setException (cpuOf w) true in
@@ -191,7 +191,7 @@ pub rewound-form : (w x : World) (v : ℕ) → gist w ≡ x → inException (cpu
 unfolding takeRewound takeException rewoundPlan putCpu statusOf kindOf rewindPc
 rewound-form w x v e i h =
     rw (rewound-inside (cpuOf w) ∙ i)
-    (taken-form (withCpu w (rewindPc (cpuOf w))) x (λ d. enterSupervisor (setException (rewindPc d) true)) v (turn-form w x (λ d. enterSupervisor (setException (rewindPc d) true)) seen-rewound e) h)
+    (taken-form (step rewindPc w) x (λ d. enterSupervisor (setException (rewindPc d) true)) v (turn-form w x (λ d. enterSupervisor (setException (rewindPc d) true)) seen-rewound e) h)
 
 -- ---- group 2
 
@@ -257,18 +257,18 @@ module _ (c : Cpu) where
       ∙ ap (λ (k : ℕ). group2Frame (kindOf c) (statusOf c) k (ppcOf (internalCycles (leaveStop c) 4)) v) (alike-pc _ _ a ∙ stop-pc)
       ∙ ap (λ (k : ℕ). group2Frame (kindOf c) (statusOf c) (pcOf c) k v) (alike-ppc _ _ a ∙ stop-ppc)
 
-trace-gist : (w : World) → gist (supervised (withCpu w (beginTrace (cpuOf w)))) ≡ gist (withCpu w (enterSupervisor (leaveStop (cpuOf w))))
+trace-gist : (w : World) → gist (supervised (step beginTrace w)) ≡ gist (withCpu w (enterSupervisor (leaveStop (cpuOf w))))
 unfolding beginTrace putCpu
 trace-gist w =
-    turn-form (withCpu w (beginTrace (cpuOf w))) (gist (withCpu w (leaveStop (cpuOf w)))) enterSupervisor seen-supervisor (cycles-gist (withCpu w (leaveStop (cpuOf w))) 4)
-    ∙ sym (turn-form (withCpu w (leaveStop (cpuOf w))) (gist (withCpu w (leaveStop (cpuOf w)))) enterSupervisor seen-supervisor refl)
+    turn-form (step beginTrace w) (gist (step leaveStop w)) enterSupervisor seen-supervisor (cycles-gist (step leaveStop w) 4)
+    ∙ sym (turn-form (step leaveStop w) (gist (step leaveStop w)) enterSupervisor seen-supervisor refl)
 
 pub trace-form : (w x : World) → gist w ≡ x → Clean x (tracePlan (cpuOf w)) → gist (exceptionTrace w .after) ≡ planned x (tracePlan (cpuOf w))
 unfolding exceptionTrace tracePlan putCpu
 trace-form w x e h =
     let turn : Cpu → Cpu = λ d. enterSupervisor (leaveStop d) in
     let f : framed2 (beginTrace (cpuOf w)) 9 ≡ framed2 (cpuOf w) 9 = trace-frame (cpuOf w) 9 in
-    group2-any (withCpu w (beginTrace (cpuOf w))) x turn 9 (trace-gist w ∙ turn-form w x turn seen-trace e) (subst (λ (z : Frame). Clean x (single turn z 9 same)) (sym f) h)
+    group2-any (step beginTrace w) x turn 9 (trace-gist w ∙ turn-form w x turn seen-trace e) (subst (λ (z : Frame). Clean x (single turn z 9 same)) (sym f) h)
     ∙ ap (λ (z : Frame). planned x (single turn z 9 same)) f
 
 -- ---- floating point and errors: frames by pushes alone
@@ -283,19 +283,19 @@ pub fpUnimp-form : (w x : World) (ea : ℕ) → gist w ≡ x → Clean x (fpUnim
 unfolding takeFpUnimp060 stackUnimp fpUnimpPlan putCpu statusOf pcOf noteFpiar
 fpUnimp-form w x ea e h =
     let turn : Cpu → Cpu = λ d. enterSupervisor (noteFpiar d) in
-    pushes-form w (withCpu w (turn (cpuOf w))) x turn (longFrame (statusOf (cpuOf w)) (pcOf (cpuOf w)) (formatWord 2 11) ea) 11 (turn-form w x turn seen-fpiar e) h
+    pushes-form w (step turn w) x turn (longFrame (statusOf (cpuOf w)) (pcOf (cpuOf w)) (formatWord 2 11) ea) 11 (turn-form w x turn seen-fpiar e) h
 
 pub fpDisabled-form : (w x : World) → gist w ≡ x → Clean x (fpDisabledPlan (cpuOf w)) → gist (takeFpDisabled060 w .after) ≡ planned x (fpDisabledPlan (cpuOf w))
 unfolding takeFpDisabled060 stackDisabled fpDisabledPlan
 fpDisabled-form w x e h =
-    pushes-form w (withCpu w (enterSupervisor (cpuOf w))) x enterSupervisor (disabledFrame (statusOf (cpuOf w)) (ppcOf (cpuOf w)) (formatWord 4 11) 0 (ppcOf (cpuOf w))) 11 (turn-form w x enterSupervisor seen-supervisor e) h
+    pushes-form w (step enterSupervisor w) x enterSupervisor (disabledFrame (statusOf (cpuOf w)) (ppcOf (cpuOf w)) (formatWord 4 11) 0 (ppcOf (cpuOf w))) 11 (turn-form w x enterSupervisor seen-supervisor e) h
 
 pub address-form : (w x : World) (a : ℕ) (write instruction : Bool) → gist w ≡ x → Clean x (addressPlan (cpuOf w) a write instruction) → gist (exceptionAddressError raised w a write instruction) ≡ planned x (addressPlan (cpuOf w) a write instruction)
 unfolding exceptionAddressError addressPlan
 address-form w x a write instruction e h =
-    pushes-form w (withCpu w (enterSupervisor (cpuOf w))) x enterSupervisor (addressFrame (cpuOf w) a write instruction) 3 (turn-form w x enterSupervisor seen-supervisor e) h
+    pushes-form w (step enterSupervisor w) x enterSupervisor (addressFrame (cpuOf w) a write instruction) 3 (turn-form w x enterSupervisor seen-supervisor e) h
 
 pub bus-form : (w x : World) (a : ℕ) (write instruction : Bool) (z cause : ℕ) → gist w ≡ x → Clean x (busPlan (cpuOf w) a write instruction z cause) → gist (exceptionBusError raised w a write instruction z cause) ≡ planned x (busPlan (cpuOf w) a write instruction z cause)
 unfolding exceptionBusError busPlan
 bus-form w x a write instruction z cause e h =
-    pushes-form w (withCpu w (enterBusError (cpuOf w))) x enterBusError (busFrame (cpuOf w) a write instruction z cause) 2 (turn-form w x enterBusError seen-bus e) h
+    pushes-form w (step enterBusError w) x enterBusError (busFrame (cpuOf w) a write instruction z cause) 2 (turn-form w x enterBusError seen-bus e) h

@@ -15,7 +15,7 @@ use Rattle.status.specs.Banks.{spIndex, backupSp, restoreSp, putS, setSFlag, se
 use Rattle.requests.specs.Interrupts.{pendingLevel, takesInterrupt, clearLevel, chargeInterrupt, charged}
 use Rattle.memory.specs.declared.Core.{Core}
 use Rattle.memory.specs.Log.{counted}
-use Rattle.memory.specs.World.{World, world, Attempt, reply, tried, noted, stored, putCpu, flush, responseOf, acknowledged, cpuOf, withCpu}
+use Rattle.memory.specs.World.{World, world, Attempt, reply, tried, noted, stored, putCpu, flush, responseOf, acknowledged, cpuOf, withCpu, step}
 use Rattle.frames.specs.declared.Frame.{Frame}
 use Rattle.frames.specs.Frames.{fieldAt}
 use Rattle.faults.specs.Faults.{Raise, raised, writeAt, pushFrame, jumpVector}
@@ -171,8 +171,8 @@ unfolding AllReady stackAll
 throw-form w y pc sr v e r =
     let turn : Cpu → Cpu = λ d. setSmFlag d 4 in
     let f : Frame = shortFrame (withS sr) pc (formatWord 1 v) in
-    still-form (pushFrame raised (withCpu w (turn (cpuOf w))) f) (framedBy (turned y turn) f)
-    (stacked-form raised (withCpu w (turn (cpuOf w))) (turned y turn) f (turn-form w y turn seen-throw e) (r .0 .sound) (r .0 .allowed))
+    still-form (pushFrame raised (step turn w) f) (framedBy (turned y turn) f)
+    (stacked-form raised (step turn w) (turned y turn) f (turn-form w y turn seen-throw e) (r .0 .sound) (r .0 .allowed))
 
 second-form : (w y : World) (pc sr v : ℕ) (m master six : Bool) → gist w ≡ y → mIsSet (cpuOf w) ≡ m → isEc020Plus (kindOf (cpuOf w)) ≡ master → is060 (kindOf (cpuOf w)) ≡ six
     → AllReady y (throwaways m master sr pc v) → gist (secondFrame w pc sr v) ≡ turned (stackAll y (throwaways m master sr pc v)) (settles m master six)
@@ -180,7 +180,7 @@ unfolding secondFrame throwaway throwaways settles stackAll
 second-form w y pc sr v m master six e a b c h = rw (a, b, c) (go m master six h)
   where
     go : (m master six : Bool) → AllReady y (pick m (pick master (record { turn = λ d. setSmFlag d 4; frame = shortFrame (withS sr) pc (formatWord 1 v) } ∷ []) []) [])
-        → gist (pick m (pick master (pushFrame raised (withCpu w (setSmFlag (cpuOf w) 4)) (shortFrame (withS sr) pc (formatWord 1 v))) (pick six (withCpu w (clearM (cpuOf w))) w)) w)
+        → gist (pick m (pick master (pushFrame raised (withCpu w (setSmFlag (cpuOf w) 4)) (shortFrame (withS sr) pc (formatWord 1 v))) (pick six (step clearM w) w)) w)
         ≡ turned (stackAll y (pick m (pick master (record { turn = λ d. setSmFlag d 4; frame = shortFrame (withS sr) pc (formatWord 1 v) } ∷ []) []) [])) (pick m (pick master same (pick six clearM same)) same)
     go true true six r = throw-form w y pc sr v e r
     go true false true r = turn-form w y clearM seen-clear e
@@ -233,7 +233,7 @@ interrupt-by w x level v m master six e u a b c h =
     let sr : ℕ = statusOf (cpuOf w) in
     let f : Frame = interruptFrame (kindOf (cpuOf w)) sr pc v in
     let y : World = turned x turn in
-    let o : World = withCpu w (turn (cpuOf w)) in
+    let o : World = step turn w in
     let d : gist o ≡ y = turn-form w x turn (seen-level level) e in
     let r : Framed (firstFrame o pc sr level) y f v = first-form o y (kindOf (cpuOf w)) pc sr level v d (entered-kind w level)
     (begun-vector x level f ∙ ap (λ (z : World). vectorAt z level) (sym e) ∙ sym (gist-vector w level) ∙ u) (h .stacks .0) in

@@ -12,7 +12,7 @@ use Rattle.cpu.specs.Clocks.{prefetchEnabled, oneFetched, internalCycles, setCl
 use Rattle.memory.specs.declared.Core.{Core}
 use Rattle.memory.specs.Log.{counted}
 use Rattle.memory.specs.Served.{servedOf, placeOf}
-use Rattle.memory.specs.World.{World, world, Attempt, reply, noted, putCpu, widthOf, served, fetched, readValue, flush, release, rawRead, tryRead, cpuOf, withCpu}
+use Rattle.memory.specs.World.{World, world, Attempt, reply, noted, putCpu, widthOf, served, fetched, readValue, flush, release, rawRead, tryRead, cpuOf, withCpu, step}
 use Rattle.steps.specs.Steps.{refusesOdd, vectorAddress}
 use Rattle.faults.specs.Faults.{Raise, readOr, prefetchRead, keptFirst, firstFrom, prefetchFirst, keptSecond, secondFrom, prefetchSecond, checkedRead, readAt, vectorRead, refill, jumpTo, jumpVector}
 use Rattle.images.specs.Pushes.{calm, served-calm}
@@ -88,7 +88,7 @@ kept-second x = go (x .ok)
     go true = refl
     go false = refl
 
-clear-gist : (w : World) → gist (withCpu w (clearPrefetch (cpuOf w))) ≡ gist w
+clear-gist : (w : World) → gist (step clearPrefetch w) ≡ gist w
 unfolding clearPrefetch putCpu gist gistCpu
 clear-gist w = refl
 
@@ -131,8 +131,8 @@ first-form : (t : Raise) (w x : World) → gist w ≡ x → (prefetchEnabled (cp
 unfolding prefetchFirst
 first-form t w x e h = go (prefetchEnabled (cpuOf w)) refl
   where
-    go : (p : Bool) → prefetchEnabled (cpuOf w) ≡ p → gist (pick p (firstFrom t (withCpu w (clearPrefetch (cpuOf w)))) w) ≡ x
-    go true d = first-from t (withCpu w (clearPrefetch (cpuOf w))) x (clear-gist w ∙ e) (h (sym (ap (λ (y : World). prefetchEnabled (cpuOf y)) e) ∙ sym (enabled-gist w) ∙ d))
+    go : (p : Bool) → prefetchEnabled (cpuOf w) ≡ p → gist (pick p (firstFrom t (step clearPrefetch w)) w) ≡ x
+    go true d = first-from t (step clearPrefetch w) x (clear-gist w ∙ e) (h (sym (ap (λ (y : World). prefetchEnabled (cpuOf y)) e) ∙ sym (enabled-gist w) ∙ d))
     go false d = e
 
 second-from : (t : Raise) (w x : World) → gist w ≡ x → Word x ((pcOf (cpuOf x) + 2) % 2 ^ 32) → gist (secondFrom t w) ≡ x

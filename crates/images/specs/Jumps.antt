@@ -122,7 +122,7 @@ unfolding prefetchFirst clearPrefetch pcOf putCpu
 first-idle t w h = go (prefetchEnabled (cpuOf w))
   where
     x : World
-    x = withCpu w (clearPrefetch (cpuOf w))
+    x = step clearPrefetch w
 
     i : Idle w x
     i = on-idle w w (clearPrefetch (cpuOf w)) (none w) refl refl refl
@@ -299,29 +299,29 @@ entry-image t w f v s h r = image-still w (pushFrame t w f) (jumpVector t (pushF
 
 module _ (t : Raise) (w : World) (a : ℕ) (write instruction : Bool) where
   -- a bus error entry whose accesses are all served leaves the image of its frame on the supervisor stack
-  pub bus-image : (z cause : ℕ) → Ready (withCpu w (enterBusError (cpuOf w))) (busFrame (cpuOf w) a write instruction z cause)
-      → Reachable (pushFrame t (withCpu w (enterBusError (cpuOf w))) (busFrame (cpuOf w) a write instruction z cause)) 2
-      → Image (withCpu w (enterBusError (cpuOf w))) (exceptionBusError t w a write instruction z cause) (busFrame (cpuOf w) a write instruction z cause)
+  pub bus-image : (z cause : ℕ) → Ready (step enterBusError w) (busFrame (cpuOf w) a write instruction z cause)
+      → Reachable (pushFrame t (step enterBusError w) (busFrame (cpuOf w) a write instruction z cause)) 2
+      → Image (step enterBusError w) (exceptionBusError t w a write instruction z cause) (busFrame (cpuOf w) a write instruction z cause)
   unfolding exceptionBusError
-  bus-image z cause h r = entry-image t (withCpu w (enterBusError (cpuOf w))) (busFrame (cpuOf w) a write instruction z cause) 2 (bus-shape (cpuOf w) a write instruction z cause) h r
+  bus-image z cause h r = entry-image t (step enterBusError w) (busFrame (cpuOf w) a write instruction z cause) 2 (bus-shape (cpuOf w) a write instruction z cause) h r
 
   -- and lowers the supervisor's A7 by the length of the table, 14 on kind 1
-  pub bus-a7 : (z cause : ℕ) → kindOf (cpuOf w) < 12 → Ready (withCpu w (enterBusError (cpuOf w))) (busFrame (cpuOf w) a write instruction z cause)
-      → Reachable (pushFrame t (withCpu w (enterBusError (cpuOf w))) (busFrame (cpuOf w) a write instruction z cause)) 2
+  pub bus-a7 : (z cause : ℕ) → kindOf (cpuOf w) < 12 → Ready (step enterBusError w) (busFrame (cpuOf w) a write instruction z cause)
+      → Reachable (pushFrame t (step enterBusError w) (busFrame (cpuOf w) a write instruction z cause)) 2
       → a7Of (cpuOf (exceptionBusError t w a write instruction z cause)) ≡ minus32 (a7Of (enterBusError (cpuOf w))) (errorLength (kindOf (cpuOf w)) (busFormat (kindOf (cpuOf w))))
   unfolding putCpu
   bus-a7 z cause k h r = bus-image z cause h r .a7 ∙ ap (λ (n : ℕ). minus32 (a7Of (enterBusError (cpuOf w))) n) (bus-length (cpuOf w) a write instruction z cause k)
 
   -- an address error entry whose accesses are all served leaves the image of its frame on the supervisor stack
-  pub address-image : Ready (withCpu w (enterSupervisor (cpuOf w))) (addressFrame (cpuOf w) a write instruction)
-      → Reachable (pushFrame t (withCpu w (enterSupervisor (cpuOf w))) (addressFrame (cpuOf w) a write instruction)) 3
-      → Image (withCpu w (enterSupervisor (cpuOf w))) (exceptionAddressError t w a write instruction) (addressFrame (cpuOf w) a write instruction)
+  pub address-image : Ready (step enterSupervisor w) (addressFrame (cpuOf w) a write instruction)
+      → Reachable (pushFrame t (step enterSupervisor w) (addressFrame (cpuOf w) a write instruction)) 3
+      → Image (step enterSupervisor w) (exceptionAddressError t w a write instruction) (addressFrame (cpuOf w) a write instruction)
   unfolding exceptionAddressError
-  address-image h r = entry-image t (withCpu w (enterSupervisor (cpuOf w))) (addressFrame (cpuOf w) a write instruction) 3 (address-shape (cpuOf w) a write instruction) h r
+  address-image h r = entry-image t (step enterSupervisor w) (addressFrame (cpuOf w) a write instruction) 3 (address-shape (cpuOf w) a write instruction) h r
 
   -- and lowers the supervisor's A7 by the length of the table, 14 on kind 1
-  pub address-a7 : kindOf (cpuOf w) < 12 → Ready (withCpu w (enterSupervisor (cpuOf w))) (addressFrame (cpuOf w) a write instruction)
-      → Reachable (pushFrame t (withCpu w (enterSupervisor (cpuOf w))) (addressFrame (cpuOf w) a write instruction)) 3
+  pub address-a7 : kindOf (cpuOf w) < 12 → Ready (step enterSupervisor w) (addressFrame (cpuOf w) a write instruction)
+      → Reachable (pushFrame t (step enterSupervisor w) (addressFrame (cpuOf w) a write instruction)) 3
       → a7Of (cpuOf (exceptionAddressError t w a write instruction)) ≡ minus32 (a7Of (enterSupervisor (cpuOf w))) (errorLength (kindOf (cpuOf w)) (addressFormat (kindOf (cpuOf w))))
   unfolding putCpu
   address-a7 k h r = address-image h r .a7 ∙ ap (λ (n : ℕ). minus32 (a7Of (enterSupervisor (cpuOf w))) n) (address-length (cpuOf w) a write instruction k)

@@ -14,7 +14,7 @@ use Rattle.cpu.specs.Fields.{kindOf, clearFcOverride}
 use Rattle.status.specs.Status.{clearTrace}
 use Rattle.status.specs.Banks.{enterSupervisor, setSFlag, restoreSp, putS, backupSp}
 use Rattle.memory.specs.Served.{servedOf}
-use Rattle.memory.specs.World.{World, putCpu, widthOf, cpuOf, withCpu}
+use Rattle.memory.specs.World.{World, putCpu, widthOf, cpuOf, step}
 use Rattle.frames.specs.declared.Field.{Field}
 use Rattle.frames.specs.declared.Frame.{Frame}
 use Rattle.frames.specs.Frames.{word, fieldAt, frame68000, frame8, frame2, frame0, frame4, frame7, frame11, addressFrame, busFrame, isCounted, isRaw}
@@ -135,15 +135,15 @@ address-kind c = refl
 
 module _ (w : World) (a : ℕ) (write instruction : Bool) (m : length (w .store) ≤ mostStore) where
   -- a bus error frame is ready where its written fields are served, in a store that number 5 does not refuse
-  pub bus-ready : (z cause : ℕ) → Sound (enterBusError (cpuOf w)) → AllServed (withCpu w (enterBusError (cpuOf w))) (busFrame (cpuOf w) a write instruction z cause)
-      → Ready (withCpu w (enterBusError (cpuOf w))) (busFrame (cpuOf w) a write instruction z cause)
+  pub bus-ready : (z cause : ℕ) → Sound (enterBusError (cpuOf w)) → AllServed (step enterBusError w) (busFrame (cpuOf w) a write instruction z cause)
+      → Ready (step enterBusError w) (busFrame (cpuOf w) a write instruction z cause)
   unfolding putCpu
   bus-ready z cause s h =
       record { sound = s; allowed = record { serves = h; even = rw (bus-kind (cpuOf w)) (bus-even (cpuOf w) a write instruction z cause _) }; small = m }
 
   -- and an address error frame
-  pub address-ready : Sound (enterSupervisor (cpuOf w)) → AllServed (withCpu w (enterSupervisor (cpuOf w))) (addressFrame (cpuOf w) a write instruction)
-      → Ready (withCpu w (enterSupervisor (cpuOf w))) (addressFrame (cpuOf w) a write instruction)
+  pub address-ready : Sound (enterSupervisor (cpuOf w)) → AllServed (step enterSupervisor w) (addressFrame (cpuOf w) a write instruction)
+      → Ready (step enterSupervisor w) (addressFrame (cpuOf w) a write instruction)
   unfolding putCpu
   address-ready s h =
       record { sound = s; allowed = record { serves = h; even = rw (address-kind (cpuOf w)) (address-even (cpuOf w) a write instruction _) }; small = m }

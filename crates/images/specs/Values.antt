@@ -13,7 +13,7 @@ use Rattle.cpu.specs.Fields.{kindOf, ppcOf, irOf, wdataOf, hasFcOverride, fcOve
 use Rattle.status.specs.Status.{statusOf, compose}
 use Rattle.status.specs.Banks.{enterSupervisor}
 use Rattle.memory.specs.ByteLaws.{Fits}
-use Rattle.memory.specs.World.{World, readValue, cpuOf, withCpu}
+use Rattle.memory.specs.World.{World, readValue, cpuOf, step}
 use Rattle.frames.specs.declared.Field.{Field}
 use Rattle.frames.specs.declared.Frame.{Frame}
 use Rattle.frames.specs.Frames.{word, long, framed, gapWord, fieldAt, frame68000, frame8, frame2, frame0, frame4, frame7, frame11, writeData, addressFrame, busFrame, isCounted}
@@ -164,21 +164,21 @@ module _ (c : Cpu) (a : ℕ) (write instruction : Bool) (hp : ppcOf c < 2 ^ 32) 
 
 module _ (t : Raise) (w : World) (a : ℕ) (write instruction : Bool) (hp : ppcOf (cpuOf w) < 2 ^ 32) (ha : a < 2 ^ 32) where
   -- after a bus error entry whose accesses are all served, each written field of its frame is read at its offset above the new A7
-  pub bus-fields : (z cause : ℕ) → wdataOf (cpuOf w) < 2 ^ 32 → Ready (withCpu w (enterBusError (cpuOf w))) (busFrame (cpuOf w) a write instruction z cause)
-      → Reachable (pushFrame t (withCpu w (enterBusError (cpuOf w))) (busFrame (cpuOf w) a write instruction z cause)) 2
+  pub bus-fields : (z cause : ℕ) → wdataOf (cpuOf w) < 2 ^ 32 → Ready (step enterBusError w) (busFrame (cpuOf w) a write instruction z cause)
+      → Reachable (pushFrame t (step enterBusError w) (busFrame (cpuOf w) a write instruction z cause)) 2
       → (i : ℕ) → i < busFrame (cpuOf w) a write instruction z cause .count → isCounted (fieldAt (busFrame (cpuOf w) a write instruction z cause) i) ≡ false
-      → readValue (exceptionBusError t w a write instruction z cause) (bottom (withCpu w (enterBusError (cpuOf w))) (busFrame (cpuOf w) a write instruction z cause) + frameBytes (busFrame (cpuOf w) a write instruction z cause) i) (fieldAt (busFrame (cpuOf w) a write instruction z cause) i .long)
+      → readValue (exceptionBusError t w a write instruction z cause) (bottom (step enterBusError w) (busFrame (cpuOf w) a write instruction z cause) + frameBytes (busFrame (cpuOf w) a write instruction z cause) i) (fieldAt (busFrame (cpuOf w) a write instruction z cause) i .long)
       ≡ fieldAt (busFrame (cpuOf w) a write instruction z cause) i .value
   bus-fields z cause hw h r i l c =
-      field-value (withCpu w (enterBusError (cpuOf w))) (exceptionBusError t w a write instruction z cause) (busFrame (cpuOf w) a write instruction z cause) (bus-image t w a write instruction z cause h r) i l c
+      field-value (step enterBusError w) (exceptionBusError t w a write instruction z cause) (busFrame (cpuOf w) a write instruction z cause) (bus-image t w a write instruction z cause h r) i l c
       (bus-fits (cpuOf w) a write instruction hp ha z cause hw i l)
 
   -- the same after an address error entry
-  pub address-fields : Ready (withCpu w (enterSupervisor (cpuOf w))) (addressFrame (cpuOf w) a write instruction)
-      → Reachable (pushFrame t (withCpu w (enterSupervisor (cpuOf w))) (addressFrame (cpuOf w) a write instruction)) 3
+  pub address-fields : Ready (step enterSupervisor w) (addressFrame (cpuOf w) a write instruction)
+      → Reachable (pushFrame t (step enterSupervisor w) (addressFrame (cpuOf w) a write instruction)) 3
       → (i : ℕ) → i < addressFrame (cpuOf w) a write instruction .count → isCounted (fieldAt (addressFrame (cpuOf w) a write instruction) i) ≡ false
-      → readValue (exceptionAddressError t w a write instruction) (bottom (withCpu w (enterSupervisor (cpuOf w))) (addressFrame (cpuOf w) a write instruction) + frameBytes (addressFrame (cpuOf w) a write instruction) i) (fieldAt (addressFrame (cpuOf w) a write instruction) i .long)
+      → readValue (exceptionAddressError t w a write instruction) (bottom (step enterSupervisor w) (addressFrame (cpuOf w) a write instruction) + frameBytes (addressFrame (cpuOf w) a write instruction) i) (fieldAt (addressFrame (cpuOf w) a write instruction) i .long)
       ≡ fieldAt (addressFrame (cpuOf w) a write instruction) i .value
   address-fields h r i l c =
-      field-value (withCpu w (enterSupervisor (cpuOf w))) (exceptionAddressError t w a write instruction) (addressFrame (cpuOf w) a write instruction) (address-image t w a write instruction h r) i l c
+      field-value (step enterSupervisor w) (exceptionAddressError t w a write instruction) (addressFrame (cpuOf w) a write instruction) (address-image t w a write instruction h r) i l c
       (address-fits (cpuOf w) a write instruction hp ha i l)

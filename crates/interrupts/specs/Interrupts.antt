@@ -8,7 +8,7 @@ use Rattle.status.specs.Status.{statusOf, clearM, mIsSet}
 use Rattle.status.specs.Banks.{setSmFlag}
 use Rattle.cpu.specs.Clocks.{internalCycles}
 use Rattle.requests.specs.Interrupts.{pendingLevel, takesInterrupt, clearLevel}
-use Rattle.memory.specs.World.{World, Attempt, reply, tried, withCpu, cpuOf, step, flush, acknowledged}
+use Rattle.memory.specs.World.{World, Attempt, reply, tried, cpuOf, step, flush, acknowledged}
 use Rattle.steps.specs.Steps.{iackVector, enterLevel, closeInterrupt, withS}
 use Rattle.faults.specs.Faults.{raised, writeAt, pushFrame, jumpVector}
 use Rattle.exceptions.specs.Frames.{formatWord, offsetWord, shortFrame}
@@ -35,7 +35,8 @@ unfoldable pub from68000 : World → ℕ → ℕ → ℕ → ℕ → Attempt
 from68000 w sp pc sr level = rest68000 sp pc sr (syncedAcknowledge (writeAt raised w ((sp + 4) % 2 ^ 32) false (pc % 0x10000)) 4 level)
 
 unfoldable pub pushInterrupt68000 : World → ℕ → ℕ → ℕ → Attempt
-pushInterrupt68000 w pc sr level = from68000 (withCpu w (lowerA7 (internalCycles (cpuOf w) 6) 6)) (a7Of (lowerA7 (internalCycles (cpuOf w) 6) 6)) pc sr level
+pushInterrupt68000 w pc sr level =
+    from68000 (step (λ c. lowerA7 (internalCycles c 6) 6) w) (a7Of (lowerA7 (internalCycles (cpuOf w) 6) 6)) pc sr level
 
 -- kind 2: 12 clocks and the acknowledge, then PC low, the status, PC high and the format word; A7 is lowered once
 unfoldable pub writes68010 : World → ℕ → ℕ → ℕ → ℕ → World
@@ -76,7 +77,7 @@ secondFrame w pc sr v =
     (pick (isEc020Plus (kindOf (cpuOf w))) (throwaway w pc sr v)
     (pick (is060 (kindOf (cpuOf w))) (step clearM w) w)) w
 
--- the jump; then `stopped` is 0 and the cycles are charged
+-- after the jump the interrupt is closed
 unfoldable pub ended : World → World
 ended w = step closeInterrupt w
 
