@@ -9,7 +9,7 @@ use Rattle.types.specs.Kinds.{pick}
 use Rattle.types.specs.Causes.{causeOf}
 use Rattle.memory.specs.World.{World}
 use Rattle.calls.specs.declared.Call.the-variants.{TakeException, Trap, TakeGroup2Exception, ExceptionChk, ExceptionZeroDivide, ExceptionPrivilege, ExceptionTrace, ExceptionAddressError, ExceptionBusError, TakeFpUnimp060, TakeFpDisabled060, TakeAlineException, TakeFlineException, TakeTrapException, TakeBkptException, TakeIllegalException, TriggerAddressError, TriggerBusError, CheckTrace, SetIrq, CheckInterrupts, CheckAndServiceInterrupts, Read16, Read32, Write16, Write32, Push16, Push32, PrefetchFirst, PrefetchSecond}
-use Rattle.calls.specs.Calls.{Performance, refusedBy, valueOf, countOf, perform}
+use Rattle.calls.specs.Calls.{Performed, refusedBy, valueOf, countOf, perform}
 use Rattle.boundary.specs.declared.RawCall.{RawCall}
 use Rattle.boundary.specs.declared.Decoded.{Decoded}
 use Rattle.boundary.specs.declared.Decoded.the-variants.{Known, Unknown}
@@ -80,7 +80,7 @@ unfoldable pub decode : RawCall → Decoded
 decode c = find (c .number) (callsOf c)
 
 -- the public call, its answer in numbers; 99 where the number names no call
-unfoldable pub ofPerformance : Performance → Outcome
+unfoldable pub ofPerformance : Performed → Outcome
 ofPerformance x = outcome (x .after) (refusedBy (x .answer)) (valueOf (x .answer)) (countOf (x .answer))
 
 unfoldable pub rawOf : World → Decoded → Outcome

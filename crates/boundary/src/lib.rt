@@ -14,11 +14,11 @@ ghost use Rattle.memory.specs.World.{world};
 ghost use Rattle.types.specs.Causes.{causeOf};
 ghost use Rattle.calls.specs.Calls.{bit, refusedBy, valueOf, countOf};
 ghost use Rattle.boundary.specs.Calls.{outcome, flag, decode, rawOf, rawCall};
-ghost use Rattle.status.specs.Status.{statusOf, setSrNointNosp, putBackSr, setCcr};
+ghost use Rattle.status.specs.Status.{getSr, setSrNointNosp, putBackSr, setCcr};
 ghost use Rattle.status.specs.Banks.{spIndex, backupSp, restoreSp, setSFlag, setSmFlag, setSmFlagNosp};
 ghost use Rattle.cpu.specs.Clocks.{internalCycles, prefetchEnabled};
 ghost use Rattle.cpu.specs.Fields.{addressOf};
-ghost use Rattle.requests.specs.Trace.{traceT0SrWrite, traceT068040Sync};
+ghost use Rattle.pending.specs.Trace.{traceT0SrWrite, traceT068040Sync};
 ghost use Rattle.cpu.specs.Fresh.{freshCpu};
 
 #[repr(C)]
@@ -234,7 +234,7 @@ pub extern "C" fn m68k_call(m: Core, store: &mut [u8], log: &mut [u32], call: Ra
 
 #[no_mangle]
 pub extern "C" fn m68k_get_sr(c: Cpu) -> u32
-    ensures { λ r. ⌜ r ≡ statusOf c ⌝ }
+    ensures { λ r. ⌜ r ≡ getSr c ⌝ }
 {
     status::get_sr(c) as u32
 }
@@ -327,14 +327,14 @@ pub extern "C" fn m68k_address(c: Cpu, a: u32) -> u32
 pub extern "C" fn m68k_trace_t0_sr_write(c: Cpu) -> Cpu
     ensures { λ r. ⌜ r ≡ traceT0SrWrite c ⌝ }
 {
-    requests::trace::trace_t0_sr_write(c)
+    pending::trace::trace_t0_sr_write(c)
 }
 
 #[no_mangle]
 pub extern "C" fn m68k_trace_t0_68040_sync(c: Cpu) -> Cpu
     ensures { λ r. ⌜ r ≡ traceT068040Sync c ⌝ }
 {
-    requests::trace::trace_t0_68040_sync(c)
+    pending::trace::trace_t0_68040_sync(c)
 }
 
 #[no_mangle]

@@ -17,7 +17,7 @@ use Rattle.frames.specs.declared.Frame.{Frame}
 use Rattle.frames.specs.Frames.{fieldAt, busFrame, addressFrame, isCounted}
 use Rattle.steps.specs.Steps.{beginBus, beginAddress, enterBusError, closeBus}
 use Rattle.status.specs.Status.{keepResume}
-use Rattle.faults.specs.Faults.{busError, addressError, Raise, readAt, writeAt, pushField, pushExceptionFrame68000, jumpVector, prefetchFirst, prefetchSecond, exceptionAddressError, exceptionBusError, raiseBus, raiseAddress, trigger, raised, entered, Fault}
+use Rattle.access.specs.Faults.{busError, addressError, Raise, readAt, writeAt, pushField, pushExceptionFrame68000, jumpVector, prefetchFirst, prefetchSecond, exceptionAddressError, exceptionBusError, raiseBus, raiseAddress, trigger, raised, entered, Fault}
 use Rattle.bounds.specs.Skeleton.{Steps, Raises, refills, more, afterField, afterFields, pick-one, pick-when, both-steps, guardRead-good, guardWrite-good, pushed-good, pushShort-good, jump-good, prefetchFirst-good, prefetchSecond-good, frame-good}
 use Rattle.bounds.specs.ErrorFrames.{busWrites, addressWrites, address-plain, bus-plain, address-writes, bus-writes}
 use Rattle.bounds.specs.Levels.{Domain, Safe, Kept, Any, Either, Set, inside, under, domain, clash, refusing, refused, vector-safe, steps, fetching, halted-kept, address-kept, bus-kept, super-kept, super-bus-kept, close-address-kept, close-bus-kept, level-halts}
@@ -346,7 +346,7 @@ module _ (w : World) (s : w .core .bus .events ≡ 0) (d : Domain w) where
       written (refills (isPrefetchKind K) (suc (suc (afterFields f (f .count) (suc (underCost K)))))) m (w .log) (entered w f v) (omega arith) b
       (frame-good (Bill K Set (underCost K) (w .log)) Any (isPrefetchKind K) raised raised (bill-steps K Set (underCost K) (w .log)) (raises-set K (w .log) 1) (suc (underCost K)) w f v (λ h n x p. tt) (under w d u, start (underCost K) w s) .1 .1)
 
--- the calls of `faults`
+-- the calls of `access`
 pub data Call : Type 0 where
   reads : ℕ → Bool → Call
   writes : ℕ → Bool → ℕ → Call
@@ -373,22 +373,22 @@ run (addressEntry a wr i) w = exceptionAddressError raised w a wr i
 run (raises q) w = raised w q
 
 -- the most that each makes, over all kinds
-unfoldable pub most : Call → ℕ
-most (reads a g) = 32
-most (writes a g v) = 32
-most (pushes f) = 32
-most (pushesShort pc sr) = 34
-most first = 15
-most second = 15
-most (jumps v) = 33
-most (busEntry a wr i z cause) = 61
-most (addressEntry a wr i) = 36
-most (raises (busError a wr i z)) = 31
-most (raises (addressError a wr i)) = 36
+unfoldable pub mostEvents : Call → ℕ
+mostEvents (reads a g) = 32
+mostEvents (writes a g v) = 32
+mostEvents (pushes f) = 32
+mostEvents (pushesShort pc sr) = 34
+mostEvents first = 15
+mostEvents second = 15
+mostEvents (jumps v) = 33
+mostEvents (busEntry a wr i z cause) = 61
+mostEvents (addressEntry a wr i) = 36
+mostEvents (raises (busError a wr i z)) = 31
+mostEvents (raises (addressError a wr i)) = 36
 
 -- THE EVENTS: no call makes more than its most
-pub events : (c : Call) (w : World) → w .core .bus .events ≡ 0 → Domain w → Written (most c) (w .log) (run c w)
-unfolding run most
+pub events : (c : Call) (w : World) → w .core .bus .events ≡ 0 → Domain w → Written (mostEvents c) (w .log) (run c w)
+unfolding run mostEvents
 events (reads a g) w s d = few-more (let e = guardCost-most (kindOf (cpuOf w)) in omega arith) (guardRead-events w s d a g)
 events (writes a g v) w s d = few-more (let e = guardCost-most (kindOf (cpuOf w)) in omega arith) (guardWrite-events w s d a g v)
 events (pushes f) w s d = few-more (let e = guardCost-most (kindOf (cpuOf w)) in omega arith) (pushed-events w s d f)
@@ -402,8 +402,8 @@ events (raises (busError a wr i z)) w s d = few-more (let e = bus-most (kindOf (
 events (raises (addressError a wr i)) w s d = few-more (let e = addressCost-most (kindOf (cpuOf w)) in omega arith) (address-events w s d a wr i)
 
 -- each of these is 61 at most
-pub most-61 : (c : Call) → most c ≤ 61
-unfolding most
+pub most-61 : (c : Call) → mostEvents c ≤ 61
+unfolding mostEvents
 most-61 (reads a g) = omega arith
 most-61 (writes a g v) = omega arith
 most-61 (pushes f) = omega arith

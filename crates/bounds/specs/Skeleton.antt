@@ -1,4 +1,4 @@
--- What every definition of `faults` keeps, whatever is kept, of one run or of two runs that differ only in what raises a fault.
+-- What every definition of `access` keeps, whatever is kept, of one run or of two runs that differ only in what raises a fault.
 use Prim.Native.Nat.{ℕ, zero, suc, _+_, _/_, _%_, _^_}
 use mathlib.Core.Path.{_≡_, refl, _∙_, ap}
 use mathlib.Core.Bool.{Bool, true, false}
@@ -11,7 +11,7 @@ use Rattle.frames.specs.declared.Field.{Field}
 use Rattle.frames.specs.declared.Frame.{Frame}
 use Rattle.frames.specs.Frames.{fieldAt, isCounted, isRaw}
 use Rattle.steps.specs.Steps.{refusesOdd, vectorAddress}
-use Rattle.faults.specs.Faults.{busError, addressError, Raise, readOr, prefetchRead, keptFirst, firstFrom, prefetchFirst, keptSecond, secondFrom, prefetchSecond, checkedRead, readAt, wrote, checkedWrite, writeAt, stackField, pushField, pushFields, pushFrame, shortWrites, pushExceptionFrame68000, vectorRead, refill, jumpTo, jumpVector}
+use Rattle.access.specs.Faults.{busError, addressError, Raise, readOr, prefetchRead, keptFirst, firstFrom, prefetchFirst, keptSecond, secondFrom, prefetchSecond, checkedRead, readAt, wrote, checkedWrite, writeAt, stackField, pushField, pushFields, pushFrame, shortWrites, pushExceptionFrame68000, vectorRead, refill, jumpTo, jumpVector}
 
 -- the two runs come to one world, and it has P at the cost n
 abbrev pub Good : (ℕ → World → Type 0) → ℕ → World → World → Type 0

@@ -1,1 +1,1 @@
-// Bounds of the functions that call each other in `faults`: mathematics only, in `specs`.
+// Bounds of the functions that call each other in `access`: mathematics only, in `specs`.

@@ -7,11 +7,11 @@ use lib.Dec.{eqb}
 use lib.ListN.{length}
 use mathlib.Core.List.{List}
 use Rattle.cpu.specs.declared.Cpu.{Cpu}
-use Rattle.requests.specs.declared.trace.Traced.{Traced}
+use Rattle.pending.specs.declared.trace.Traced.{Traced}
 use Rattle.memory.specs.declared.Core.{Core}
 use Rattle.memory.specs.declared.Reply.{Reply}
 use Rattle.memory.specs.World.{World, Attempt, world, reply, tried, putCpu, withCpu}
-use Rattle.faults.specs.Faults.{raised, exceptionBusError}
+use Rattle.access.specs.Faults.{raised, exceptionBusError}
 use Rattle.exceptions.specs.declared.Entered.{Entered}
 use Rattle.exceptions.specs.Exceptions.{Entry, entry}
 use Rattle.interrupts.specs.declared.Serviced.{Serviced}
@@ -22,9 +22,9 @@ use Rattle.calls.specs.declared.Call.{Call}
 use Rattle.refusals.specs.declared.Matter.{Matter}
 use Rattle.calls.specs.Matters.{matterOf}
 use Rattle.refusals.specs.Refusals.{refusalOf}
-use Rattle.calls.specs.Calls.{Performance, answered, eventsOf, cycles, flag, plain, ofEntry, ofRead, ofService, ofTrace, run, restarted, begun, refusal, perform}
+use Rattle.calls.specs.Calls.{Performed, answered, eventsOf, cycles, flag, plain, ofEntry, ofRead, ofService, ofTrace, run, restarted, begun, refusal, perform}
 
-pub perform-way : (m : Core) {d : Core} (s l : List ℕ) {n : ℕ} (x : Matter) (call : Call) {b : Bool} {e : Performance} → x ≡ matterOf call → n ≡ refusalOf m (length s) (length l) x → b ≡ eqb n 0 → b ≡ true → d ≡ restarted m → e ≡ run (world d s l) call → e ≡ perform (world m s l) call
+pub perform-way : (m : Core) {d : Core} (s l : List ℕ) {n : ℕ} (x : Matter) (call : Call) {b : Bool} {e : Performed} → x ≡ matterOf call → n ≡ refusalOf m (length s) (length l) x → b ≡ eqb n 0 → b ≡ true → d ≡ restarted m → e ≡ run (world d s l) call → e ≡ perform (world m s l) call
 unfolding perform refusal begun
 perform-way m s l x call h0 h1 h2 h3 h4 h5 = cc
 
@@ -36,9 +36,9 @@ perform-way-2 m s l x call h0 h1 h2 h3 h4 = cc
 abbrev made : Core → Answer → Performed
 made m a = record { core = m; answer = a }
 
-pub noted-made : (m : Core) (c : Cpu) {d : Core} {r : Performed} → d ≡ putCpu m c → r ≡ record { core = d; answer = Done (eventsOf d) } → r ≡ record { core = putCpu m c; answer = Done (eventsOf m) }
+pub replaced-made : (m : Core) (c : Cpu) {d : Core} {r : Performed} → d ≡ putCpu m c → r ≡ record { core = d; answer = Done (eventsOf d) } → r ≡ record { core = putCpu m c; answer = Done (eventsOf m) }
 unfolding putCpu
-noted-made m c h k = k ∙ ap (λ d. made d (Done (eventsOf d))) h
+replaced-made m c h k = k ∙ ap (λ d. made d (Done (eventsOf d))) h
 
 pub traced-made : (m : Core) (c : Cpu) (b : Bool) {d : Core} {r : Performed} → d ≡ putCpu m c → r ≡ record { core = d; answer = Flag b (eventsOf d) } → r ≡ record { core = putCpu m c; answer = Flag b (eventsOf m) }
 unfolding putCpu
@@ -72,9 +72,9 @@ pub traced-way : (m : Core) {x t : Traced} {r : Performed} {s l : List ℕ} → 
 unfolding ofTrace flag putCpu
 traced-way m {s = s} {l = l} h k = ap (λ r. answered (world (r .core) s l) (r .answer)) k ∙ ap (ofTrace (world m s l)) h
 
-pub noted-way : (m : Core) {c d : Cpu} {r : Performed} {s l : List ℕ} → c ≡ d → r ≡ record { core = putCpu m c; answer = Done (eventsOf m) } → answered (world (r .core) s l) (r .answer) ≡ plain (withCpu (world m s l) d)
+pub replaced-way : (m : Core) {c d : Cpu} {r : Performed} {s l : List ℕ} → c ≡ d → r ≡ record { core = putCpu m c; answer = Done (eventsOf m) } → answered (world (r .core) s l) (r .answer) ≡ plain (withCpu (world m s l) d)
 unfolding plain putCpu
-noted-way m {s = s} {l = l} h k = ap (λ r. answered (world (r .core) s l) (r .answer)) k ∙ ap (λ d. plain (withCpu (world m s l) d)) h
+replaced-way m {s = s} {l = l} h k = ap (λ r. answered (world (r .core) s l) (r .answer)) k ∙ ap (λ d. plain (withCpu (world m s l) d)) h
 
 pub flagged-way : {m : Core} {b d : Bool} {r : Performed} {s l : List ℕ} → b ≡ d → r ≡ record { core = m; answer = Flag b (eventsOf m) } → answered (world (r .core) s l) (r .answer) ≡ flag (world m s l) d
 unfolding flag

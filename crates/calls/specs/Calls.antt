@@ -7,14 +7,14 @@ use lib.ListN.{length}
 use Rattle.types.specs.Kinds.{pick}
 use Rattle.types.specs.Vectors.{illegalInstruction, zeroDivide, chk, privilegeViolation, line1010, line1111}
 use Rattle.types.specs.Causes.{causeNumber}
-use Rattle.requests.specs.declared.trace.Traced.{Traced}
-use Rattle.requests.specs.Trace.{checkTrace}
-use Rattle.requests.specs.Interrupts.{setIrq, checkInterrupts}
+use Rattle.pending.specs.declared.trace.Traced.{Traced}
+use Rattle.pending.specs.Trace.{checkTrace}
+use Rattle.pending.specs.Interrupts.{setIrq, checkInterrupts}
 use Rattle.memory.specs.declared.Core.{Core}
 use Rattle.memory.specs.declared.Bus.{Bus}
 use Rattle.memory.specs.World.{World, Attempt, world, withCpu, cpuOf, step}
 use Rattle.frames.specs.Frames.{word, long}
-use Rattle.faults.specs.Faults.{raised, busError, addressError, readAt, writeAt, pushField, prefetchFirst, prefetchSecond, exceptionBusError, exceptionAddressError}
+use Rattle.access.specs.Faults.{raised, busError, addressError, readAt, writeAt, pushField, prefetchFirst, prefetchSecond, exceptionBusError, exceptionAddressError}
 use Rattle.exceptions.specs.Exceptions.{Entry, takeException, takeGroup2, trap, exceptionTrace, takeRewound, takeFpUnimp060, takeFpDisabled060}
 use Rattle.interrupts.specs.Interrupts.{checkAndService}
 use Rattle.calls.specs.declared.Call.{Call}
@@ -50,39 +50,39 @@ countOf (Done e) = e
 countOf (Refused n) = 0
 
 -- a world after a call, and the answer
-pub record Performance : Type 0 where
+pub record Performed : Type 0 where
   pub after : World
   pub answer : Answer
 
-abbrev pub answered : World → Answer → Performance
+abbrev pub answered : World → Answer → Performed
 answered w a = record { after = w; answer = a }
 
 abbrev pub eventsOf : Core → ℕ
 eventsOf m = m .bus .events
 
-unfoldable pub cycles : World → ℕ → Performance
+unfoldable pub cycles : World → ℕ → Performed
 cycles w n = answered w (Cycles n (eventsOf (w .core)))
 
-unfoldable pub flag : World → Bool → Performance
+unfoldable pub flag : World → Bool → Performed
 flag w b = answered w (Flag b (eventsOf (w .core)))
 
-unfoldable pub plain : World → Performance
+unfoldable pub plain : World → Performed
 plain w = answered w (Done (eventsOf (w .core)))
 
-unfoldable pub ofEntry : Entry → Performance
+unfoldable pub ofEntry : Entry → Performed
 ofEntry x = cycles (x .after) (x .cycles)
 
-unfoldable pub ofRead : Attempt → Performance
+unfoldable pub ofRead : Attempt → Performed
 ofRead x = answered (x .after) (Value (x .value) (eventsOf (x .after .core)))
 
-unfoldable pub ofService : Attempt → Performance
+unfoldable pub ofService : Attempt → Performed
 ofService x = flag (x .after) (x .ok)
 
-unfoldable pub ofTrace : World → Traced → Performance
+unfoldable pub ofTrace : World → Traced → Performed
 ofTrace w x = flag (withCpu w (x .cpu)) (x .trace)
 
 -- a call that is not refused; error entries answer 50 cycles
-unfoldable pub run : World → Call → Performance
+unfoldable pub run : World → Call → Performed
 run w (TakeException v) = ofEntry (takeException w v)
 run w (Trap n) = ofEntry (trap w n)
 run w (TakeGroup2Exception v) = ofEntry (takeGroup2 w v)
@@ -126,5 +126,5 @@ unfoldable pub refusal : World → Call → ℕ
 refusal w c = refusalOf (w .core) (length (w .store)) (length (w .log)) (matterOf c)
 
 -- the public call
-unfoldable pub perform : World → Call → Performance
+unfoldable pub perform : World → Call → Performed
 perform w c = pick (eqb (refusal w c) 0) (run (begun w) c) (answered w (Refused (refusal w c)))

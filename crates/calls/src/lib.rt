@@ -1,11 +1,11 @@
 // The public calls: one enum of calls and one function that refuses a call by number, with nothing touched, or performs it. It
-// uses `refusals`, `interrupts`, `exceptions`, `faults` and everything below; `boundary` hands it to C, and programs use it.
+// uses `refusals`, `interrupts`, `exceptions`, `access` and everything below; `boundary` hands it to C, and programs use it.
 use cpu::Cpu;
 use exceptions::Entered;
 use interrupts::Serviced;
 use memory::Core;
 use memory::Reply;
-use requests::trace::Traced;
+use pending::trace::Traced;
 use types::FaultCause;
 
 pub mod matters; // what each call is given
@@ -122,7 +122,7 @@ fn traced(m: Core, x: Traced) -> Performed
     flagged(d, x.trace)
 }
 
-fn noted(m: Core, c: Cpu) -> Performed
+fn replaced(m: Core, c: Cpu) -> Performed
     ensures { λ r. ⌜ r ≡ record { core = putCpu m c; answer = Answer.Done (eventsOf m) } ⌝ }
 {
     let d = memory::with_cpu(m, c);
@@ -170,7 +170,7 @@ fn run(m: Core, store: &mut [u8], log: &mut [u32], call: Call) -> Performed
         Call::ExceptionZeroDivide => entered(exceptions::exception_zero_divide(m, store, log)),
         Call::ExceptionPrivilege => entered(exceptions::exception_privilege(m, store, log)),
         Call::ExceptionTrace => entered(exceptions::exception_trace(m, store, log)),
-        Call::ExceptionAddressError(a, w, i) => charged(faults::exception_address_error(
+        Call::ExceptionAddressError(a, w, i) => charged(access::exception_address_error(
             m,
             store,
             log,
@@ -178,7 +178,7 @@ fn run(m: Core, store: &mut [u8], log: &mut [u32], call: Call) -> Performed
             w,
             i,
         )),
-        Call::ExceptionBusError(a, w, i, z, cause) => charged(faults::exception_bus_error(
+        Call::ExceptionBusError(a, w, i, z, cause) => charged(access::exception_bus_error(
             m,
             store,
             log,
@@ -195,7 +195,7 @@ fn run(m: Core, store: &mut [u8], log: &mut [u32], call: Call) -> Performed
         Call::TakeTrapException(n) => entered(exceptions::take_trap_exception(m, store, log, n)),
         Call::TakeBkptException => entered(exceptions::take_bkpt_exception(m, store, log)),
         Call::TakeIllegalException => entered(exceptions::take_illegal_exception(m, store, log)),
-        Call::TriggerAddressError(a, w, i) => done(faults::trigger_address_error(
+        Call::TriggerAddressError(a, w, i) => done(access::trigger_address_error(
             m,
             store,
             log,
@@ -203,7 +203,7 @@ fn run(m: Core, store: &mut [u8], log: &mut [u32], call: Call) -> Performed
             w,
             i,
         )),
-        Call::TriggerBusError(a, w, i, z) => done(faults::trigger_bus_error(
+        Call::TriggerBusError(a, w, i, z) => done(access::trigger_bus_error(
             m,
             store,
             log,
@@ -212,22 +212,22 @@ fn run(m: Core, store: &mut [u8], log: &mut [u32], call: Call) -> Performed
             i,
             z,
         )),
-        Call::CheckTrace => traced(m, requests::trace::check_trace(m.cpu)),
-        Call::SetIrq(n) => noted(m, requests::interrupts::set_irq(m.cpu, n)),
-        Call::CheckInterrupts => flagged(m, requests::interrupts::check_interrupts(m.cpu)),
+        Call::CheckTrace => traced(m, pending::trace::check_trace(m.cpu)),
+        Call::SetIrq(n) => replaced(m, pending::interrupts::set_irq(m.cpu, n)),
+        Call::CheckInterrupts => flagged(m, pending::interrupts::check_interrupts(m.cpu)),
         Call::CheckAndServiceInterrupts => serviced(interrupts::check_and_service_interrupts(
             m,
             store,
             log,
         )),
-        Call::Read16(a) => read(faults::read_16(m, store, log, a)),
-        Call::Read32(a) => read(faults::read_32(m, store, log, a)),
-        Call::Write16(a, v) => done(faults::write_16(m, store, log, a, v)),
-        Call::Write32(a, v) => done(faults::write_32(m, store, log, a, v)),
-        Call::Push16(v) => done(faults::push_16(m, store, log, v)),
-        Call::Push32(v) => done(faults::push_32(m, store, log, v)),
-        Call::PrefetchFirst => done(faults::prefetch_first(m, store, log)),
-        Call::PrefetchSecond => done(faults::prefetch_second(m, store, log)),
+        Call::Read16(a) => read(access::read_16(m, store, log, a)),
+        Call::Read32(a) => read(access::read_32(m, store, log, a)),
+        Call::Write16(a, v) => done(access::write_16(m, store, log, a, v)),
+        Call::Write32(a, v) => done(access::write_32(m, store, log, a, v)),
+        Call::Push16(v) => done(access::push_16(m, store, log, v)),
+        Call::Push32(v) => done(access::push_32(m, store, log, v)),
+        Call::PrefetchFirst => done(access::prefetch_first(m, store, log)),
+        Call::PrefetchSecond => done(access::prefetch_second(m, store, log)),
     }
 }
 

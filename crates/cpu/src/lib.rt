@@ -1,6 +1,6 @@
 // The record of the processor: the fields of `CpuCore` that the taken functions read or write, by their Rust names, in six
 // groups, and the one-step functions on it. Everything is by value: a function takes the record and hands it back. It uses
-// `types`; `status` and `requests` add the steps on the status and on what asks for an exception, and nobody above those three
+// `types`; `status` and `pending` add the steps on the status and on what asks for an exception, and nobody above those three
 // stores to a field.
 //
 // An option of the Rust is a struct with a flag and a value; where the flag is false the value means nothing. A fault cause is

@@ -11,7 +11,7 @@ use Rattle.types.specs.Kinds.{hasM, hasT0, statusMask, maskStatus}
 use Rattle.types.specs.Laws.{masked-status-bits}
 use Rattle.types.specs.Every.{at}
 use Rattle.cpu.specs.declared.Cpu.{Cpu}
-use Rattle.status.specs.Status.{statusOf, sOf, mOf}
+use Rattle.status.specs.Status.{getSr, sOf, mOf}
 use Rattle.nest.specs.View.{srMask, under, sBit, mBit, nonzero}
 use Rattle.entered.specs.Pointers.{regsOf}
 
@@ -27,7 +27,7 @@ masked k w l = masked-status-bits k w ∙ ap (bitAnd w) (mask-is k l)
 -- S and M of a masked status, as flags
 pub flag-s : (w : ℕ) → nonzero (sOf w) ≡ sBit w
 unfolding sBit
-flag-s w = go (w / 8192 % 2) (omega arith)
+flag-s w = go (w / 0x2000 % 2) (omega arith)
   where
     go : (b : ℕ) → b < 2 → nonzero (b * 4) ≡ eqb b 1
     go zero l = refl
@@ -36,7 +36,7 @@ flag-s w = go (w / 8192 % 2) (omega arith)
 
 pub flag-m : (w : ℕ) → nonzero (mOf w) ≡ mBit w
 unfolding mBit
-flag-m w = go (w / 4096 % 2) (omega arith)
+flag-m w = go (w / 0x1000 % 2) (omega arith)
   where
     go : (b : ℕ) → b < 2 → nonzero (b * 2) ≡ eqb b 1
     go zero l = refl
@@ -48,6 +48,6 @@ bit-flag zero w l = inl (omega arith)
 bit-flag (suc zero) w l = inr (omega arith)
 bit-flag (suc (suc b)) w l = absurd (omega arith)
 
-pub status-regs : (c : Cpu) → regsOf c .status ≡ statusOf c
+pub status-regs : (c : Cpu) → regsOf c .status ≡ getSr c
 unfolding regsOf
 status-regs c = refl

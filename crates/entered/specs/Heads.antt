@@ -21,7 +21,7 @@ use Rattle.memory.specs.AccessLaws.{kept}
 use Rattle.frames.specs.declared.Field.{Field}
 use Rattle.frames.specs.declared.Frame.{Frame}
 use Rattle.frames.specs.Frames.{fieldAt, isCounted}
-use Rattle.faults.specs.Faults.{raised, pushFrame}
+use Rattle.access.specs.Faults.{raised, pushFrame}
 use Rattle.images.specs.Pushes.{calm, served-same}
 use Rattle.images.specs.Images.{Shape, Ready, Image, SameByte, frameBytes, newA7, bottom, at-offset, stacked-image}
 use Rattle.forms.specs.Gist.{gist, gistCpu, a7-gist, framedBy, stacked-form, minus-below}
@@ -66,7 +66,7 @@ pub record WordIn (f : Frame) (o v : ℕ) : Type 0 where
   pub written : isCounted (fieldAt f at) ≡ false
   pub width : fieldAt f at .long ≡ false
   pub offset : frameBytes f at ≡ o
-  pub value : fieldAt f at .value % 65536 ≡ v
+  pub value : fieldAt f at .value % 0x10000 ≡ v
 
 -- a long
 pub record LongIn (f : Frame) (o v : ℕ) : Type 0 where
@@ -80,7 +80,7 @@ pub record LongIn (f : Frame) (o v : ℕ) : Type 0 where
 -- an address at offset 2, whole or by words
 pub data AddressIn (f : Frame) (v : ℕ) : Type 0 where
   whole : LongIn f 2 v → AddressIn f v
-  halves : (x y : ℕ) → WordIn f 2 x → WordIn f 4 y → x * 65536 + y ≡ v → AddressIn f v
+  halves : (x y : ℕ) → WordIn f 2 x → WordIn f 4 y → x * 0x10000 + y ≡ v → AddressIn f v
 
 -- f has the head status, address and, on kinds other than 1, format word
 pub record Heads (k : ℕ) (f : Frame) (len status address word : ℕ) : Type 0 where
@@ -122,11 +122,11 @@ module _ (y : World) (f : Frame) (s : Shape f) (h : Ready y f) (z : World) (m : 
       sum : (n : ℕ) → n + 2 + 2 ≡ n + 4
       sum n = omega arith
 
-mask-addr : (k q : ℕ) → q < 4294967296 → addr k q 0 ≡ maskAddress k q
+mask-addr : (k q : ℕ) → q < 0x100000000 → addr k q 0 ≡ maskAddress k q
 unfolding addr maskAddress
 mask-addr k q l = go (ltb k 3)
   where
-    go : (t : Bool) → (q + 0) % 4294967296 % cond t 16777216 4294967296 ≡ pick t (q % 16777216) q
+    go : (t : Bool) → (q + 0) % 0x100000000 % cond t 0x1000000 0x100000000 ≡ pick t (q % 0x1000000) q
     go true = omega arith
     go false = omega arith
 

@@ -19,7 +19,7 @@ use Rattle.memory.specs.ByteLaws.{AllBytes}
 use Rattle.memory.specs.World.{World, world, tried, putCpu, cpuOf, step}
 use Rattle.types.specs.Tables.{exceptionCycles}
 use Rattle.types.specs.Causes.{causeNumber}
-use Rattle.requests.specs.Interrupts.{pendingLevel, maskLevel, takesInterrupt}
+use Rattle.pending.specs.Interrupts.{pendingLevel, maskLevel, takesInterrupt}
 use Rattle.exceptions.specs.Exceptions.{entry, takeException, takeGroup2, trap, exceptionTrace, takeRewound, takeFpUnimp060, takeFpDisabled060}
 use Rattle.steps.specs.Steps.{beginEntry}
 use Rattle.exceptions.specs.Exceptions.{taken as done}
@@ -30,7 +30,7 @@ use Rattle.calls.specs.declared.Call.the-variants.{TakeException, Trap, TakeGro
 use Rattle.calls.specs.Matters.{matterOf}
 use Rattle.calls.specs.declared.Answer.{Answer}
 use Rattle.calls.specs.declared.Answer.the-variants.{Cycles, Flag, Value, Done, Refused}
-use Rattle.calls.specs.Calls.{Performance, answered, cycles, flag, ofEntry, ofService, run, restarted, begun, refusal, perform}
+use Rattle.calls.specs.Calls.{Performed, answered, cycles, flag, ofEntry, ofService, run, restarted, begun, refusal, perform}
 use Rattle.images.specs.Pushes.{calm}
 use Rattle.forms.specs.Gist.{gist}
 use Rattle.forms.specs.Plans.{Plan, Clean, excPlan, rewoundPlan, group2Plan, tracePlan, fpUnimpPlan, fpDisabledPlan, addressPlan, busPlan, interruptPlan}
@@ -326,7 +326,7 @@ costs v = go (either (ltb v 2) (eqb v 6)) (either (eqb v 2) (eqb v 3)) (eqb v 5)
     go false false false true = refl
     go false false false false = refl
 
-abbrev Agrees : Performance → Option Plan → Type 0
+abbrev Agrees : Performed → Option Plan → Type 0
 Agrees x o = reads (x .answer) (x .after) ≡ outcome o (x .after)
 
 exc-reads : (w : World) (v : ℕ) (p : Plan) → Agrees (ofEntry (takeException w v)) (pick (inException (cpuOf w)) none (some p))

@@ -10,8 +10,8 @@ use Rattle.types.specs.Kinds.{pick, either, both, isPre68020, isEc020Plus, is04
 use Rattle.types.specs.Every.{at}
 use Rattle.cpu.specs.declared.Cpu.{Cpu}
 use Rattle.cpu.specs.Fields.{kindOf, pcOf, ppcOf, rewindPc}
-use Rattle.status.specs.Status.{statusOf, mIsSet}
-use Rattle.requests.specs.Interrupts.{pendingLevel}
+use Rattle.status.specs.Status.{getSr, mIsSet}
+use Rattle.pending.specs.Interrupts.{pendingLevel}
 use Rattle.memory.specs.declared.Core.{Core}
 use Rattle.memory.specs.declared.Bus.{Bus}
 use Rattle.memory.specs.World.{World, responseOf, cpuOf}
@@ -62,11 +62,11 @@ address-of c v l = pick-is (stacksNext v) (c .flow .pc) (c .flow .ppc) ∙ ap (�
 
 s-is : (st : ℕ) → withS st ≡ withSet st
 unfolding withS
-s-is st = go (eqb (st / 8192 % 2) 1) refl
+s-is st = go (eqb (st / 0x2000 % 2) 1) refl
   where
-    go : (b : Bool) → eqb (st / 8192 % 2) 1 ≡ b → st - st / 8192 % 2 * 8192 + 8192 ≡ cond b st (st + 8192)
-    go true e = omega (arith, eqb-true (st / 8192 % 2) 1 e)
-    go false e = let h : st / 8192 % 2 ≡ 1 → ⊥ = eqb-false (st / 8192 % 2) 1 e in let z : st / 8192 % 2 ≡ 0 = omega arith in omega arith
+    go : (b : Bool) → eqb (st / 0x2000 % 2) 1 ≡ b → st - st / 0x2000 % 2 * 0x2000 + 0x2000 ≡ cond b st (st + 0x2000)
+    go true e = omega (arith, eqb-true (st / 0x2000 % 2) 1 e)
+    go false e = let h : st / 0x2000 % 2 ≡ 1 → ⊥ = eqb-false (st / 0x2000 % 2) 1 e in let z : st / 0x2000 % 2 ≡ 0 = omega arith in omega arith
 
 -- ---- frames
 
@@ -142,7 +142,7 @@ vector-is : (c : Cpu) (b : Bus) → interruptVector c b ≡ vectorFor c b
 unfolding interruptVector iackVector responseOf pendingLevel
 vector-is c b =
     let e : c .flags .«int_level» % 8 % 8 ≡ c .flags .«int_level» % 8 = omega arith in
-    rw e (pick-is (eqb (getD (b .responses) (c .flags .«int_level» % 8) 0) 4294967295) (24 + c .flags .«int_level» % 8) (getD (b .responses) (c .flags .«int_level» % 8) 0 % 256))
+    rw e (pick-is (eqb (getD (b .responses) (c .flags .«int_level» % 8) 0) 0xFFFFFFFF) (24 + c .flags .«int_level» % 8) (getD (b .responses) (c .flags .«int_level» % 8) 0 % 256))
 
 vector-low : (c : Cpu) (b : Bus) → vectorFor c b < 256
 vector-low c b = go (eqb (getD (b .responses) (level c) 0) 0xFFFFFFFF)
@@ -161,7 +161,7 @@ m-is c = go (c .flags .«m_flag»)
 
 throw-is : (c : Cpu) (v : ℕ) → v < 256 → throwAt c v ≡ secondFor c v
 unfolding throwAt regsOf stacksOf view pcOf
-throw-is c v l = rw (s-is (statusOf c), format-is 1 v l)
+throw-is c v l = rw (s-is (getSr c), format-is 1 v l)
 
 interrupt-is : (c : Cpu) (v : ℕ) → v < 256 → interruptAt c v ≡ interruptFor c v
 unfolding interruptAt interruptBoth isEc020Plus kindOf pcOf

@@ -11,7 +11,7 @@ use lib.Seq.{getD-set-same, getD-set-other}
 use Rattle.types.specs.Kinds.{pick, is060}
 use Rattle.cpu.specs.declared.Cpu.{Cpu}
 use Rattle.cpu.specs.Fields.{kindOf, pcOf, a7Of, inException, setA7}
-use Rattle.status.specs.Status.{statusOf, clearTrace, clearM}
+use Rattle.status.specs.Status.{getSr, clearTrace, clearM}
 use Rattle.status.specs.Banks.{spIndex, backupSp, restoreSp, putS, setSmFlagNosp, setSFlag, setSmFlag, enterSupervisor}
 use Rattle.nest.specs.View.{Regs, Bank, user, interrupt, master, bankOf, View, nonzero, view}
 use Rattle.nest.specs.Banks.{bankG, save, saved, loaded, select, withA7, withFlags}
@@ -27,7 +27,7 @@ regsOf c =
       msp = getD (c .regs .sp) 6 0;
       sflag = c .flags .«s_flag»;
       mflag = c .flags .«m_flag»;
-      status = statusOf c;
+      status = getSr c;
       pc = pcOf c;
       runmode = c .flow .«run_mode»;
       processing = inException c;

@@ -17,7 +17,7 @@ use Rattle.memory.specs.World.{World, cpuOf}
 use Rattle.refusals.specs.Refusals.{badStore, badWindows}
 use Rattle.images.specs.Pushes.{calm}
 use Rattle.calls.specs.declared.Call.{Call}
-use Rattle.calls.specs.Calls.{Performance, begun, refusal, perform}
+use Rattle.calls.specs.Calls.{Performed, begun, refusal, perform}
 use Rattle.forms.specs.Plans.{Plan}
 use Rattle.forms.specs.Forms.{planOf}
 use Rattle.nest.specs.View.{Row, Back, back, backs, peek, view}

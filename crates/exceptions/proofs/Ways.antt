@@ -8,27 +8,27 @@ use mathlib.Core.List.{List}
 use lib.ListN.{length, getD, set}
 use lib.Dec.{eqb, ltb, leb}
 use native.Mathlib.Numerals.{sub-one}
+use Rattle.access.specs.Faults.{jumpVector, pushExceptionFrame68000, pushFrame, raised}
 use Rattle.cpu.specs.Fields.{halted, inException, kindOf, noteFpiar, pcOf, ppcOf, rewindPc, setException}
 use Rattle.cpu.specs.declared.Cpu.{Cpu}
 use Rattle.exceptions.specs.Exceptions.{entry, exceptionTrace, finished, stackDisabled, stackGroup2, stackShort, stackUnimp, takeException, takeFpDisabled060, takeFpUnimp060, takeGroup2, takeRewound, taken, trap}
 use Rattle.exceptions.specs.Frames.{disabledFrame, formatWord, longFrame, offsetWord, shortFrame}
 use Rattle.exceptions.specs.declared.Entered.{Entered}
-use Rattle.faults.specs.Faults.{jumpVector, pushExceptionFrame68000, pushFrame, raised}
 use Rattle.frames.specs.declared.Frame.{Frame}
 use Rattle.memory.specs.World.{putCpu, world}
 use Rattle.memory.specs.declared.Core.{Core}
 use Rattle.status.specs.Banks.{enterSupervisor}
-use Rattle.status.specs.Status.{statusOf}
+use Rattle.status.specs.Status.{getSr}
 use Rattle.steps.specs.Steps.{beginEntry, beginTrace, stackedAddress}
 use Rattle.types.specs.Kinds.{isPre68020}
 use Rattle.types.specs.Tables.{exceptionCycles}
 use borrow.Author.Tests.{eq-eqb, ne-eqb}
 
-pub stack-short-way : (m : Core) (s l : List ℕ) (pc format n : ℕ) (r : Cpu) (r1 : Core) (n1 : ℕ) (s1 l1 : List ℕ) (r2 : Core) → n ≡ statusOf (m .cpu) → r ≡ enterSupervisor (m .cpu) → r1 ≡ putCpu m r → n1 ≡ kindOf (m .cpu) → n1 ≡ 1 → world r2 s1 l1 ≡ pushExceptionFrame68000 raised (world r1 s l) pc n → world r2 s1 l1 ≡ stackShort (world m s l) pc format
+pub stack-short-way : (m : Core) (s l : List ℕ) (pc format n : ℕ) (r : Cpu) (r1 : Core) (n1 : ℕ) (s1 l1 : List ℕ) (r2 : Core) → n ≡ getSr (m .cpu) → r ≡ enterSupervisor (m .cpu) → r1 ≡ putCpu m r → n1 ≡ kindOf (m .cpu) → n1 ≡ 1 → world r2 s1 l1 ≡ pushExceptionFrame68000 raised (world r1 s l) pc n → world r2 s1 l1 ≡ stackShort (world m s l) pc format
 unfolding stackShort
 stack-short-way m s l pc format n r r1 n1 s1 l1 r2 h0 h1 h2 h3 h4 h5 = cc (eq-eqb _ _ h4)
 
-pub stack-short-way-2 : (m : Core) (s l : List ℕ) (pc format n : ℕ) (r : Cpu) (r1 : Core) (n1 : ℕ) (r2 : Frame) (s1 l1 : List ℕ) (r3 : Core) → n ≡ statusOf (m .cpu) → r ≡ enterSupervisor (m .cpu) → r1 ≡ putCpu m r → n1 ≡ kindOf (m .cpu) → (n1 ≡ 1 → ⊥) → r2 ≡ shortFrame n pc format → world r3 s1 l1 ≡ pushFrame raised (world r1 s l) r2 → world r3 s1 l1 ≡ stackShort (world m s l) pc format
+pub stack-short-way-2 : (m : Core) (s l : List ℕ) (pc format n : ℕ) (r : Cpu) (r1 : Core) (n1 : ℕ) (r2 : Frame) (s1 l1 : List ℕ) (r3 : Core) → n ≡ getSr (m .cpu) → r ≡ enterSupervisor (m .cpu) → r1 ≡ putCpu m r → n1 ≡ kindOf (m .cpu) → (n1 ≡ 1 → ⊥) → r2 ≡ shortFrame n pc format → world r3 s1 l1 ≡ pushFrame raised (world r1 s l) r2 → world r3 s1 l1 ≡ stackShort (world m s l) pc format
 unfolding stackShort
 stack-short-way-2 m s l pc format n r r1 n1 r2 s1 l1 r3 h0 h1 h2 h3 h4 h5 h6 = cc (ne-eqb _ _ h4)
 
@@ -48,7 +48,7 @@ pub stack-group2-way : (m : Core) (s l : List ℕ) (vector n n1 : ℕ) (b : Bool
 unfolding stackGroup2
 stack-group2-way m s l vector n n1 b n2 s1 l1 r h0 h1 h2 h3 h4 h5 = cc
 
-pub stack-group2-way-2 : (m : Core) (s l : List ℕ) (vector n n1 : ℕ) (b : Bool) (r : Cpu) (r1 : Core) (n2 n3 n4 : ℕ) (r2 : Frame) (s1 l1 : List ℕ) (r3 : Core) → n ≡ pcOf (m .cpu) → n1 ≡ kindOf (m .cpu) → b ≡ isPre68020 n1 → b ≡ false → r ≡ enterSupervisor (m .cpu) → r1 ≡ putCpu m r → n2 ≡ statusOf (m .cpu) → n3 ≡ formatWord (2 % 16) vector → n4 ≡ ppcOf (m .cpu) → r2 ≡ longFrame n2 n n3 n4 → world r3 s1 l1 ≡ pushFrame raised (world r1 s l) r2 → world r3 s1 l1 ≡ stackGroup2 (world m s l) vector
+pub stack-group2-way-2 : (m : Core) (s l : List ℕ) (vector n n1 : ℕ) (b : Bool) (r : Cpu) (r1 : Core) (n2 n3 n4 : ℕ) (r2 : Frame) (s1 l1 : List ℕ) (r3 : Core) → n ≡ pcOf (m .cpu) → n1 ≡ kindOf (m .cpu) → b ≡ isPre68020 n1 → b ≡ false → r ≡ enterSupervisor (m .cpu) → r1 ≡ putCpu m r → n2 ≡ getSr (m .cpu) → n3 ≡ formatWord (2 % 16) vector → n4 ≡ ppcOf (m .cpu) → r2 ≡ longFrame n2 n n3 n4 → world r3 s1 l1 ≡ pushFrame raised (world r1 s l) r2 → world r3 s1 l1 ≡ stackGroup2 (world m s l) vector
 unfolding stackGroup2
 stack-group2-way-2 m s l vector n n1 b r r1 n2 n3 n4 r2 s1 l1 r3 h0 h1 h2 h3 h4 h5 h6 h7 h8 h9 h10 = cc
 
@@ -68,7 +68,7 @@ pub take-rewound-way : (m : Core) (s l : List ℕ) (vector : ℕ) (r : Cpu) (r1 
 unfolding takeRewound
 take-rewound-way m s l vector r r1 s1 l1 r2 h0 h1 h2 = cc
 
-pub stack-unimp-way : (m : Core) (s l : List ℕ) (ea : ℕ) (r : Cpu) (r1 : Core) (n n1 n2 : ℕ) (r2 : Frame) (s1 l1 : List ℕ) (r3 : Core) → r ≡ enterSupervisor (m .cpu) → r1 ≡ putCpu m r → n ≡ statusOf (m .cpu) → n1 ≡ pcOf (m .cpu) → n2 ≡ formatWord (2 % 16) 11 → r2 ≡ longFrame n n1 n2 ea → world r3 s1 l1 ≡ pushFrame raised (world r1 s l) r2 → world r3 s1 l1 ≡ stackUnimp (world m s l) ea
+pub stack-unimp-way : (m : Core) (s l : List ℕ) (ea : ℕ) (r : Cpu) (r1 : Core) (n n1 n2 : ℕ) (r2 : Frame) (s1 l1 : List ℕ) (r3 : Core) → r ≡ enterSupervisor (m .cpu) → r1 ≡ putCpu m r → n ≡ getSr (m .cpu) → n1 ≡ pcOf (m .cpu) → n2 ≡ formatWord (2 % 16) 11 → r2 ≡ longFrame n n1 n2 ea → world r3 s1 l1 ≡ pushFrame raised (world r1 s l) r2 → world r3 s1 l1 ≡ stackUnimp (world m s l) ea
 unfolding stackUnimp
 stack-unimp-way m s l ea r r1 n n1 n2 r2 s1 l1 r3 h0 h1 h2 h3 h4 h5 h6 = cc
 
@@ -76,7 +76,7 @@ pub take-fp-unimp-060-way : (m : Core) (s l : List ℕ) (ea : ℕ) (r : Cpu) (r1
 unfolding takeFpUnimp060
 take-fp-unimp-060-way m s l ea r r1 s1 l1 r2 s2 l2 r3 n h0 h1 h2 h3 h4 = cc
 
-pub stack-disabled-way : (m : Core) (s l : List ℕ) (r : Cpu) (r1 : Core) (n n1 n2 : ℕ) (r2 : Frame) (s1 l1 : List ℕ) (r3 : Core) → r ≡ enterSupervisor (m .cpu) → r1 ≡ putCpu m r → n ≡ statusOf (m .cpu) → n1 ≡ ppcOf (m .cpu) → n2 ≡ formatWord (4 % 16) 11 → r2 ≡ disabledFrame n n1 n2 0 n1 → world r3 s1 l1 ≡ pushFrame raised (world r1 s l) r2 → world r3 s1 l1 ≡ stackDisabled (world m s l)
+pub stack-disabled-way : (m : Core) (s l : List ℕ) (r : Cpu) (r1 : Core) (n n1 n2 : ℕ) (r2 : Frame) (s1 l1 : List ℕ) (r3 : Core) → r ≡ enterSupervisor (m .cpu) → r1 ≡ putCpu m r → n ≡ getSr (m .cpu) → n1 ≡ ppcOf (m .cpu) → n2 ≡ formatWord (4 % 16) 11 → r2 ≡ disabledFrame n n1 n2 0 n1 → world r3 s1 l1 ≡ pushFrame raised (world r1 s l) r2 → world r3 s1 l1 ≡ stackDisabled (world m s l)
 unfolding stackDisabled
 stack-disabled-way m s l r r1 n n1 n2 r2 s1 l1 r3 h0 h1 h2 h3 h4 h5 h6 = cc
 

@@ -6,11 +6,11 @@ use Rattle.types.specs.Kinds.{pick, isPre68020}
 use Rattle.types.specs.Vectors.{trace, line1111, trapBase}
 use Rattle.types.specs.Tables.{exceptionCycles}
 use Rattle.cpu.specs.Fields.{kindOf, pcOf, ppcOf, inException, halted, setException, rewindPc, noteFpiar}
-use Rattle.status.specs.Status.{statusOf}
+use Rattle.status.specs.Status.{getSr}
 use Rattle.status.specs.Banks.{enterSupervisor}
 use Rattle.memory.specs.World.{World, cpuOf, step}
 use Rattle.steps.specs.Steps.{stackedAddress, beginEntry, beginTrace}
-use Rattle.faults.specs.Faults.{raised, pushFrame, pushExceptionFrame68000, jumpVector}
+use Rattle.access.specs.Faults.{raised, pushFrame, pushExceptionFrame68000, jumpVector}
 use Rattle.exceptions.specs.Frames.{formatWord, offsetWord, shortFrame, longFrame, disabledFrame}
 
 -- an entry's world and the cycles that it answers
@@ -28,8 +28,8 @@ supervised w = step enterSupervisor w
 -- the status as it was, an address and, on kinds with a format, a format word: on the supervisor stack
 unfoldable pub stackShort : World → ℕ → ℕ → World
 stackShort w pc format =
-    pick (eqb (kindOf (cpuOf w)) 1) (pushExceptionFrame68000 raised (supervised w) pc (statusOf (cpuOf w)))
-    (pushFrame raised (supervised w) (shortFrame (statusOf (cpuOf w)) pc format))
+    pick (eqb (kindOf (cpuOf w)) 1) (pushExceptionFrame68000 raised (supervised w) pc (getSr (cpuOf w)))
+    (pushFrame raised (supervised w) (shortFrame (getSr (cpuOf w)) pc format))
 
 -- `take_exception`: a halt while an entry is under way, with no frame and 0 cycles; else the frame, the jump, and the end of
 -- exception processing
@@ -48,7 +48,7 @@ takeException w v =
 unfoldable pub stackGroup2 : World → ℕ → World
 stackGroup2 w v =
     pick (isPre68020 (kindOf (cpuOf w))) (stackShort w (pcOf (cpuOf w)) (offsetWord v))
-    (pushFrame raised (supervised w) (longFrame (statusOf (cpuOf w)) (pcOf (cpuOf w)) (formatWord 2 v) (ppcOf (cpuOf w))))
+    (pushFrame raised (supervised w) (longFrame (getSr (cpuOf w)) (pcOf (cpuOf w)) (formatWord 2 v) (ppcOf (cpuOf w))))
 
 unfoldable pub takeGroup2 : World → ℕ → Entry
 takeGroup2 w v = entry (jumpVector raised (stackGroup2 w v) v) (exceptionCycles v)
@@ -67,14 +67,14 @@ takeRewound w v = takeException (step rewindPc w) v
 
 -- `take_fp_unimp_060`: FPIAR is the instruction, format 2 with the operand's address
 unfoldable pub stackUnimp : World → ℕ → World
-stackUnimp w ea = pushFrame raised (supervised w) (longFrame (statusOf (cpuOf w)) (pcOf (cpuOf w)) (formatWord 2 line1111) ea)
+stackUnimp w ea = pushFrame raised (supervised w) (longFrame (getSr (cpuOf w)) (pcOf (cpuOf w)) (formatWord 2 line1111) ea)
 
 unfoldable pub takeFpUnimp060 : World → ℕ → Entry
 takeFpUnimp060 w ea = entry (jumpVector raised (stackUnimp (step noteFpiar w) ea) line1111) (exceptionCycles line1111)
 
 -- `take_fp_disabled_060`: format 4, the instruction's address twice and 0 for the operand's
 unfoldable pub stackDisabled : World → World
-stackDisabled w = pushFrame raised (supervised w) (disabledFrame (statusOf (cpuOf w)) (ppcOf (cpuOf w)) (formatWord 4 line1111) 0 (ppcOf (cpuOf w)))
+stackDisabled w = pushFrame raised (supervised w) (disabledFrame (getSr (cpuOf w)) (ppcOf (cpuOf w)) (formatWord 4 line1111) 0 (ppcOf (cpuOf w)))
 
 unfoldable pub takeFpDisabled060 : World → Entry
 takeFpDisabled060 w = entry (jumpVector raised (stackDisabled w) line1111) (exceptionCycles line1111)

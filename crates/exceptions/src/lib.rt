@@ -1,5 +1,5 @@
 // The exceptions that are no errors: `take_exception` and the wrappers around it, the group 2 exceptions, trace, and the two
-// floating-point entries of the 68060. It uses `faults` and everything below; `calls` uses it.
+// floating-point entries of the 68060. It uses `access` and everything below; `calls` uses it.
 use memory::Core;
 
 pub mod formats; // their frames
@@ -23,10 +23,10 @@ pub fn stack_short(m: Core, store: &mut [u8], log: &mut [u32], pc: u32, format: 
     let a = memory::with_cpu(m, status::banks::enter_supervisor(m.cpu));
     let k = cpu::fields::kind(m.cpu);
     if k == types::M68000 {
-        return faults::push_exception_frame_68000(a, store, log, pc, sr);
+        return access::push_exception_frame_68000(a, store, log, pc, sr);
     }
     let f = formats::short_frame(sr as u32, pc, format);
-    faults::push_frame(a, store, log, f)
+    access::push_frame(a, store, log, f)
 }
 
 // The frame of `take_exception`, the jump, and the end of exception processing.
@@ -36,7 +36,7 @@ fn stack_and_jump(m: Core, store: &mut [u8], log: &mut [u32], vector: u32) -> Co
     let pc = steps::stacked_address(m.cpu, vector);
     let format = formats::offset_word(vector);
     let a = stack_short(m, store, log, pc, format as u32);
-    let b = faults::jump_vector(a, store, log, vector);
+    let b = access::jump_vector(a, store, log, vector);
     memory::with_cpu(b, cpu::fields::set_exception(b.cpu, false))
 }
 
@@ -68,7 +68,7 @@ fn stack_group2(m: Core, store: &mut [u8], log: &mut [u32], vector: u32) -> Core
     let sr = status::get_sr(m.cpu);
     let format = formats::format_word(2, vector);
     let f = formats::long_frame(sr as u32, pc, format, cpu::fields::ppc(m.cpu));
-    faults::push_frame(a, store, log, f)
+    access::push_frame(a, store, log, f)
 }
 
 // A group 2 exception: CHK, TRAPV, zero divide, trace.
@@ -76,7 +76,7 @@ pub fn take_group2_exception(m: Core, store: &mut [u8], log: &mut [u32], vector:
     ensures { λ r. ⌜ entry (world (r .core) (now (store .exit)) (now (log .exit))) (r .cycles) ≡ takeGroup2 (world m (now (store .entry)) (now (log .entry))) vector ⌝ }
 {
     let a = stack_group2(m, store, log, vector);
-    let d = faults::jump_vector(a, store, log, vector);
+    let d = access::jump_vector(a, store, log, vector);
     let n = types::exception_cycles(vector);
     Entered { core: d, cycles: n }
 }
@@ -169,7 +169,7 @@ fn stack_unimp(m: Core, store: &mut [u8], log: &mut [u32], ea: u32) -> Core
     let pc = cpu::fields::pc(m.cpu);
     let format = formats::format_word(2, types::LINE_1111);
     let f = formats::long_frame(sr as u32, pc, format, ea);
-    faults::push_frame(a, store, log, f)
+    access::push_frame(a, store, log, f)
 }
 
 // 68060: a floating-point instruction that is not implemented.
@@ -178,7 +178,7 @@ pub fn take_fp_unimp_060(m: Core, store: &mut [u8], log: &mut [u32], ea: u32) ->
 {
     let b = memory::with_cpu(m, cpu::fields::note_fpiar(m.cpu));
     let a = stack_unimp(b, store, log, ea);
-    let d = faults::jump_vector(a, store, log, types::LINE_1111);
+    let d = access::jump_vector(a, store, log, types::LINE_1111);
     let n = types::exception_cycles(types::LINE_1111);
     Entered { core: d, cycles: n }
 }
@@ -192,7 +192,7 @@ fn stack_disabled(m: Core, store: &mut [u8], log: &mut [u32]) -> Core
     let ppc = cpu::fields::ppc(m.cpu);
     let format = formats::format_word(4, types::LINE_1111);
     let f = formats::disabled_frame(sr as u32, ppc, format, 0, ppc);
-    faults::push_frame(a, store, log, f)
+    access::push_frame(a, store, log, f)
 }
 
 // 68060: the floating-point unit is disabled.
@@ -200,7 +200,7 @@ pub fn take_fp_disabled_060(m: Core, store: &mut [u8], log: &mut [u32]) -> Enter
     ensures { λ r. ⌜ entry (world (r .core) (now (store .exit)) (now (log .exit))) (r .cycles) ≡ takeFpDisabled060 (world m (now (store .entry)) (now (log .entry))) ⌝ }
 {
     let a = stack_disabled(m, store, log);
-    let d = faults::jump_vector(a, store, log, types::LINE_1111);
+    let d = access::jump_vector(a, store, log, types::LINE_1111);
     let n = types::exception_cycles(types::LINE_1111);
     Entered { core: d, cycles: n }
 }

@@ -82,9 +82,9 @@ module _ (w : World) (c : Call) (r : refusal w c ≡ 0) where
       go false b x y = none (sym x)
 
   -- number 5
-  pub accepted-store : matterOf c .store ≡ true → length (w .store) ≤ 65536
+  pub accepted-store : matterOf c .store ≡ true → length (w .store) ≤ 0x10000
   unfolding outcomes testsOf badStore
-  accepted-store e = omega (arith, ltb-false 65536 (length (w .store)) (either-false (ltb 65536 (length (w .store))) (ltb (2 ^ 32) (w .core .bus .base + length (w .store))) (go (matterOf c .store) _ e (tests 4)) .0))
+  accepted-store e = omega (arith, ltb-false 0x10000 (length (w .store)) (either-false (ltb 0x10000 (length (w .store))) (ltb (2 ^ 32) (w .core .bus .base + length (w .store))) (go (matterOf c .store) _ e (tests 4)) .0))
     where
       go : (a b : Bool) → a ≡ true → both a b ≡ false → b ≡ false
       go true b x y = y

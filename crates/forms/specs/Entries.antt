@@ -10,14 +10,14 @@ use Rattle.cpu.specs.declared.Cpu.{Cpu}
 use Rattle.cpu.specs.declared.Flow.{Flow}
 use Rattle.cpu.specs.Fields.{kindOf, pcOf, ppcOf, inException, setException, rewindPc, noteFpiar, leaveStop, clearFcOverride}
 use Rattle.cpu.specs.Clocks.{internalCycles, prefetchEnabled, setClocks, clocksOf}
-use Rattle.status.specs.Status.{statusOf, compose, clearTrace}
+use Rattle.status.specs.Status.{getSr, compose, clearTrace}
 use Rattle.status.specs.Banks.{spIndex, backupSp, restoreSp, putS, setSFlag, enterSupervisor}
 use Rattle.memory.specs.declared.Core.{Core}
 use Rattle.memory.specs.World.{World, world, putCpu, cpuOf, withCpu, step}
 use Rattle.frames.specs.declared.Frame.{Frame}
 use Rattle.frames.specs.Frames.{addressFrame, busFrame}
 use Rattle.steps.specs.Steps.{enterBusError, stacksNext, stackedAddress, beginEntry, beginTrace}
-use Rattle.faults.specs.Faults.{Raise, raised, pushFrame, pushExceptionFrame68000, jumpVector, exceptionAddressError, exceptionBusError}
+use Rattle.access.specs.Faults.{Raise, raised, pushFrame, pushExceptionFrame68000, jumpVector, exceptionAddressError, exceptionBusError}
 use Rattle.exceptions.specs.Frames.{formatWord, offsetWord, shortFrame, longFrame, disabledFrame}
 use Rattle.exceptions.specs.Exceptions.{Entry, entry, supervised, stackShort, finished, taken, takeException, stackGroup2, takeGroup2, trap, exceptionTrace, takeRewound, stackUnimp, takeFpUnimp060, stackDisabled, takeFpDisabled060}
 use Rattle.images.specs.Pushes.{calm}
@@ -86,7 +86,7 @@ single-form t y x turn close f v e s r =
     (jump-form t y (turned (framedBy (turned x turn) f) same) v (stays y ∙ turn-form y (framedBy (turned x turn) f) same seen-same e) r)
 
 -- status, address and format word by the kind's own writes
-short-stack : (w y : World) (pc fw sr k : ℕ) → gist (supervised w) ≡ y → statusOf (cpuOf w) ≡ sr → kindOf (cpuOf w) ≡ k → Ready y (shortOf k sr pc fw) → gist (stackShort w pc fw) ≡ framedBy y (shortOf k sr pc fw)
+short-stack : (w y : World) (pc fw sr k : ℕ) → gist (supervised w) ≡ y → getSr (cpuOf w) ≡ sr → kindOf (cpuOf w) ≡ k → Ready y (shortOf k sr pc fw) → gist (stackShort w pc fw) ≡ framedBy y (shortOf k sr pc fw)
 unfolding stackShort shortOf
 short-stack w y pc fw sr k e d c h = rw (d, c) (go (eqb k 1) h)
   where
@@ -108,8 +108,8 @@ begun-alike c n = go (prefetchEnabled c)
     go true = record { flow = refl; flags = refl }
     go false = record { flow = refl; flags = refl }
 
-alike-status : (c d : Cpu) → Alike c d → statusOf c ≡ statusOf d
-unfolding statusOf
+alike-status : (c d : Cpu) → Alike c d → getSr c ≡ getSr d
+unfolding getSr
 alike-status c d a = ap compose (a .flags)
 
 module _ (c d : Cpu) (a : Alike c d) where
@@ -133,8 +133,8 @@ module _ (c d : Cpu) (a : Alike c d) where
 
 -- a record to which an entry's flag was set
 module _ (c : Cpu) where
-  marked-status : statusOf (setException c true) ≡ statusOf c
-  unfolding statusOf setException
+  marked-status : getSr (setException c true) ≡ getSr c
+  unfolding getSr setException
   marked-status = refl
 
   marked-kind : kindOf (setException c true) ≡ kindOf c
@@ -153,8 +153,8 @@ begin-gist w =
 
 -- the frame of a record c, whose gist and turn are given
 taken-form : (w x : World) (turn : Cpu → Cpu) (v : ℕ) → gist (withCpu w (enterSupervisor (setException (cpuOf w) true))) ≡ turned x turn
-    → Clean x (single turn (shortOf (kindOf (cpuOf w)) (statusOf (cpuOf w)) (stackedAddress (cpuOf w) v) (offsetWord v)) v (λ d. setException d false))
-    → gist (taken (step beginEntry w) v) ≡ planned x (single turn (shortOf (kindOf (cpuOf w)) (statusOf (cpuOf w)) (stackedAddress (cpuOf w) v) (offsetWord v)) v (λ d. setException d false))
+    → Clean x (single turn (shortOf (kindOf (cpuOf w)) (getSr (cpuOf w)) (stackedAddress (cpuOf w) v) (offsetWord v)) v (λ d. setException d false))
+    → gist (taken (step beginEntry w) v) ≡ planned x (single turn (shortOf (kindOf (cpuOf w)) (getSr (cpuOf w)) (stackedAddress (cpuOf w) v) (offsetWord v)) v (λ d. setException d false))
 unfolding taken finished beginEntry AllReady stackAll putCpu
 taken-form w x turn v e h =
     let c : Cpu = setException (cpuOf w) true in
@@ -162,10 +162,10 @@ taken-form w x turn v e h =
     let a : Alike d c = begun-alike c 4 in
     let p : ℕ = stackedAddress (cpuOf w) v in
     let q : stackedAddress d v ≡ p = alike-stacked d c a v ∙ marked-stacked (cpuOf w) v in
-    let f : Frame = shortOf (kindOf (cpuOf w)) (statusOf (cpuOf w)) p (offsetWord v) in
+    let f : Frame = shortOf (kindOf (cpuOf w)) (getSr (cpuOf w)) p (offsetWord v) in
     let y : World = stackShort (withCpu w d) (stackedAddress d v) (offsetWord v) in
     let k : gist y ≡ framedBy (turned x turn) f = ap (λ (z : ℕ). gist (stackShort (withCpu w d) z (offsetWord v))) q
-    ∙ short-stack (withCpu w d) (turned x turn) p (offsetWord v) (statusOf (cpuOf w)) (kindOf (cpuOf w)) (begin-gist w ∙ e) (alike-status d c a ∙ marked-status (cpuOf w)) (alike-kind d c a ∙ marked-kind (cpuOf w)) (h .stacks .0) in
+    ∙ short-stack (withCpu w d) (turned x turn) p (offsetWord v) (getSr (cpuOf w)) (kindOf (cpuOf w)) (begin-gist w ∙ e) (alike-status d c a ∙ marked-status (cpuOf w)) (alike-kind d c a ∙ marked-kind (cpuOf w)) (h .stacks .0) in
     single-form raised y x turn (λ d. setException d false) f v k seen-end (h .reach)
 
 -- `take_exception`, every vector and kind
@@ -175,8 +175,8 @@ exc-form w x v e i h = rw i (taken-form w x (λ d. enterSupervisor (setException
 
 -- line A, line F, breakpoint, illegal
 module _ (c : Cpu) where
-  rewound-status : statusOf (rewindPc c) ≡ statusOf c
-  unfolding statusOf rewindPc
+  rewound-status : getSr (rewindPc c) ≡ getSr c
+  unfolding getSr rewindPc
   rewound-status = refl
 
   rewound-kind : kindOf (rewindPc c) ≡ kindOf c
@@ -188,7 +188,7 @@ module _ (c : Cpu) where
   rewound-inside = refl
 
 pub rewound-form : (w x : World) (v : ℕ) → gist w ≡ x → inException (cpuOf w) ≡ false → Clean x (rewoundPlan (cpuOf w) v) → gist (takeRewound w v .after) ≡ planned x (rewoundPlan (cpuOf w) v)
-unfolding takeRewound takeException rewoundPlan putCpu statusOf kindOf rewindPc
+unfolding takeRewound takeException rewoundPlan putCpu getSr kindOf rewindPc
 rewound-form w x v e i h =
     rw (rewound-inside (cpuOf w) ∙ i)
     (taken-form (step rewindPc w) x (λ d. enterSupervisor (setException (rewindPc d) true)) v (turn-form w x (λ d. enterSupervisor (setException (rewindPc d) true)) seen-rewound e) h)
@@ -196,7 +196,7 @@ rewound-form w x v e i h =
 -- ---- group 2
 
 abbrev framed2 : Cpu → ℕ → Frame
-framed2 c v = group2Frame (kindOf c) (statusOf c) (pcOf c) (ppcOf c) v
+framed2 c v = group2Frame (kindOf c) (getSr c) (pcOf c) (ppcOf c) v
 
 group2-stack : (w y : World) (v : ℕ) → gist (supervised w) ≡ y → Ready y (framed2 (cpuOf w) v) → gist (stackGroup2 w v) ≡ framedBy y (framed2 (cpuOf w) v)
 unfolding stackGroup2 group2Frame
@@ -206,13 +206,13 @@ group2-stack w y v e h = go (isPre68020 (kindOf (cpuOf w))) h
     S = stackShort w (pcOf (cpuOf w)) (offsetWord v)
 
     F : Frame
-    F = shortOf (kindOf (cpuOf w)) (statusOf (cpuOf w)) (pcOf (cpuOf w)) (offsetWord v)
+    F = shortOf (kindOf (cpuOf w)) (getSr (cpuOf w)) (pcOf (cpuOf w)) (offsetWord v)
 
     L : Frame
-    L = longFrame (statusOf (cpuOf w)) (pcOf (cpuOf w)) (formatWord 2 v) (ppcOf (cpuOf w))
+    L = longFrame (getSr (cpuOf w)) (pcOf (cpuOf w)) (formatWord 2 v) (ppcOf (cpuOf w))
 
     short : Ready y F → gist S ≡ framedBy y F
-    short r = short-stack w y (pcOf (cpuOf w)) (offsetWord v) (statusOf (cpuOf w)) (kindOf (cpuOf w)) e refl refl r
+    short r = short-stack w y (pcOf (cpuOf w)) (offsetWord v) (getSr (cpuOf w)) (kindOf (cpuOf w)) e refl refl r
 
     go : (b : Bool) → Ready y (pick b F L) → gist (pick b S (pushFrame raised (supervised w) L)) ≡ framedBy y (pick b F L)
     go true r = short r
@@ -232,8 +232,8 @@ group2-form w x v e h = group2-any w x enterSupervisor v (turn-form w x enterSup
 
 -- `exception_trace`
 module _ (c : Cpu) where
-  stop-status : statusOf (leaveStop c) ≡ statusOf c
-  unfolding statusOf leaveStop
+  stop-status : getSr (leaveStop c) ≡ getSr c
+  unfolding getSr leaveStop
   stop-status = refl
 
   stop-kind : kindOf (leaveStop c) ≡ kindOf c
@@ -252,10 +252,10 @@ module _ (c : Cpu) where
   unfolding beginTrace
   trace-frame v =
       let a : Alike (internalCycles (leaveStop c) 4) (leaveStop c) = begun-alike (leaveStop c) 4 in
-      ap (λ (k : ℕ). group2Frame k (statusOf (internalCycles (leaveStop c) 4)) (pcOf (internalCycles (leaveStop c) 4)) (ppcOf (internalCycles (leaveStop c) 4)) v) (alike-kind _ _ a ∙ stop-kind)
+      ap (λ (k : ℕ). group2Frame k (getSr (internalCycles (leaveStop c) 4)) (pcOf (internalCycles (leaveStop c) 4)) (ppcOf (internalCycles (leaveStop c) 4)) v) (alike-kind _ _ a ∙ stop-kind)
       ∙ ap (λ (k : ℕ). group2Frame (kindOf c) k (pcOf (internalCycles (leaveStop c) 4)) (ppcOf (internalCycles (leaveStop c) 4)) v) (alike-status _ _ a ∙ stop-status)
-      ∙ ap (λ (k : ℕ). group2Frame (kindOf c) (statusOf c) k (ppcOf (internalCycles (leaveStop c) 4)) v) (alike-pc _ _ a ∙ stop-pc)
-      ∙ ap (λ (k : ℕ). group2Frame (kindOf c) (statusOf c) (pcOf c) k v) (alike-ppc _ _ a ∙ stop-ppc)
+      ∙ ap (λ (k : ℕ). group2Frame (kindOf c) (getSr c) k (ppcOf (internalCycles (leaveStop c) 4)) v) (alike-pc _ _ a ∙ stop-pc)
+      ∙ ap (λ (k : ℕ). group2Frame (kindOf c) (getSr c) (pcOf c) k v) (alike-ppc _ _ a ∙ stop-ppc)
 
 trace-gist : (w : World) → gist (supervised (step beginTrace w)) ≡ gist (withCpu w (enterSupervisor (leaveStop (cpuOf w))))
 unfolding beginTrace putCpu
@@ -280,15 +280,15 @@ pushes-form w y x turn f v e h =
     ∙ single-form raised (pushFrame raised y f) x turn same f v (stacked-form raised y (turned x turn) f e (h .stacks .0 .sound) (h .stacks .0 .allowed)) seen-same (h .reach)
 
 pub fpUnimp-form : (w x : World) (ea : ℕ) → gist w ≡ x → Clean x (fpUnimpPlan (cpuOf w) ea) → gist (takeFpUnimp060 w ea .after) ≡ planned x (fpUnimpPlan (cpuOf w) ea)
-unfolding takeFpUnimp060 stackUnimp fpUnimpPlan putCpu statusOf pcOf noteFpiar
+unfolding takeFpUnimp060 stackUnimp fpUnimpPlan putCpu getSr pcOf noteFpiar
 fpUnimp-form w x ea e h =
     let turn : Cpu → Cpu = λ d. enterSupervisor (noteFpiar d) in
-    pushes-form w (step turn w) x turn (longFrame (statusOf (cpuOf w)) (pcOf (cpuOf w)) (formatWord 2 11) ea) 11 (turn-form w x turn seen-fpiar e) h
+    pushes-form w (step turn w) x turn (longFrame (getSr (cpuOf w)) (pcOf (cpuOf w)) (formatWord 2 11) ea) 11 (turn-form w x turn seen-fpiar e) h
 
 pub fpDisabled-form : (w x : World) → gist w ≡ x → Clean x (fpDisabledPlan (cpuOf w)) → gist (takeFpDisabled060 w .after) ≡ planned x (fpDisabledPlan (cpuOf w))
 unfolding takeFpDisabled060 stackDisabled fpDisabledPlan
 fpDisabled-form w x e h =
-    pushes-form w (step enterSupervisor w) x enterSupervisor (disabledFrame (statusOf (cpuOf w)) (ppcOf (cpuOf w)) (formatWord 4 11) 0 (ppcOf (cpuOf w))) 11 (turn-form w x enterSupervisor seen-supervisor e) h
+    pushes-form w (step enterSupervisor w) x enterSupervisor (disabledFrame (getSr (cpuOf w)) (ppcOf (cpuOf w)) (formatWord 4 11) 0 (ppcOf (cpuOf w))) 11 (turn-form w x enterSupervisor seen-supervisor e) h
 
 pub address-form : (w x : World) (a : ℕ) (write instruction : Bool) → gist w ≡ x → Clean x (addressPlan (cpuOf w) a write instruction) → gist (exceptionAddressError raised w a write instruction) ≡ planned x (addressPlan (cpuOf w) a write instruction)
 unfolding exceptionAddressError addressPlan

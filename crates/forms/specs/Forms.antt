@@ -11,19 +11,19 @@ use Rattle.types.specs.Kinds.{pick}
 use Rattle.types.specs.Causes.{causeNumber}
 use Rattle.cpu.specs.declared.Cpu.{Cpu}
 use Rattle.cpu.specs.Fields.{inException, isFaulted, a7Of, kindOf, ppcOf, vbrOf, checksAlignment, hasFcOverride, fcOverrideOf}
-use Rattle.requests.specs.Interrupts.{takesInterrupt}
+use Rattle.pending.specs.Interrupts.{takesInterrupt}
 use Rattle.memory.specs.declared.Core.{Core}
 use Rattle.memory.specs.declared.Bus.{Bus}
 use Rattle.memory.specs.World.{World, Attempt, tried, putCpu, cpuOf}
 use Rattle.refusals.specs.Refusals.{oddBase, badCode}
-use Rattle.faults.specs.Faults.{raised, exceptionBusError, exceptionAddressError}
+use Rattle.access.specs.Faults.{raised, exceptionBusError, exceptionAddressError}
 use Rattle.exceptions.specs.Exceptions.{Entry, takeException, takeGroup2, trap, exceptionTrace, takeRewound, takeFpUnimp060, takeFpDisabled060}
 use Rattle.interrupts.specs.Interrupts.{checkAndService}
 use Rattle.calls.specs.declared.Call.{Call}
 use Rattle.calls.specs.declared.Call.the-variants.{TakeException, Trap, TakeGroup2Exception, ExceptionChk, ExceptionZeroDivide, ExceptionPrivilege, ExceptionTrace, ExceptionAddressError, ExceptionBusError, TakeFpUnimp060, TakeFpDisabled060, TakeAlineException, TakeFlineException, TakeTrapException, TakeBkptException, TakeIllegalException, TriggerAddressError, TriggerBusError, CheckTrace, SetIrq, CheckInterrupts, CheckAndServiceInterrupts, Read16, Read32, Write16, Write32, Push16, Push32, PrefetchFirst, PrefetchSecond}
 use Rattle.frames.specs.declared.Frame.{Frame}
 use Rattle.calls.specs.Matters.{matterOf}
-use Rattle.calls.specs.Calls.{Performance, cycles, flag, ofEntry, ofService, run, restarted, begun, refusal, perform}
+use Rattle.calls.specs.Calls.{Performed, cycles, flag, ofEntry, ofService, run, restarted, begun, refusal, perform}
 use Rattle.images.specs.Pushes.{calm}
 use Rattle.forms.specs.Gist.{gist, gistCpu, framedBy}
 use Rattle.forms.specs.Jumps.{jumped}

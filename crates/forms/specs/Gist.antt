@@ -27,7 +27,7 @@ use Rattle.frames.specs.declared.Field.{Field}
 use Rattle.frames.specs.declared.Frame.{Frame}
 use Rattle.frames.specs.Frames.{fieldAt, isCounted, isRaw}
 use Rattle.steps.specs.Steps.{refusesOdd}
-use Rattle.faults.specs.Faults.{Raise, wrote, checkedWrite, writeAt, stackField, pushField, pushFields, pushFrame}
+use Rattle.access.specs.Faults.{Raise, wrote, checkedWrite, writeAt, stackField, pushField, pushFields, pushFrame}
 use Rattle.images.specs.Pushes.{calm, served-calm, laidField}
 use Rattle.images.specs.Images.{Sound, Allowed, frameBytes, fieldAddress, laid, newA7, minus-minus, minus-plus}
 
@@ -79,7 +79,7 @@ pub raw-gist : (w : World) (a : ℕ) (g : Bool) (v : ℕ) → served w a g ≡ t
 unfolding rawWrite noted stored gist gistCpu calm counted written placeOf
 raw-gist w a g v h = rw h (go g)
   where
-    go : (d : Bool) → gist (noted (stored w (pick d (putLong (w .store) (placeOf (w .core .bus) a) v) (putWord (w .store) (placeOf (w .core .bus) a) (v % 65536)))) (pick g 4 3) a v) ≡ stored (gist w) (put d (w .store) (placeOf (w .core .bus) a) (kept d v))
+    go : (d : Bool) → gist (noted (stored w (pick d (putLong (w .store) (placeOf (w .core .bus) a) v) (putWord (w .store) (placeOf (w .core .bus) a) (v % 0x10000)))) (pick g 4 3) a v) ≡ stored (gist w) (put d (w .store) (placeOf (w .core .bus) a) (kept d v))
     go true = refl
     go false = refl
 

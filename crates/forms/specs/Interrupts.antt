@@ -10,15 +10,15 @@ use Rattle.cpu.specs.declared.Cpu.{Cpu}
 use Rattle.cpu.specs.declared.Flow.{Flow}
 use Rattle.cpu.specs.Fields.{kindOf, pcOf, a7Of, setA7, lowerA7, clearStopped}
 use Rattle.cpu.specs.Clocks.{internalCycles}
-use Rattle.status.specs.Status.{statusOf, clearTrace, clearM, mIsSet, setIntMask}
+use Rattle.status.specs.Status.{getSr, clearTrace, clearM, mIsSet, setIntMask}
 use Rattle.status.specs.Banks.{spIndex, backupSp, restoreSp, putS, setSFlag, setSmFlagNosp, setSmFlag, enterSupervisor}
-use Rattle.requests.specs.Interrupts.{pendingLevel, takesInterrupt, clearLevel, chargeInterrupt, charged}
+use Rattle.pending.specs.Interrupts.{pendingLevel, takesInterrupt, clearLevel, chargeInterrupt, charged}
 use Rattle.memory.specs.declared.Core.{Core}
 use Rattle.memory.specs.Log.{counted}
 use Rattle.memory.specs.World.{World, world, Attempt, reply, tried, noted, stored, putCpu, flush, responseOf, acknowledged, cpuOf, withCpu, step}
 use Rattle.frames.specs.declared.Frame.{Frame}
 use Rattle.frames.specs.Frames.{fieldAt}
-use Rattle.faults.specs.Faults.{Raise, raised, writeAt, pushFrame, jumpVector}
+use Rattle.access.specs.Faults.{Raise, raised, writeAt, pushFrame, jumpVector}
 use Rattle.exceptions.specs.Frames.{formatWord, offsetWord, shortFrame}
 use Rattle.steps.specs.Steps.{iackVector, enterLevel, withS, closeInterrupt}
 use Rattle.interrupts.specs.Interrupts.{vectorFrom, acknowledgeLevel, syncedAcknowledge, rest68000, from68000, writes68010, rest68010, restOther, firstFrame, throwaway, secondFrame, ended, dispatched, serviceInterrupt, serviced, checkAndService, pushInterrupt68000, pushInterrupt68010, pushInterruptOther}
@@ -81,8 +81,8 @@ first-68000 w y pc sr level e h =
     let sp : ℕ = a7Of (cpuOf z) in
     let k : sp ≡ q6 raised y sr pc h = lowered-six u y sr pc h d in
     let l : gist z ≡ at7 y (q6 raised y sr pc h) = lower-six u y sr pc h d in
-    let g : World = writeAt raised z ((sp + 4) % 2 ^ 32) false (pc % 65536) in
-    let m : gist g ≡ _ = ap (λ (q : ℕ). gist (writeAt raised z ((q + 4) % 2 ^ 32) false (pc % 65536))) k ∙ first6 raised y sr pc h z l in
+    let g : World = writeAt raised z ((sp + 4) % 2 ^ 32) false (pc % 0x10000) in
+    let m : gist g ≡ _ = ap (λ (q : ℕ). gist (writeAt raised z ((q + 4) % 2 ^ 32) false (pc % 0x10000))) k ∙ first6 raised y sr pc h z l in
     let a = synced-form g _ 4 level m in
     let b : Attempt = syncedAcknowledge g 4 level in
     record {
@@ -230,7 +230,7 @@ unfolding serviced serviceInterrupt dispatched ended closeInterrupt interruptBy 
 interrupt-by w x level v m master six e u a b c h =
     let turn : Cpu → Cpu = λ d. enterLevel d level in
     let pc : ℕ = pcOf (cpuOf w) in
-    let sr : ℕ = statusOf (cpuOf w) in
+    let sr : ℕ = getSr (cpuOf w) in
     let f : Frame = interruptFrame (kindOf (cpuOf w)) sr pc v in
     let y : World = turned x turn in
     let o : World = step turn w in

@@ -14,7 +14,7 @@ use Rattle.memory.specs.Log.{counted}
 use Rattle.memory.specs.Served.{servedOf, placeOf}
 use Rattle.memory.specs.World.{World, world, Attempt, reply, noted, putCpu, widthOf, served, fetched, readValue, flush, release, rawRead, tryRead, cpuOf, withCpu, step}
 use Rattle.steps.specs.Steps.{refusesOdd, vectorAddress}
-use Rattle.faults.specs.Faults.{Raise, readOr, prefetchRead, keptFirst, firstFrom, prefetchFirst, keptSecond, secondFrom, prefetchSecond, checkedRead, readAt, vectorRead, refill, jumpTo, jumpVector}
+use Rattle.access.specs.Faults.{Raise, readOr, prefetchRead, keptFirst, firstFrom, prefetchFirst, keptSecond, secondFrom, prefetchSecond, checkedRead, readAt, vectorRead, refill, jumpTo, jumpVector}
 use Rattle.images.specs.Pushes.{calm, served-calm}
 use Rattle.images.specs.Jumps.{vectorPlace, handler, Reachable}
 use Rattle.forms.specs.Gist.{gist, gistCpu, gist-gist, served-gist, flush-gist, address-gist, faulted-gist}
@@ -76,7 +76,7 @@ kept-first : (x : Attempt) → gist (keptFirst x) ≡ gist (x .after)
 unfolding keptFirst firstWord putCpu gist gistCpu
 kept-first x = go (x .ok)
   where
-    go : (o : Bool) → gist (pick o (withCpu (x .after) (firstWord (cpuOf (x .after)) (x .value % 65536))) (x .after)) ≡ gist (x .after)
+    go : (o : Bool) → gist (pick o (withCpu (x .after) (firstWord (cpuOf (x .after)) (x .value % 0x10000))) (x .after)) ≡ gist (x .after)
     go true = refl
     go false = refl
 
@@ -84,7 +84,7 @@ kept-second : (x : Attempt) → gist (keptSecond x) ≡ gist (x .after)
 unfolding keptSecond secondWord putCpu gist gistCpu
 kept-second x = go (x .ok)
   where
-    go : (o : Bool) → gist (pick o (withCpu (x .after) (secondWord (cpuOf (x .after)) (x .value % 65536))) (x .after)) ≡ gist (x .after)
+    go : (o : Bool) → gist (pick o (withCpu (x .after) (secondWord (cpuOf (x .after)) (x .value % 0x10000))) (x .after)) ≡ gist (x .after)
     go true = refl
     go false = refl
 

@@ -24,17 +24,17 @@ use Rattle.frames.specs.declared.Field.{Field}
 use Rattle.frames.specs.declared.Frame.{Frame}
 use Rattle.frames.specs.Frames.{word, framed, fieldAt, isCounted, isRaw}
 use Rattle.steps.specs.Steps.{refusesOdd}
-use Rattle.faults.specs.Faults.{Raise, writeAt, shortWrites, pushExceptionFrame68000}
+use Rattle.access.specs.Faults.{Raise, writeAt, shortWrites, pushExceptionFrame68000}
 use Rattle.images.specs.Pushes.{laidField}
 use Rattle.images.specs.Images.{Sound, Shape, Ready, Allowed, frameBytes, fieldAddress, laid, newA7, bottom, at-offset}
 use Rattle.forms.specs.Gist.{gist, wroteAt, at7, a7-gist, a7-at7, guard-form, lower-form, framedBy, minus-below}
 
 -- status and address by words: 6 bytes, and with a format word 8
 unfoldable pub words6 : ℕ → ℕ → Frame
-words6 sr pc = framed (word sr ∷ word (pc / 65536) ∷ word (pc % 65536) ∷ [])
+words6 sr pc = framed (word sr ∷ word (pc / 0x10000) ∷ word (pc % 0x10000) ∷ [])
 
 unfoldable pub words8 : ℕ → ℕ → ℕ → Frame
-words8 sr pc format = framed (word sr ∷ word (pc / 65536) ∷ word (pc % 65536) ∷ word format ∷ [])
+words8 sr pc format = framed (word sr ∷ word (pc / 0x10000) ∷ word (pc % 0x10000) ∷ word format ∷ [])
 
 pub shape6 : (sr pc : ℕ) → Shape (words6 sr pc)
 unfolding words6 fieldAt isCounted frameBytes
@@ -150,30 +150,30 @@ module _ (t : Raise) (x : World) (sr pc : ℕ) (h : Ready x (words6 sr pc)) wher
   zero-sum : (q : ℕ) → q < 2 ^ 32 → q ≡ (q + 0) % 2 ^ 32
   zero-sum q l = omega arith
 
-  pub first6 : (y : World) → gist y ≡ at7 x q6 → gist (writeAt t y ((q6 + 4) % 2 ^ 32) false (pc % 65536)) ≡ at7 (stored x (P (x .store) (p6 2) (pc % 65536))) q6
+  pub first6 : (y : World) → gist y ≡ at7 x q6 → gist (writeAt t y ((q6 + 4) % 2 ^ 32) false (pc % 0x10000)) ≡ at7 (stored x (P (x .store) (p6 2) (pc % 0x10000))) q6
   unfolding words6 fieldAt isCounted isRaw frameBytes stored
   first6 y e = word-step x f6 (shape6 sr pc) h t y (x .store) 2 ((q6 + 4) % 2 ^ 32) e refl (omega arith) refl refl refl
 
-  last6 : (y : World) → gist y ≡ at7 (stored x (P (x .store) (p6 2) (pc % 65536))) q6
-      → gist (writeAt t (writeAt t y q6 false sr) ((q6 + 2) % 2 ^ 32) false (pc / 65536)) ≡ at7 (stored x (P (P (P (x .store) (p6 2) (pc % 65536)) (p6 0) sr) (p6 1) (pc / 65536))) q6
+  last6 : (y : World) → gist y ≡ at7 (stored x (P (x .store) (p6 2) (pc % 0x10000))) q6
+      → gist (writeAt t (writeAt t y q6 false sr) ((q6 + 2) % 2 ^ 32) false (pc / 0x10000)) ≡ at7 (stored x (P (P (P (x .store) (p6 2) (pc % 0x10000)) (p6 0) sr) (p6 1) (pc / 0x10000))) q6
   unfolding words6 fieldAt isCounted isRaw frameBytes
   last6 y e =
-      let l : List ℕ = P (x .store) (p6 2) (pc % 65536) in
-      let n : length l ≡ length (x .store) = put-length false (x .store) (p6 2) (kept false (pc % 65536)) in
+      let l : List ℕ = P (x .store) (p6 2) (pc % 0x10000) in
+      let n : length l ≡ length (x .store) = put-length false (x .store) (p6 2) (kept false (pc % 0x10000)) in
       let m : length (P l (p6 0) sr) ≡ length (x .store) = put-length false l (p6 0) (kept false sr) ∙ n in
       let d = word-step x f6 (shape6 sr pc) h t y l 0 q6 e n (omega arith) refl refl (zero-sum q6 (minus-below (a7Of (cpuOf x)) 6)) in
       word-step x f6 (shape6 sr pc) h t (writeAt t y q6 false sr) (P l (p6 0) sr) 1 ((q6 + 2) % 2 ^ 32) d m (omega arith) refl refl refl
 
-  laid6 : at7 (stored x (P (P (P (x .store) (p6 2) (pc % 65536)) (p6 0) sr) (p6 1) (pc / 65536))) q6 ≡ framedBy x f6
+  laid6 : at7 (stored x (P (P (P (x .store) (p6 2) (pc % 0x10000)) (p6 0) sr) (p6 1) (pc / 0x10000))) q6 ≡ framedBy x f6
   unfolding framedBy words6 fieldAt isCounted frameBytes laid laidField
-  laid6 = ap (λ (l : List ℕ). at7 (stored x l) q6) (three-order (x .store) (p6 0) (p6 1) (p6 2) sr (pc / 65536) (pc % 65536) (place-step x f6 (shape6 sr pc) h 1 2 (omega arith) refl refl))
+  laid6 = ap (λ (l : List ℕ). at7 (stored x l) q6) (three-order (x .store) (p6 0) (p6 1) (p6 2) sr (pc / 0x10000) (pc % 0x10000) (place-step x f6 (shape6 sr pc) h 1 2 (omega arith) refl refl))
 
   -- the three words, with steps between the first and the others that leave the gist
-  pub three-form : (y z : World) (sp : ℕ) → sp ≡ q6 → gist y ≡ at7 x q6 → gist z ≡ gist (writeAt t y ((sp + 4) % 2 ^ 32) false (pc % 65536))
-      → gist (writeAt t (writeAt t z sp false sr) ((sp + 2) % 2 ^ 32) false (pc / 65536)) ≡ framedBy x (words6 sr pc)
+  pub three-form : (y z : World) (sp : ℕ) → sp ≡ q6 → gist y ≡ at7 x q6 → gist z ≡ gist (writeAt t y ((sp + 4) % 2 ^ 32) false (pc % 0x10000))
+      → gist (writeAt t (writeAt t z sp false sr) ((sp + 2) % 2 ^ 32) false (pc / 0x10000)) ≡ framedBy x (words6 sr pc)
   three-form y z sp k e d =
-      ap (λ (q : ℕ). gist (writeAt t (writeAt t z q false sr) ((q + 2) % 2 ^ 32) false (pc / 65536))) k
-      ∙ last6 z (d ∙ ap (λ (q : ℕ). gist (writeAt t y ((q + 4) % 2 ^ 32) false (pc % 65536))) k ∙ first6 y e) ∙ laid6
+      ap (λ (q : ℕ). gist (writeAt t (writeAt t z q false sr) ((q + 2) % 2 ^ 32) false (pc / 0x10000))) k
+      ∙ last6 z (d ∙ ap (λ (q : ℕ). gist (writeAt t y ((q + 4) % 2 ^ 32) false (pc % 0x10000))) k ∙ first6 y e) ∙ laid6
 
 -- A7 after it is lowered
 pub lowered-a7 : (w x : World) (n : ℕ) → gist w ≡ x → 15 < length (cpuOf x .regs .dar) → a7Of (cpuOf (withCpu w (lowerA7 (cpuOf w) n))) ≡ minus32 (a7Of (cpuOf x)) n
@@ -185,7 +185,7 @@ pub short-form : (t : Raise) (w x : World) (sr pc : ℕ) → gist w ≡ x → Re
 unfolding pushExceptionFrame68000 shortWrites words6 frameBytes fieldAt
 short-form t w x sr pc e h =
     let y : World = withCpu w (lowerA7 (cpuOf w) 6) in
-    three-form t x sr pc h y (writeAt t y ((a7Of (cpuOf y) + 4) % 2 ^ 32) false (pc % 65536)) (a7Of (cpuOf y)) (lowered-a7 w x 6 e (h .sound .regs16)) (lower-form w x 6 e) refl
+    three-form t x sr pc h y (writeAt t y ((a7Of (cpuOf y) + 4) % 2 ^ 32) false (pc % 0x10000)) (a7Of (cpuOf y)) (lowered-a7 w x 6 e (h .sound .regs16)) (lower-form w x 6 e) refl
 
 -- ---- the interrupt of kind 2: the same, then the format word
 
@@ -200,34 +200,34 @@ module _ (t : Raise) (x : World) (sr pc fw : ℕ) (h : Ready x (words8 sr pc fw)
   p8 i = placeOf (x .core .bus) (fieldAddress (kindOf (cpuOf x)) q8 f8 i)
 
   writes8 : (y : World) → gist y ≡ at7 x q8
-      → gist (writeAt t (writeAt t (writeAt t (writeAt t y ((q8 + 4) % 2 ^ 32) false (pc % 65536)) q8 false sr) ((q8 + 2) % 2 ^ 32) false (pc / 65536)) ((q8 + 6) % 2 ^ 32) false fw)
-      ≡ at7 (stored x (P (P (P (P (x .store) (p8 2) (pc % 65536)) (p8 0) sr) (p8 1) (pc / 65536)) (p8 3) fw)) q8
+      → gist (writeAt t (writeAt t (writeAt t (writeAt t y ((q8 + 4) % 2 ^ 32) false (pc % 0x10000)) q8 false sr) ((q8 + 2) % 2 ^ 32) false (pc / 0x10000)) ((q8 + 6) % 2 ^ 32) false fw)
+      ≡ at7 (stored x (P (P (P (P (x .store) (p8 2) (pc % 0x10000)) (p8 0) sr) (p8 1) (pc / 0x10000)) (p8 3) fw)) q8
   unfolding words8 fieldAt isCounted isRaw frameBytes stored
   writes8 y e =
-      let l : List ℕ = P (x .store) (p8 2) (pc % 65536) in
-      let n : length l ≡ length (x .store) = put-length false (x .store) (p8 2) (kept false (pc % 65536)) in
+      let l : List ℕ = P (x .store) (p8 2) (pc % 0x10000) in
+      let n : length l ≡ length (x .store) = put-length false (x .store) (p8 2) (kept false (pc % 0x10000)) in
       let m : length (P l (p8 0) sr) ≡ length (x .store) = put-length false l (p8 0) (kept false sr) ∙ n in
-      let o : length (P (P l (p8 0) sr) (p8 1) (pc / 65536)) ≡ length (x .store) = put-length false (P l (p8 0) sr) (p8 1) (kept false (pc / 65536)) ∙ m in
-      let a : World = writeAt t y ((q8 + 4) % 2 ^ 32) false (pc % 65536) in
+      let o : length (P (P l (p8 0) sr) (p8 1) (pc / 0x10000)) ≡ length (x .store) = put-length false (P l (p8 0) sr) (p8 1) (kept false (pc / 0x10000)) ∙ m in
+      let a : World = writeAt t y ((q8 + 4) % 2 ^ 32) false (pc % 0x10000) in
       let b : World = writeAt t a q8 false sr in
-      let c : World = writeAt t b ((q8 + 2) % 2 ^ 32) false (pc / 65536) in
+      let c : World = writeAt t b ((q8 + 2) % 2 ^ 32) false (pc / 0x10000) in
       let i = word-step x f8 (shape8 sr pc fw) h t y (x .store) 2 ((q8 + 4) % 2 ^ 32) e refl (omega arith) refl refl refl in
       let j = word-step x f8 (shape8 sr pc fw) h t a l 0 q8 i n (omega arith) refl refl (zero-sum8 q8 (minus-below (a7Of (cpuOf x)) 8)) in
       let k = word-step x f8 (shape8 sr pc fw) h t b (P l (p8 0) sr) 1 ((q8 + 2) % 2 ^ 32) j m (omega arith) refl refl refl in
-      word-step x f8 (shape8 sr pc fw) h t c (P (P l (p8 0) sr) (p8 1) (pc / 65536)) 3 ((q8 + 6) % 2 ^ 32) k o (omega arith) refl refl refl
+      word-step x f8 (shape8 sr pc fw) h t c (P (P l (p8 0) sr) (p8 1) (pc / 0x10000)) 3 ((q8 + 6) % 2 ^ 32) k o (omega arith) refl refl refl
     where
       zero-sum8 : (q : ℕ) → q < 2 ^ 32 → q ≡ (q + 0) % 2 ^ 32
       zero-sum8 q l = omega arith
 
-  laid8 : at7 (stored x (P (P (P (P (x .store) (p8 2) (pc % 65536)) (p8 0) sr) (p8 1) (pc / 65536)) (p8 3) fw)) q8 ≡ framedBy x f8
+  laid8 : at7 (stored x (P (P (P (P (x .store) (p8 2) (pc % 0x10000)) (p8 0) sr) (p8 1) (pc / 0x10000)) (p8 3) fw)) q8 ≡ framedBy x f8
   unfolding framedBy words8 fieldAt isCounted frameBytes laid laidField
   laid8 =
       ap (λ (l : List ℕ). at7 (stored x l) q8)
-      (four-order (x .store) (p8 0) (p8 1) (p8 2) (p8 3) sr (pc / 65536) (pc % 65536) fw
+      (four-order (x .store) (p8 0) (p8 1) (p8 2) (p8 3) sr (pc / 0x10000) (pc % 0x10000) fw
       (place-step x f8 (shape8 sr pc fw) h 1 2 (omega arith) refl refl) (place-step x f8 (shape8 sr pc fw) h 2 4 (omega arith) refl refl) (place-step x f8 (shape8 sr pc fw) h 3 6 (omega arith) refl refl))
 
   pub four-form : (y : World) (sp : ℕ) → sp ≡ q8 → gist y ≡ at7 x q8
-      → gist (writeAt t (writeAt t (writeAt t (writeAt t y ((sp + 4) % 2 ^ 32) false (pc % 65536)) sp false sr) ((sp + 2) % 2 ^ 32) false (pc / 65536)) ((sp + 6) % 2 ^ 32) false fw) ≡ framedBy x (words8 sr pc fw)
+      → gist (writeAt t (writeAt t (writeAt t (writeAt t y ((sp + 4) % 2 ^ 32) false (pc % 0x10000)) sp false sr) ((sp + 2) % 2 ^ 32) false (pc / 0x10000)) ((sp + 6) % 2 ^ 32) false fw) ≡ framedBy x (words8 sr pc fw)
   four-form y sp k e =
-      ap (λ (q : ℕ). gist (writeAt t (writeAt t (writeAt t (writeAt t y ((q + 4) % 2 ^ 32) false (pc % 65536)) q false sr) ((q + 2) % 2 ^ 32) false (pc / 65536)) ((q + 6) % 2 ^ 32) false fw)) k
+      ap (λ (q : ℕ). gist (writeAt t (writeAt t (writeAt t (writeAt t y ((q + 4) % 2 ^ 32) false (pc % 0x10000)) q false sr) ((q + 2) % 2 ^ 32) false (pc / 0x10000)) ((q + 6) % 2 ^ 32) false fw)) k
       ∙ writes8 y e ∙ laid8

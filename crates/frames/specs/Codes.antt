@@ -23,8 +23,8 @@ unfoldable pub faultCode : Cpu → Bool → ℕ
 faultCode c instruction = pick (hasFcOverride c) (fcOverrideOf c % 8) (stateCode c instruction)
 
 -- 68000: R/W in bit 4, I/N in bit 3, function code
-unfoldable pub statusWord : ℕ → Bool → Bool → ℕ
-statusWord fc write instruction = fc + pick write 0 16 + pick instruction 0 8
+unfoldable pub faultWord : ℕ → Bool → Bool → ℕ
+faultWord fc write instruction = fc + pick write 0 16 + pick instruction 0 8
 
 -- 68020, 68030: a data fault has DF, RW, SIZ and the function code, an instruction fault FB and RB
 unfoldable pub size020 : ℕ → ℕ

@@ -7,10 +7,10 @@ use lib.ListN.{length, getD, replicate}
 use Rattle.types.specs.Kinds.{pick, isPre68020, is040, is060}
 use Rattle.cpu.specs.declared.Cpu.{Cpu}
 use Rattle.cpu.specs.Fields.{kindOf, ppcOf, irOf, wdataOf}
-use Rattle.status.specs.Status.{statusOf}
+use Rattle.status.specs.Status.{getSr}
 use Rattle.frames.specs.declared.Field.{Field}
 use Rattle.frames.specs.declared.Frame.{Frame}
-use Rattle.frames.specs.Codes.{stateCode, faultCode, statusWord, ssw020, ssw040, wb3s, fslw060}
+use Rattle.frames.specs.Codes.{stateCode, faultCode, faultWord, ssw020, ssw040, wb3s, fslw060}
 
 -- a field is pushed by a guarded access (mode 0), by a raw one (1), or only counted (2)
 abbrev pub word : ℕ → Field
@@ -91,15 +91,15 @@ writeData c write = pick write (wdataOf c) 0
 -- what `exception_address_error` stacks: kind 1; 2, 10; 7 to 9; 0, 3 to 6, 11
 unfoldable pub addressFrame : Cpu → ℕ → Bool → Bool → Frame
 addressFrame c a write instruction =
-    pick (eqb (kindOf c) 1) (frame68000 (statusOf c) (ppcOf c) (irOf c % 0x10000) a (statusWord (stateCode c instruction) write instruction))
-    (pick (isPre68020 (kindOf c)) (frame8 (statusOf c) (ppcOf c) 0x800C)
-    (pick (is040 (kindOf c)) (frame2 (statusOf c) (ppcOf c) (a - a % 2)) (frame0 (statusOf c) (ppcOf c))))
+    pick (eqb (kindOf c) 1) (frame68000 (getSr c) (ppcOf c) (irOf c % 0x10000) a (faultWord (stateCode c instruction) write instruction))
+    (pick (isPre68020 (kindOf c)) (frame8 (getSr c) (ppcOf c) 0x800C)
+    (pick (is040 (kindOf c)) (frame2 (getSr c) (ppcOf c) (a - a % 2)) (frame0 (getSr c) (ppcOf c))))
 
 -- what `exception_bus_error` stacks: kind 1; 2, 10; 11; 7 to 9; 0, 3 to 6
 unfoldable pub busFrame : Cpu → ℕ → Bool → Bool → ℕ → ℕ → Frame
 busFrame c a write instruction z cause =
-    pick (eqb (kindOf c) 1) (frame68000 (statusOf c) (ppcOf c) (irOf c % 0x10000) a (statusWord (faultCode c instruction) write instruction))
-    (pick (isPre68020 (kindOf c)) (frame8 (statusOf c) (ppcOf c) 0x8008)
-    (pick (is060 (kindOf c)) (frame4 (statusOf c) (ppcOf c) a (fslw060 write instruction z (faultCode c instruction) cause))
-    (pick (is040 (kindOf c)) (frame7 (statusOf c) (ppcOf c) a (ssw040 (faultCode c instruction) write z cause) (wb3s (faultCode c instruction) write z) (pick write a 0) (writeData c write))
-    (frame11 (statusOf c) (ppcOf c) (ssw020 (faultCode c instruction) write instruction z) (pick instruction 0 a) (writeData c write) (pick instruction a 0)))))
+    pick (eqb (kindOf c) 1) (frame68000 (getSr c) (ppcOf c) (irOf c % 0x10000) a (faultWord (faultCode c instruction) write instruction))
+    (pick (isPre68020 (kindOf c)) (frame8 (getSr c) (ppcOf c) 0x8008)
+    (pick (is060 (kindOf c)) (frame4 (getSr c) (ppcOf c) a (fslw060 write instruction z (faultCode c instruction) cause))
+    (pick (is040 (kindOf c)) (frame7 (getSr c) (ppcOf c) a (ssw040 (faultCode c instruction) write z cause) (wb3s (faultCode c instruction) write z) (pick write a 0) (writeData c write))
+    (frame11 (getSr c) (ppcOf c) (ssw020 (faultCode c instruction) write instruction z) (pick instruction 0 a) (writeData c write) (pick instruction a 0)))))

@@ -3,7 +3,7 @@ use cpu::Cpu;
 ghost use mathlib.Core.Path.{_≡_};
 ghost use Prim.Native.Nat.{_<_, _≤_};
 ghost use Rattle.types.specs.Kinds.{pick};
-ghost use Rattle.frames.specs.Codes.{functionCode, isSupervisor, stateCode, faultCode, statusWord, size020, ssw020, isCause, size040, ssw040, wb3s, causeBit, size060, fslw060};
+ghost use Rattle.frames.specs.Codes.{functionCode, isSupervisor, stateCode, faultCode, faultWord, size020, ssw020, isCause, size040, ssw040, wb3s, causeBit, size060, fslw060};
 
 // A number or 0.
 fn number_if(b: bool, n: u32) -> u32
@@ -64,9 +64,9 @@ pub(crate) fn fault_code(c: Cpu, instruction: bool) -> u32
 }
 
 // 68000.
-pub(crate) fn status_word(fc: u32, write: bool, instruction: bool) -> u32
+pub(crate) fn fault_word(fc: u32, write: bool, instruction: bool) -> u32
     requires { ⌜ fc < 8 ⌝ }
-    ensures { λ r. ⌜ r ≡ statusWord fc write instruction ⌝ }
+    ensures { λ r. ⌜ r ≡ faultWord fc write instruction ⌝ }
 {
     fc + number_unless(write, 16) + number_unless(instruction, 8)
 }
@@ -174,7 +174,7 @@ fn size_060(size: u32) -> u32
 }
 
 fn direction_060(write: bool) -> u32
-    ensures { λ r. ⌜ (r ≡ pick write 0x800000 0x1000000) × (r < 33554432) ⌝ }
+    ensures { λ r. ⌜ (r ≡ pick write 0x800000 0x1000000) × (r < 0x2000000) ⌝ }
 {
     if write {
         return 0x800000;

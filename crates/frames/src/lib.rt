@@ -1,5 +1,5 @@
 // Frames as data: the fields upward from the new A7, so that the first is pushed last; what the two error entries stack, kind by
-// kind, with the status words in it. It uses `status`, `cpu` and `types`; `faults` pushes these frames, and `exceptions` and
+// kind, with the status words in it. It uses `status`, `cpu` and `types`; `access` pushes these frames, and `exceptions` and
 // `interrupts` describe theirs with the same fields.
 use cpu::Cpu;
 
@@ -10,7 +10,7 @@ ghost use lib.Dec.{eqb};
 ghost use Prim.Native.Nat.{_-_, _%_, _<_};
 ghost use Rattle.types.specs.Kinds.{pick};
 ghost use Rattle.cpu.specs.Fields.{kindOf, irOf};
-ghost use Rattle.status.specs.Status.{statusOf};
+ghost use Rattle.status.specs.Status.{getSr};
 ghost use Rattle.frames.specs.Frames.{word, long, fieldAt, frame68000, frame8, frame2, frame0, frame4, frame7, frame11, writeData, addressFrame, busFrame};
 
 // A field is pushed by a guarded access (mode 0), by a raw one (1), or only counted (2).
@@ -567,7 +567,7 @@ fn frame_11(sr: u32, ppc: u32, ssw: u32, fault: u32, output: u32, stage: u32) ->
 }
 
 fn status_of(c: Cpu) -> u32
-    ensures { λ r. ⌜ r ≡ statusOf c ⌝ }
+    ensures { λ r. ⌜ r ≡ getSr c ⌝ }
 {
     status::get_sr(c) as u32
 }
@@ -619,7 +619,7 @@ pub fn address_frame(c: Cpu, address: u32, write: bool, instruction: bool) -> Fr
     let ppc = cpu::fields::ppc(c);
     if is_68000(c) {
         let fc = codes::state_code(c, instruction);
-        let status = codes::status_word(fc, write, instruction);
+        let status = codes::fault_word(fc, write, instruction);
         let ir = ir_word(c);
         return frame_68000(sr, ppc, ir, address, status);
     }
@@ -649,7 +649,7 @@ pub fn bus_frame(
     let ppc = cpu::fields::ppc(c);
     let fc = codes::fault_code(c, instruction);
     if is_68000(c) {
-        let status = codes::status_word(fc, write, instruction);
+        let status = codes::fault_word(fc, write, instruction);
         let ir = ir_word(c);
         return frame_68000(sr, ppc, ir, address, status);
     }

@@ -30,7 +30,7 @@ example-ready sr ppc = ready-whole (example 4 128 0 256) (frame0 sr ppc) 2 (λ j
 
 -- kind 0, 24 address bits, 512 bytes from 0xFFFF00 on, A7 at 0x1000002
 abbrev pub straddling : World
-straddling = example 0 16777218 16776960 512
+straddling = example 0 16777218 0xFFFF00 512
 
 -- ready for a frame of format 11, whose topmost long begins at 0xFFFFFE and has two bytes on either side of the top
 pub straddling-ready : (sr ppc s x y z : ℕ) → Ready straddling (frame11 sr ppc s x y z)
@@ -51,7 +51,7 @@ counted-8 sr ppc v j l =
 
 -- kind 2, 256 bytes from 0xFFFF00 up to the top, A7 at 0x1000020
 abbrev pub past : World
-past = example 2 16777248 16776960 256
+past = example 2 16777248 0xFFFF00 256
 
 -- ready for a frame of format 8: its 26 bytes up to the last written field end at the top, and the 32 counted ones above lie past it,
 -- in no store

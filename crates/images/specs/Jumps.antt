@@ -21,7 +21,7 @@ use Rattle.memory.specs.World.{World, world, Attempt, reply, noted, putCpu, wid
 use Rattle.frames.specs.declared.Frame.{Frame}
 use Rattle.frames.specs.Frames.{busFrame, addressFrame}
 use Rattle.steps.specs.Steps.{refusesOdd, vectorAddress, beginBus, beginAddress, enterBusError, closeBus}
-use Rattle.faults.specs.Faults.{Raise, busError, addressError, readOr, prefetchRead, keptFirst, firstFrom, prefetchFirst, keptSecond, secondFrom, prefetchSecond, checkedRead, readAt, vectorRead, refill, jumpTo, jumpVector, pushFrame, exceptionBusError, exceptionAddressError, raiseBus, raiseAddress, trigger}
+use Rattle.access.specs.Faults.{Raise, busError, addressError, readOr, prefetchRead, keptFirst, firstFrom, prefetchFirst, keptSecond, secondFrom, prefetchSecond, checkedRead, readAt, vectorRead, refill, jumpTo, jumpVector, pushFrame, exceptionBusError, exceptionAddressError, raiseBus, raiseAddress, trigger}
 use Rattle.images.specs.Pushes.{calm, served-same, place-same, Kept, kept-trans, Left, flush-left}
 use Rattle.images.specs.Images.{frameBytes, Shape, Ready, Image, Still, still-trans, read-same, image-still, stacked-image, stacked-runs, stacked-framed, stacked-serves, read-apart, newA7, bottom}
 use Rattle.images.specs.Lengths.{lengthOf, errorLength, busFormat, addressFormat, bus-length, address-length}
@@ -267,7 +267,7 @@ jump-runs t w v h = jump-both t w v h .1
 
 flow-vector : (w x : World) (v : ℕ) → cpuOf x .flow ≡ cpuOf w .flow → vectorPlace x v ≡ vectorPlace w v
 unfolding addressOf vectorAddress vbrOf
-flow-vector w x v e = ap (λ (y : Flow). maskAddress (y .«cpu_type») ((v % 1073741824 * 4 + y .vbr) % 2 ^ 32)) e
+flow-vector w x v e = ap (λ (y : Flow). maskAddress (y .«cpu_type») ((v % 0x40000000 * 4 + y .vbr) % 2 ^ 32)) e
 
 -- the reads of the jump by what is served before the frame: the handler's address is read after it
 pub reachable-after : (t : Raise) (w : World) (f : Frame) (v pc : ℕ) → Ready w f → handler (pushFrame t w f) v ≡ pc → refusesOdd (cpuOf w) (vectorPlace w v) ≡ false → served w (vectorPlace w v) true ≡ true

@@ -10,7 +10,7 @@ use lib.ListN.{length, getD, replicate}
 use Rattle.types.specs.Kinds.{pick, both, isPre68020, is040, is060}
 use Rattle.cpu.specs.declared.Cpu.{Cpu}
 use Rattle.cpu.specs.Fields.{kindOf, ppcOf, irOf, wdataOf, hasFcOverride, fcOverrideOf}
-use Rattle.status.specs.Status.{statusOf, compose}
+use Rattle.status.specs.Status.{getSr, compose}
 use Rattle.status.specs.Banks.{enterSupervisor}
 use Rattle.memory.specs.ByteLaws.{Fits}
 use Rattle.memory.specs.World.{World, readValue, cpuOf, step}
@@ -18,10 +18,10 @@ use Rattle.frames.specs.declared.Field.{Field}
 use Rattle.frames.specs.declared.Frame.{Frame}
 use Rattle.frames.specs.Frames.{word, long, framed, gapWord, fieldAt, frame68000, frame8, frame2, frame0, frame4, frame7, frame11, writeData, addressFrame, busFrame, isCounted}
 use Rattle.steps.specs.Steps.{enterBusError}
-use Rattle.faults.specs.Faults.{Raise, pushFrame, exceptionBusError, exceptionAddressError}
+use Rattle.access.specs.Faults.{Raise, pushFrame, exceptionBusError, exceptionAddressError}
 use Rattle.images.specs.Images.{frameBytes, bottom, Ready, Image, field-value}
 use Rattle.images.specs.Jumps.{Reachable, bus-image, address-image}
-use Rattle.frames.specs.Codes.{functionCode, isSupervisor, stateCode, faultCode, statusWord, size020, ssw020, isCause, size040, ssw040, wb3s, causeBit, size060, fslw060}
+use Rattle.frames.specs.Codes.{functionCode, isSupervisor, stateCode, faultCode, faultWord, size020, ssw020, isCause, size040, ssw040, wb3s, causeBit, size060, fslw060}
 
 -- each value of a frame fits its field
 abbrev pub AllFit : Frame → Type 0
@@ -69,8 +69,8 @@ unfolding frame11
 fits-11 sr ppc s x y z h0 h1 h2 h3 h4 h5 = framed-fits _ (omega arith) (more (omega arith) (more (omega arith) (more (omega arith) (more (omega arith) (more (omega arith) (more (omega arith) (more (omega arith) (more (omega arith) (more (omega arith) (more (omega arith) (more (omega arith) (more (omega arith) (more (omega arith) (more (omega arith) (more (omega arith) (more (omega arith) (more (omega arith) (more (omega arith) (more (omega arith) (more (omega arith) (more (omega arith) (more (omega arith) (more (omega arith) (more (omega arith) (more (omega arith) (more (omega arith) (more (omega arith) (more (omega arith) done))))))))))))))))))))))))))))
 
 -- the status has 16 bits
-pub status-fits : (c : Cpu) → statusOf c < 0x10000
-unfolding statusOf compose
+pub status-fits : (c : Cpu) → getSr c < 0x10000
+unfolding getSr compose
 status-fits c = go (eqb (c .flags .«not_z_flag») 0)
   where
     go : (t : Bool) → c .flags .«t1_flag» / 0x8000 % 2 * 0x8000 + c .flags .«t0_flag» / 0x4000 % 2 * 0x4000 + c .flags .«s_flag» / 4 % 2 * 0x2000 + c .flags .«m_flag» / 2 % 2 * 0x1000 + c .flags .«int_mask» / 256 % 8 * 256
@@ -97,8 +97,8 @@ choose : (t : Bool) (a b n : ℕ) → a < n → b < n → pick t a b < n
 choose true a b n x y = x
 choose false a b n x y = y
 
-word-fits : (fc : ℕ) (w i : Bool) → fc < 8 → statusWord fc w i < 0x10000
-unfolding statusWord
+word-fits : (fc : ℕ) (w i : Bool) → fc < 8 → faultWord fc w i < 0x10000
+unfolding faultWord
 word-fits fc w i h = omega (arith, choose w 0 16 17 (omega arith) (omega arith), choose i 0 8 9 (omega arith) (omega arith))
 
 size20 : (z : ℕ) → size020 z < 49
@@ -109,9 +109,9 @@ size40 : (z : ℕ) → size040 z < 65
 unfolding size040
 size40 z = choose (eqb z 1) 32 _ 65 (omega arith) (choose (eqb z 2) 64 0 65 (omega arith) (omega arith))
 
-size60 : (z : ℕ) → size060 z < 4194305
+size60 : (z : ℕ) → size060 z < 0x400001
 unfolding size060
-size60 z = choose (eqb z 1) 0x200000 _ 4194305 (omega arith) (choose (eqb z 2) 0x400000 0 4194305 (omega arith) (omega arith))
+size60 z = choose (eqb z 1) 0x200000 _ 0x400001 (omega arith) (choose (eqb z 2) 0x400000 0 0x400001 (omega arith) (omega arith))
 
 bit60 : (n : ℕ) (w : Bool) → causeBit n w < 4097
 unfolding causeBit
@@ -133,7 +133,7 @@ wb3 fc w z h = choose w _ 0 0x10000 (omega (arith, size40 z)) (omega arith)
 
 fslw : (w i : Bool) (z fc n : ℕ) → fslw060 w i z fc n < 2 ^ 32
 unfolding fslw060
-fslw w i z fc n = omega (arith, choose w 0x800000 0x1000000 16777217 (omega arith) (omega arith), size60 z, choose i 0x8000 0 32769 (omega arith) (omega arith), bit60 n w)
+fslw w i z fc n = omega (arith, choose w 0x800000 0x1000000 16777217 (omega arith) (omega arith), size60 z, choose i 0x8000 0 0x8001 (omega arith) (omega arith), bit60 n w)
 
 either-fits : (t : Bool) (x y : Frame) → AllFit x → AllFit y → AllFit (pick t x y)
 either-fits true x y p q = p

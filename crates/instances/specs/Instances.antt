@@ -30,11 +30,11 @@ unfolding computed
 p5 = (λ level. refl, λ level. refl, refl, vector-255, vector-254, autovector)
 
 -- field 4 of each frame is the status word, on kind 9 field 5 the third write-back status
-p6-instruction : Leaves (start 4) (ExceptionBusError 0x1234 false true 2 Absent) 32686 false 20486
+p6-instruction : Leaves (start 4) (ExceptionBusError 0x1234 false true 2 Absent) 0x7FAE false 0x5006
 unfolding computed
 p6-instruction s h = field s h (start 4) false true 2 Absent (record { accepted = rw h; ppc-fits = omega arith; data-fits = omega arith; sound = record { running = refl; regs16 = omega arith; a7-fits = omega arith }; last = 27; ends = refl; top = omega arith; serves = refl; even = refl; vector-even = refl; vector = refl; no-queue = refl }) 4 (omega arith) refl
 
-p6-data : Leaves (start 4) (ExceptionBusError 0x1234 false false 4 Absent) 32686 false 325
+p6-data : Leaves (start 4) (ExceptionBusError 0x1234 false false 4 Absent) 0x7FAE false 325
 unfolding computed
 p6-data s h = field s h (start 4) false false 4 Absent (record { accepted = rw h; ppc-fits = omega arith; data-fits = omega arith; sound = record { running = refl; regs16 = omega arith; a7-fits = omega arith }; last = 27; ends = refl; top = omega arith; serves = refl; even = refl; vector-even = refl; vector = refl; no-queue = refl }) 4 (omega arith) refl
 
@@ -46,11 +46,11 @@ fine-9 : (s : List ℕ) (h : length s ≡ 0x10000) → Fine s h (user 9) true fa
 unfolding computed
 fine-9 s h = record { accepted = rw h; ppc-fits = omega arith; data-fits = omega arith; sound = record { running = refl; regs16 = omega arith; a7-fits = omega arith }; last = 17; ends = refl; top = omega arith; serves = refl; even = refl; vector-even = refl; vector = refl; no-queue = refl }
 
-p7-status : Leaves (user 9) (ExceptionBusError 0x1234 true false 2 Absent) 32720 false 65
+p7-status : Leaves (user 9) (ExceptionBusError 0x1234 true false 2 Absent) 0x7FD0 false 65
 unfolding computed
 p7-status s h = field s h (user 9) true false 2 Absent (fine-9 s h) 4 (omega arith) refl
 
-p7-write-back : Leaves (user 9) (ExceptionBusError 0x1234 true false 2 Absent) 32722 false 193
+p7-write-back : Leaves (user 9) (ExceptionBusError 0x1234 true false 2 Absent) 0x7FD2 false 193
 unfolding computed
 p7-write-back s h = field s h (user 9) true false 2 Absent (fine-9 s h) 5 (omega arith) refl
 
@@ -58,7 +58,7 @@ p7 : P7
 unfolding computed
 p7 = (refl, p7-status, refl, p7-write-back)
 
-p8-word : Leaves (start 11) (ExceptionBusError 0x1234 false false 1 PageFault) 32764 true 19202560
+p8-word : Leaves (start 11) (ExceptionBusError 0x1234 false false 1 PageFault) 0x7FFC true 0x1250200
 unfolding computed
 p8-word s h = field s h (start 11) false false 1 PageFault (record { accepted = rw h; ppc-fits = omega arith; data-fits = omega arith; sound = record { running = refl; regs16 = omega arith; a7-fits = omega arith }; last = 4; ends = refl; top = omega arith; serves = refl; even = refl; vector-even = refl; vector = refl; no-queue = refl }) 4 (omega arith) refl
 

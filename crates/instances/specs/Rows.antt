@@ -9,7 +9,7 @@ use Rattle.types.specs.declared.FaultCause.the-variants.{Absent, PageFault}
 use Rattle.cpu.specs.declared.Cpu.{Cpu}
 use Rattle.cpu.specs.Fields.{a7Of, pcOf, setA7}
 use Rattle.cpu.specs.Clocks.{clocksOf, setClocks, internalCycles}
-use Rattle.requests.specs.Interrupts.{setIrq}
+use Rattle.pending.specs.Interrupts.{setIrq}
 use Rattle.memory.specs.World.{World, readValue}
 use Rattle.frames.specs.Codes.{functionCode, ssw020, ssw040, wb3s, fslw060}
 use Rattle.steps.specs.Steps.{iackVector}
@@ -17,7 +17,7 @@ use Rattle.calls.specs.declared.Call.{Call}
 use Rattle.calls.specs.declared.Call.the-variants.{TakeException, Trap, ExceptionChk, ExceptionZeroDivide, ExceptionBusError, CheckAndServiceInterrupts}
 use Rattle.calls.specs.declared.Answer.{Answer}
 use Rattle.calls.specs.declared.Answer.the-variants.{Cycles, Flag, Refused}
-use Rattle.calls.specs.Calls.{Performance, answered, valueOf, perform}
+use Rattle.calls.specs.Calls.{Performed, answered, valueOf, perform}
 use Rattle.instances.specs.Start.{setVbr, setSaved, start, startAt, pending, auto, holding, zeros, lent, fresh, laid, EveryKind}
 
 -- what an entry is told by: its answer, A7, PC and the whole store
@@ -27,30 +27,30 @@ pub record Seen : Type 0 where
   pub pc : ℕ
   pub store : List ℕ
 
-abbrev cpuAfter : Performance → Cpu
+abbrev cpuAfter : Performed → Cpu
 cpuAfter x = x .after .core .cpu
 
-unfoldable pub seen : Performance → Seen
+unfoldable pub seen : Performed → Seen
 seen x = record { answer = x .answer; a7 = a7Of (cpuAfter x); pc = pcOf (cpuAfter x); store = x .after .store }
 
 -- the first words of the log, three for an event
-unfoldable pub logged : Performance → ℕ → List ℕ
+unfoldable pub logged : Performed → ℕ → List ℕ
 logged x n = take n (x .after .log)
 
 -- kind 2, trap 15: 27 00 00 00 10 00 00 BC at 0x7FF8; 34 cycles, with 9 events
 abbrev pub P1 : Type 0
-P1 = seen (perform (fresh (start 2)) (Trap 15)) ≡ record { answer = Cycles 34 9; a7 = 32760; pc = 0; store = laid zeros 32760 (39 ∷ 0 ∷ 0 ∷ 0 ∷ 16 ∷ 0 ∷ 0 ∷ 188 ∷ []) }
+P1 = seen (perform (fresh (start 2)) (Trap 15)) ≡ record { answer = Cycles 34 9; a7 = 0x7FF8; pc = 0; store = laid zeros 0x7FF8 (39 ∷ 0 ∷ 0 ∷ 0 ∷ 16 ∷ 0 ∷ 0 ∷ 188 ∷ []) }
 
 -- kind 1, divide by zero: 27 00 00 00 10 00, at 0x7FFA; 38 cycles, with 8 events
 abbrev pub P2 : Type 0
-P2 = seen (perform (fresh (start 1)) ExceptionZeroDivide) ≡ record { answer = Cycles 38 8; a7 = 32762; pc = 0; store = laid zeros 32762 (39 ∷ 0 ∷ 0 ∷ 0 ∷ 16 ∷ 0 ∷ []) }
+P2 = seen (perform (fresh (start 1)) ExceptionZeroDivide) ≡ record { answer = Cycles 38 8; a7 = 0x7FFA; pc = 0; store = laid zeros 0x7FFA (39 ∷ 0 ∷ 0 ∷ 0 ∷ 16 ∷ 0 ∷ []) }
 
 -- kind 4, CHK: 27 00 00 00 10 00 20 18 00 00 0F FE, at 0x7FF4; 40 cycles, with 6 events
 abbrev pub P3 : Type 0
-P3 = seen (perform (fresh (start 4)) ExceptionChk) ≡ record { answer = Cycles 40 6; a7 = 32756; pc = 0; store = laid zeros 32756 (39 ∷ 0 ∷ 0 ∷ 0 ∷ 16 ∷ 0 ∷ 32 ∷ 24 ∷ 0 ∷ 0 ∷ 15 ∷ 254 ∷ []) }
+P3 = seen (perform (fresh (start 4)) ExceptionChk) ≡ record { answer = Cycles 40 6; a7 = 0x7FF4; pc = 0; store = laid zeros 0x7FF4 (39 ∷ 0 ∷ 0 ∷ 0 ∷ 16 ∷ 0 ∷ 32 ∷ 24 ∷ 0 ∷ 0 ∷ 15 ∷ 254 ∷ []) }
 
 -- the interrupt call at a mask with a level pending, and a response
-abbrev interrupted : ℕ → ℕ → ℕ → ℕ → Performance
+abbrev interrupted : ℕ → ℕ → ℕ → ℕ → Performed
 interrupted kind response mask level = perform (lent response 192 (pending kind mask level)) CheckAndServiceInterrupts
 
 -- level 3, mask 3: not taken, nothing changed and no event; level 7, mask 7: taken
@@ -86,8 +86,8 @@ Leaves c call a long v = (s : List ℕ) → length s ≡ 0x10000 → readValue (
 -- above the new A7 of 0x7FA4 after a bus error entry at address 0x1234
 abbrev pub P6 : Type 0
 P6 =
-    (ssw020 (functionCode true true) false true 2 ≡ 20486) × Leaves (start 4) (ExceptionBusError 0x1234 false true 2 Absent) 32686 false 20486
-    × (ssw020 (functionCode true false) false false 4 ≡ 325) × Leaves (start 4) (ExceptionBusError 0x1234 false false 4 Absent) 32686 false 325
+    (ssw020 (functionCode true true) false true 2 ≡ 0x5006) × Leaves (start 4) (ExceptionBusError 0x1234 false true 2 Absent) 0x7FAE false 0x5006
+    × (ssw020 (functionCode true false) false false 4 ≡ 325) × Leaves (start 4) (ExceptionBusError 0x1234 false false 4 Absent) 0x7FAE false 325
 
 -- in user state: status 0x0700, and the pointer of the interrupt stack is 0x8000 too
 abbrev pub user : ℕ → Cpu
@@ -97,12 +97,12 @@ user kind = setSaved (startAt kind 0x700) 4 0x8000
 -- new A7 of 0x7FC4
 abbrev pub P7 : Type 0
 P7 =
-    (ssw040 (functionCode false false) true 2 0 ≡ 65) × Leaves (user 9) (ExceptionBusError 0x1234 true false 2 Absent) 32720 false 65
-    × (wb3s (functionCode false false) true 2 ≡ 193) × Leaves (user 9) (ExceptionBusError 0x1234 true false 2 Absent) 32722 false 193
+    (ssw040 (functionCode false false) true 2 0 ≡ 65) × Leaves (user 9) (ExceptionBusError 0x1234 true false 2 Absent) 0x7FD0 false 65
+    × (wb3s (functionCode false false) true 2 ≡ 193) × Leaves (user 9) (ExceptionBusError 0x1234 true false 2 Absent) 0x7FD2 false 193
 
 -- kind 11, supervisor byte read, page fault: 0x01250200. By its definition, and as the last long of the frame
 abbrev pub P8 : Type 0
-P8 = (fslw060 false false 1 (functionCode true false) 4 ≡ 19202560) × Leaves (start 11) (ExceptionBusError 0x1234 false false 1 PageFault) 32764 true 19202560
+P8 = (fslw060 false false 1 (functionCode true false) 4 ≡ 0x1250200) × Leaves (start 11) (ExceptionBusError 0x1234 false false 1 PageFault) 0x7FFC true 0x1250200
 
 -- pending 0xFFFFFFFF plus 4 clocks: 3. An entry on kind 2 adds 4, and its first event is their sync
 abbrev pub P9 : Type 0
@@ -112,24 +112,24 @@ P9 =
 
 -- kind 4, fresh store, A7 = 2, trap 0: the second push faults; A7 0xFFFFFFFA, PC 0, `stopped` 1, `run_mode` 1. In the log: the
 -- first push at 0, the second at 0xFFFFFFFC not served, the release; the third push and the vector are not tried
-abbrev halts : Performance
+abbrev halts : Performed
 halts = perform (fresh (setA7 (start 4) 2)) (Trap 0)
 
 abbrev pub P10 : Type 0
 P10 =
-    (seen halts ≡ record { answer = Cycles 34 3; a7 = 4294967290; pc = 0; store = laid zeros 0 (0 ∷ 128 ∷ []) })
+    (seen halts ≡ record { answer = Cycles 34 3; a7 = 0xFFFFFFFA; pc = 0; store = laid zeros 0 (0 ∷ 128 ∷ []) })
     × (cpuAfter halts .flow .stopped ≡ 1) × (cpuAfter halts .flow .«run_mode» ≡ 1)
-    × (logged halts 9 ≡ 3 ∷ 0 ∷ 128 ∷ 20 ∷ 4294967292 ∷ 0x1000 ∷ 7 ∷ 0 ∷ 0 ∷ [])
+    × (logged halts 9 ≡ 3 ∷ 0 ∷ 128 ∷ 20 ∷ 0xFFFFFFFC ∷ 0x1000 ∷ 7 ∷ 0 ∷ 0 ∷ [])
 
 -- kind 4, status 0x3700, master 0x6000, interrupt 0x5000, level 7: 37 00 00 00 10 00 00 7C at 0x5FF8, the saved master pointer,
 -- and 37 00 00 00 10 00 10 7C at 0x4FF8, the new A7
-abbrev thrown : Performance
-thrown = perform (fresh (setSaved (setA7 (setIrq (startAt 4 14080) 7) 24576) 4 0x5000)) CheckAndServiceInterrupts
+abbrev thrown : Performed
+thrown = perform (fresh (setSaved (setA7 (setIrq (startAt 4 0x3700) 7) 24576) 4 0x5000)) CheckAndServiceInterrupts
 
 abbrev pub P11 : Type 0
 P11 =
-    (seen thrown ≡ record { answer = Flag true 9; a7 = 20472; pc = 0; store = laid (laid zeros 24568 (55 ∷ 0 ∷ 0 ∷ 0 ∷ 16 ∷ 0 ∷ 0 ∷ 124 ∷ [])) 20472 (55 ∷ 0 ∷ 0 ∷ 0 ∷ 16 ∷ 0 ∷ 16 ∷ 124 ∷ []) })
-    × (getD (cpuAfter thrown .regs .sp) 6 0 ≡ 24568)
+    (seen thrown ≡ record { answer = Flag true 9; a7 = 0x4FF8; pc = 0; store = laid (laid zeros 0x5FF8 (55 ∷ 0 ∷ 0 ∷ 0 ∷ 16 ∷ 0 ∷ 0 ∷ 124 ∷ [])) 0x4FF8 (55 ∷ 0 ∷ 0 ∷ 0 ∷ 16 ∷ 0 ∷ 16 ∷ 124 ∷ []) })
+    × (getD (cpuAfter thrown .regs .sp) 6 0 ≡ 0x5FF8)
 
 -- refused by a number, with nothing changed
 abbrev Refuses : World → Call → ℕ → Type 0

@@ -7,7 +7,7 @@ use Rattle.cpu.specs.declared.Cpu.{Cpu}
 use Rattle.cpu.specs.Groups.{withRegs, withFlow}
 use Rattle.cpu.specs.Fields.{setA7, setPc}
 use Rattle.cpu.specs.Fresh.{freshCpu}
-use Rattle.requests.specs.Interrupts.{setIrq}
+use Rattle.pending.specs.Interrupts.{setIrq}
 use Rattle.status.specs.Status.{setSrNointNosp}
 use Rattle.memory.specs.World.{World, world}
 

@@ -8,20 +8,20 @@ use mathlib.Core.List.{List}
 use lib.ListN.{length, getD, set}
 use lib.Dec.{eqb, ltb, leb}
 use native.Mathlib.Numerals.{sub-one}
+use Rattle.access.specs.Faults.{jumpVector, pushFrame, raised, writeAt}
 use Rattle.cpu.specs.Clocks.{internalCycles}
 use Rattle.cpu.specs.Fields.{a7Of, kindOf, lowerA7, pcOf}
 use Rattle.cpu.specs.declared.Cpu.{Cpu}
 use Rattle.exceptions.specs.Frames.{formatWord, offsetWord, shortFrame}
-use Rattle.faults.specs.Faults.{jumpVector, pushFrame, raised, writeAt}
 use Rattle.frames.specs.declared.Frame.{Frame}
 use Rattle.interrupts.specs.Interrupts.{acknowledgeLevel, checkAndService, dispatched, ended, firstFrame, from68000, pushInterrupt68000, pushInterrupt68010, pushInterruptOther, rest68000, rest68010, restOther, secondFrame, serviceInterrupt, serviced, syncedAcknowledge, throwaway, vectorFrom, writes68010}
 use Rattle.interrupts.specs.declared.Stacked.{Stacked}
 use Rattle.memory.specs.World.{acknowledged, flush, putCpu, reply, tried, world}
 use Rattle.memory.specs.declared.Acknowledged.{Acknowledged}
 use Rattle.memory.specs.declared.Core.{Core}
-use Rattle.requests.specs.Interrupts.{clearLevel, pendingLevel, takesInterrupt}
+use Rattle.pending.specs.Interrupts.{clearLevel, pendingLevel, takesInterrupt}
 use Rattle.status.specs.Banks.{setSmFlag}
-use Rattle.status.specs.Status.{clearM, mIsSet, statusOf}
+use Rattle.status.specs.Status.{clearM, getSr, mIsSet}
 use Rattle.steps.specs.Steps.{closeInterrupt, enterLevel, iackVector, withS}
 use Rattle.types.specs.Kinds.{is060, isEc020Plus}
 use borrow.Author.Tests.{eq-eqb, ne-eqb}
@@ -86,7 +86,7 @@ pub second-frame-way-4 : (m : Core) (s l : List ℕ) (pc sr vector : ℕ) (b : B
 unfolding secondFrame
 second-frame-way-4 m s l pc sr vector b h0 h1 = cc
 
-pub service-interrupt-way : (m : Core) (s l : List ℕ) (level n n1 : ℕ) (r : Cpu) (r1 : Core) (s1 l1 : List ℕ) (r2 : Stacked) (s2 l2 : List ℕ) (r3 : Core) (s3 l3 : List ℕ) (r4 : Core) (r5 : Cpu) (r6 : Core) → n ≡ pcOf (m .cpu) → n1 ≡ statusOf (m .cpu) → r ≡ enterLevel (m .cpu) level → r1 ≡ putCpu m r → reply (world (r2 .core) s1 l1) true (r2 .vector) ≡ firstFrame (world r1 s l) n n1 level → world r3 s2 l2 ≡ secondFrame (world (r2 .core) s1 l1) n n1 (r2 .vector) → world r4 s3 l3 ≡ jumpVector raised (world r3 s2 l2) (r2 .vector) → r5 ≡ closeInterrupt (r4 .cpu) → r6 ≡ putCpu r4 r5 → world r6 s3 l3 ≡ serviceInterrupt (world m s l) level
+pub service-interrupt-way : (m : Core) (s l : List ℕ) (level n n1 : ℕ) (r : Cpu) (r1 : Core) (s1 l1 : List ℕ) (r2 : Stacked) (s2 l2 : List ℕ) (r3 : Core) (s3 l3 : List ℕ) (r4 : Core) (r5 : Cpu) (r6 : Core) → n ≡ pcOf (m .cpu) → n1 ≡ getSr (m .cpu) → r ≡ enterLevel (m .cpu) level → r1 ≡ putCpu m r → reply (world (r2 .core) s1 l1) true (r2 .vector) ≡ firstFrame (world r1 s l) n n1 level → world r3 s2 l2 ≡ secondFrame (world (r2 .core) s1 l1) n n1 (r2 .vector) → world r4 s3 l3 ≡ jumpVector raised (world r3 s2 l2) (r2 .vector) → r5 ≡ closeInterrupt (r4 .cpu) → r6 ≡ putCpu r4 r5 → world r6 s3 l3 ≡ serviceInterrupt (world m s l) level
 unfolding serviceInterrupt dispatched ended
 service-interrupt-way m s l level n n1 r r1 s1 l1 r2 s2 l2 r3 s3 l3 r4 r5 r6 h0 h1 h2 h3 h4 h5 h6 h7 h8 = cc
 

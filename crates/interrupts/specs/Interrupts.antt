@@ -4,13 +4,13 @@ use mathlib.Core.Bool.{true, false}
 use lib.Dec.{eqb}
 use Rattle.types.specs.Kinds.{pick, isEc020Plus, is060}
 use Rattle.cpu.specs.Fields.{kindOf, pcOf, a7Of, lowerA7}
-use Rattle.status.specs.Status.{statusOf, clearM, mIsSet}
+use Rattle.status.specs.Status.{getSr, clearM, mIsSet}
 use Rattle.status.specs.Banks.{setSmFlag}
 use Rattle.cpu.specs.Clocks.{internalCycles}
-use Rattle.requests.specs.Interrupts.{pendingLevel, takesInterrupt, clearLevel}
+use Rattle.pending.specs.Interrupts.{pendingLevel, takesInterrupt, clearLevel}
 use Rattle.memory.specs.World.{World, Attempt, reply, tried, cpuOf, step, flush, acknowledged}
 use Rattle.steps.specs.Steps.{iackVector, enterLevel, closeInterrupt, withS}
-use Rattle.faults.specs.Faults.{raised, writeAt, pushFrame, jumpVector}
+use Rattle.access.specs.Faults.{raised, writeAt, pushFrame, jumpVector}
 use Rattle.exceptions.specs.Frames.{formatWord, offsetWord, shortFrame}
 
 -- the acknowledge cycle: the world after it, and the vector as its value
@@ -86,7 +86,7 @@ dispatched pc sr x = ended (jumpVector raised (secondFrame (x .after) pc sr (x .
 
 unfoldable pub serviceInterrupt : World → ℕ → World
 serviceInterrupt w level =
-    dispatched (pcOf (cpuOf w)) (statusOf (cpuOf w)) (firstFrame (step (λ c. enterLevel c level) w) (pcOf (cpuOf w)) (statusOf (cpuOf w)) level)
+    dispatched (pcOf (cpuOf w)) (getSr (cpuOf w)) (firstFrame (step (λ c. enterLevel c level) w) (pcOf (cpuOf w)) (getSr (cpuOf w)) level)
 
 -- `check_and_service_interrupts`: taken exactly if the level is 7 or above the mask; then no level is pending
 unfoldable pub serviced : World → World

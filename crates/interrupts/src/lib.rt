@@ -1,5 +1,5 @@
 // The interrupt call: `check_and_service_interrupts` with `service_interrupt`, kind by kind. It uses `exceptions` for the frames,
-// `faults` and everything below; `calls` uses it.
+// `access` and everything below; `calls` uses it.
 use exceptions::formats;
 use memory::Core;
 ghost use mathlib.Core.Path.{_≡_};
@@ -52,14 +52,14 @@ fn from_68000(
 {
     let p4 = steps::plus(sp, 4);
     let low = steps::low_word(pc);
-    let a = faults::write_16(m, store, log, p4, low);
+    let a = access::write_16(m, store, log, p4, low);
     let x = synced_acknowledge(a, store, log, 4, level);
     let b = x.core;
     let d = memory::with_cpu(b, cpu::clocks::internal_cycles(b.cpu, 4));
-    let e = faults::write_16(d, store, log, sp, sr);
+    let e = access::write_16(d, store, log, sp, sr);
     let p2 = steps::plus(sp, 2);
     let high = steps::high_word(pc);
-    let g = faults::write_16(e, store, log, p2, high);
+    let g = access::write_16(e, store, log, p2, high);
     Stacked {
         core: g,
         vector: x.vector,
@@ -97,13 +97,13 @@ fn writes_68010(
 {
     let p4 = steps::plus(sp, 4);
     let low = steps::low_word(pc);
-    let a = faults::write_16(m, store, log, p4, low);
-    let b = faults::write_16(a, store, log, sp, sr);
+    let a = access::write_16(m, store, log, p4, low);
+    let b = access::write_16(a, store, log, sp, sr);
     let p2 = steps::plus(sp, 2);
     let high = steps::high_word(pc);
-    let d = faults::write_16(b, store, log, p2, high);
+    let d = access::write_16(b, store, log, p2, high);
     let p6 = steps::plus(sp, 6);
-    faults::write_16(d, store, log, p6, format)
+    access::write_16(d, store, log, p6, format)
 }
 
 // 68010: 12 clocks, the acknowledge, and A7 lowered once.
@@ -145,7 +145,7 @@ fn push_interrupt_other(
     let a = x.core;
     let format = formats::offset_word(x.vector);
     let f = formats::short_frame(sr as u32, pc, format as u32);
-    let b = faults::push_frame(a, store, log, f);
+    let b = access::push_frame(a, store, log, f);
     Stacked {
         core: b,
         vector: x.vector,
@@ -181,7 +181,7 @@ fn throwaway_frame(
     let n = steps::with_s(sr);
     let format = formats::format_word(1, vector);
     let f = formats::short_frame(n, pc, format);
-    faults::push_frame(a, store, log, f)
+    access::push_frame(a, store, log, f)
 }
 
 // What follows the first frame where M is set.
@@ -210,7 +210,7 @@ pub fn service_interrupt(m: Core, store: &mut [u8], log: &mut [u32], level: u8) 
     let a = memory::with_cpu(m, steps::enter_level(m.cpu, level));
     let x = first_frame(a, store, log, pc, sr, level);
     let b = second_frame(x.core, store, log, pc, sr, x.vector);
-    let d = faults::jump_vector(b, store, log, x.vector);
+    let d = access::jump_vector(b, store, log, x.vector);
     memory::with_cpu(d, steps::close_interrupt(d.cpu))
 }
 
@@ -218,10 +218,10 @@ pub fn service_interrupt(m: Core, store: &mut [u8], log: &mut [u32], level: u8) 
 pub fn check_and_service_interrupts(m: Core, store: &mut [u8], log: &mut [u32]) -> Serviced
     ensures { λ r. ⌜ tried (world (r .core) (now (store .exit)) (now (log .exit))) (r .taken) ≡ checkAndService (world m (now (store .entry)) (now (log .entry))) ⌝ }
 {
-    if requests::interrupts::takes_interrupt(m.cpu) {
-        let level = requests::interrupts::pending_level(m.cpu);
+    if pending::interrupts::takes_interrupt(m.cpu) {
+        let level = pending::interrupts::pending_level(m.cpu);
         let a = service_interrupt(m, store, log, level);
-        let b = memory::with_cpu(a, requests::interrupts::clear_level(a.cpu));
+        let b = memory::with_cpu(a, pending::interrupts::clear_level(a.cpu));
         return Serviced {
             core: b,
             taken: true,

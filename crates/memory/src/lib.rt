@@ -1,5 +1,5 @@
 // The bus by value and the two lent slices beside it: the store, its fault windows, the acknowledge responses, the log of bus
-// events, and one access, served or not. It uses `types` and `cpu`; `faults` and everything above reach the store and the log
+// events, and one access, served or not. It uses `types` and `cpu`; `access` and everything above reach the store and the log
 // only through it.
 use cpu::Cpu;
 

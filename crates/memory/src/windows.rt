@@ -5,14 +5,14 @@ ghost use Prim.Native.Nat.{_-_, _<_, _≤_};
 ghost use Rattle.memory.specs.Served.{meets, clearOf, inStore, servedOf, placeOf, windowsInUse};
 
 fn wide(x: u32) -> u64
-    ensures { λ r. ⌜ (r ≡ x) × (r < 4294967296) ⌝ }
+    ensures { λ r. ⌜ (r ≡ x) × (r < 0x100000000) ⌝ }
 {
     x as u64
 }
 
 // Whether window k holds a byte of the n bytes from a on.
 fn window_meets(b: Bus, k: usize, a: u64, n: u64) -> bool
-    requires { ⌜ (k < 8) × (a < 4294967296) × (n < 4294967296) ⌝ }
+    requires { ⌜ (k < 8) × (a < 0x100000000) × (n < 0x100000000) ⌝ }
     ensures { λ r. ⌜ r ≡ meets b k a n ⌝ }
 {
     let from = wide(b.starts[k]);
@@ -28,7 +28,7 @@ fn window_meets(b: Bus, k: usize, a: u64, n: u64) -> bool
 
 // Whether the first `left` windows hold no byte of the access.
 fn clear_of(b: Bus, left: u32, a: u64, n: u64) -> bool
-    requires { ⌜ (left ≤ 8) × (a < 4294967296) × (n < 4294967296) ⌝ }
+    requires { ⌜ (left ≤ 8) × (a < 0x100000000) × (n < 0x100000000) ⌝ }
     ensures { λ r. ⌜ r ≡ clearOf b left a n ⌝ }
 {
     if left == 0 {

@@ -32,7 +32,7 @@ module _ (v : View) (b : Bytes) where
       cond-gets Settled (served b (v .kind) (top v) (suc n)) (some made) none t (some-gets Settled made t refl) (none-gets Settled t) e
     where
       made : Taken
-      made = record { format = fw / 4096; status = st; address = ad; offset = fw % 4096; size = suc n; after = settle v (suc n) st }
+      made = record { format = fw / 0x1000; status = st; address = ad; offset = fw % 0x1000; size = suc n; after = settle v (suc n) st }
 
   short-settled : (t : Taken) → shortFrame v b ≡ some t → Settled t
   short-settled t e =
@@ -46,8 +46,8 @@ module _ (v : View) (b : Bytes) where
   full-settled t e =
       opt-gets Settled (word b (v .kind) (top v) 0) _ t
       (λ st. opt-gets Settled (long b (v .kind) (top v) 2) _ t
-      (λ ad. opt-gets Settled (word b (v .kind) (top v) 6) (λ fw. sized v b st ad fw (frameLen (v .kind) (fw / 4096))) t
-      (λ fw. sized-settled st ad fw (frameLen (v .kind) (fw / 4096)) t))) e
+      (λ ad. opt-gets Settled (word b (v .kind) (top v) 6) (λ fw. sized v b st ad fw (frameLen (v .kind) (fw / 0x1000))) t
+      (λ fw. sized-settled st ad fw (frameLen (v .kind) (fw / 0x1000)) t))) e
 
   pub frame-settled : (t : Taken) → frame v b ≡ some t → t .after ≡ settle v (t .size) (t .status)
   unfolding frame

@@ -7,7 +7,7 @@ use lib.ListN.{getD}
 use Rattle.types.specs.Kinds.{pick, either, both}
 use Rattle.cpu.specs.declared.Cpu.{Cpu}
 use Rattle.cpu.specs.Fields.{kindOf, vbrOf, checksAlignment, hasFcOverride, fcOverrideOf}
-use Rattle.requests.specs.Interrupts.{hasCycles}
+use Rattle.pending.specs.Interrupts.{hasCycles}
 use Rattle.memory.specs.declared.Bus.{Bus}
 use Rattle.memory.specs.declared.Core.{Core}
 use Rattle.refusals.specs.declared.Matter.{Matter}

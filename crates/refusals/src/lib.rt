@@ -62,7 +62,7 @@ pub fn bad_cycles(interrupt: bool, c: Cpu) -> bool
     ensures { λ r. ⌜ r ≡ badCycles interrupt c ⌝ }
 {
     if interrupt {
-        return !requests::interrupts::has_cycles(c);
+        return !pending::interrupts::has_cycles(c);
     }
     false
 }
@@ -85,13 +85,13 @@ pub fn bad_store(lent: bool, b: Bus, len: usize) -> bool
         if 65536 < len {
             return true;
         }
-        return 4294967296 < b.base as usize + len;
+        return 0x100000000 < b.base as usize + len;
     }
     false
 }
 
 fn wide(x: u32) -> u64
-    ensures { λ r. ⌜ (r ≡ x) × (r < 4294967296) ⌝ }
+    ensures { λ r. ⌜ (r ≡ x) × (r < 0x100000000) ⌝ }
 {
     x as u64
 }
@@ -103,7 +103,7 @@ fn past_top(b: Bus, k: usize) -> bool
 {
     let from = wide(b.starts[k]);
     let size = wide(b.lengths[k]);
-    4294967296 < from + size
+    0x100000000 < from + size
 }
 
 // Whether one of the first `left` windows does.

@@ -73,12 +73,12 @@ module _ (vw : View) (bus : Bus) (store : List ℕ) (small : vw .kind < 12) wher
 
   full-on : oddPointer (vw .kind) (top vw) ≡ false → eqb (vw .kind) 1 ≡ false → allServed w (top vw) 8 ≡ true → formatFrame w (top vw) .refused ≡ 0 → Result
   unfolding frame formatFrame sizedFrame refusedFrame
-  full-on e k s h = go (frameLength (vw .kind) (wordOf w (top vw) 6 / 4096)) refl h
+  full-on e k s h = go (frameLength (vw .kind) (wordOf w (top vw) 6 / 0x1000)) refl h
     where
       on : (i : ℕ) → i < 8 → byteServed w (top vw) i ≡ true
       on = all-each w (top vw) 8 s
 
-      reads : frame vw d ≡ sized vw d (wordOf w (top vw) 0) (longOf w (top vw) 2) (wordOf w (top vw) 6) (frameLen (vw .kind) (wordOf w (top vw) 6 / 4096))
+      reads : frame vw d ≡ sized vw d (wordOf w (top vw) 0) (longOf w (top vw) 2) (wordOf w (top vw) 6) (frameLen (vw .kind) (wordOf w (top vw) 6 / 0x1000))
       reads =
           rw (
             even-is e,
@@ -88,15 +88,15 @@ module _ (vw : View) (bus : Bus) (store : List ℕ) (small : vw .kind < 12) wher
             word-on (vw .kind) bus store (top vw) 6 (on 6 (omega arith)) (on 7 (omega arith)),
           )
 
-      whole : (n : ℕ) → frameLength (vw .kind) (wordOf w (top vw) 6 / 4096) ≡ suc n → (q : Bool) → allServed w (top vw) (suc n) ≡ q
+      whole : (n : ℕ) → frameLength (vw .kind) (wordOf w (top vw) 6 / 0x1000) ≡ suc n → (q : Bool) → allServed w (top vw) (suc n) ≡ q
           → pick q (takenFrame w (top vw) (wordOf w (top vw) 6) (suc n)) (refusedFrame 12) .refused ≡ 0 → Result
       whole n x false y z = absurd (omega arith)
       whole n x true y z = (
-        record { format = wordOf w (top vw) 6 / 4096; status = wordOf w (top vw) 0; address = longOf w (top vw) 2; offset = wordOf w (top vw) 6 % 4096; size = suc n; after = settle vw (suc n) (wordOf w (top vw) 0) },
-        reads ∙ rw (sym (table-is (vw .kind) (wordOf w (top vw) 6 / 4096) small) ∙ x, served-is (vw .kind) bus store (top vw) (suc n) ∙ y),
+        record { format = wordOf w (top vw) 6 / 0x1000; status = wordOf w (top vw) 0; address = longOf w (top vw) 2; offset = wordOf w (top vw) 6 % 0x1000; size = suc n; after = settle vw (suc n) (wordOf w (top vw) 0) },
+        reads ∙ rw (sym (table-is (vw .kind) (wordOf w (top vw) 6 / 0x1000) small) ∙ x, served-is (vw .kind) bus store (top vw) (suc n) ∙ y),
       )
 
-      go : (n : ℕ) → frameLength (vw .kind) (wordOf w (top vw) 6 / 4096) ≡ n
+      go : (n : ℕ) → frameLength (vw .kind) (wordOf w (top vw) 6 / 0x1000) ≡ n
           → pick (eqb n 0) (refusedFrame 13) (pick (allServed w (top vw) n) (takenFrame w (top vw) (wordOf w (top vw) 6) n) (refusedFrame 12)) .refused ≡ 0 → Result
       go zero x z = absurd (omega arith)
       go (suc n) x z = whole n x (allServed w (top vw) (suc n)) refl (rw (ne-eqb (suc n) 0 (λ e. omega arith)) at z)

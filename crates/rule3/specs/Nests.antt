@@ -16,7 +16,7 @@ use Rattle.cpu.specs.Groups.{withSp}
 use Rattle.cpu.specs.Fields.{setA7, setPc}
 use Rattle.cpu.specs.Fresh.{freshCpu}
 use Rattle.status.specs.Status.{putBackSr}
-use Rattle.requests.specs.Interrupts.{setIrq}
+use Rattle.pending.specs.Interrupts.{setIrq}
 use Rattle.memory.specs.declared.Bus.{Bus}
 use Rattle.calls.specs.declared.Call.{Call}
 use Rattle.calls.specs.declared.Call.the-variants.{TakeException, Trap, ExceptionChk, ExceptionZeroDivide, ExceptionTrace, ExceptionAddressError, ExceptionBusError, TakeFpUnimp060, TakeFpDisabled060, TakeIllegalException, CheckAndServiceInterrupts}

@@ -12,7 +12,7 @@ use lib.ListN.{length, getD, replicate, length-replicate}
 use Rattle.types.specs.Kinds.{pick, either, both, isPrefetchKind}
 use Rattle.cpu.specs.declared.Cpu.{Cpu}
 use Rattle.cpu.specs.Fields.{kindOf, pcOf}
-use Rattle.status.specs.Status.{statusOf}
+use Rattle.status.specs.Status.{getSr}
 use Rattle.memory.specs.declared.Bus.{Bus}
 use Rattle.memory.specs.declared.Core.{Core}
 use Rattle.memory.specs.ByteLaws.{AllBytes}

@@ -85,7 +85,7 @@ address-is : (k p i : ℕ) → addr k p i ≡ byteAddress k p i
 unfolding addr byteAddress maskAddress
 address-is k p i = go (ltb k 3)
   where
-    go : (t : Bool) → (p + i) % 4294967296 % cond t 16777216 4294967296 ≡ pick t ((p + i) % 2 ^ 32 % 16777216) ((p + i) % 2 ^ 32)
+    go : (t : Bool) → (p + i) % 0x100000000 % cond t 0x1000000 0x100000000 ≡ pick t ((p + i) % 2 ^ 32 % 0x1000000) ((p + i) % 2 ^ 32)
     go true = refl
     go false = omega arith
 
@@ -192,13 +192,13 @@ module _ (k : ℕ) (bus : Bus) (store : List ℕ) where
   unfolding long longOf
   long-some p i x = go (word b k p i) refl (word b k p (i + 2)) refl
     where
-      go : (o : Option ℕ) → word b k p i ≡ o → (q : Option ℕ) → word b k p (i + 2) ≡ q → opt o (λ hi. opt q (λ lo. some (hi * 65536 + lo))) ≡ some x → LongIs p i x
+      go : (o : Option ℕ) → word b k p i ≡ o → (q : Option ℕ) → word b k p (i + 2) ≡ q → opt o (λ hi. opt q (λ lo. some (hi * 0x10000 + lo))) ≡ some x → LongIs p i x
       go none e q f h = never x h
       go (some y) e none f h = never x h
       go (some y) e (some z) f h =
           let s : WordIs p i y = word-some p i y e in
           let t : WordIs p (i + 2) z = word-some p (i + 2) z f in
-          let m : y * 65536 + z ≡ x = cc in
+          let m : y * 0x10000 + z ≡ x = cc in
           record { hi = s .hi; hi1 = s .lo; lo = t .hi; lo1 = t .lo; is = rw (s .is, t .is) m }
 
   six : (p st ad : ℕ) → WordIs p 0 st → LongIs p 2 ad → allServed v p 6 ≡ true
@@ -217,7 +217,7 @@ module _ (vw : View) (bus : Bus) (store : List ℕ) (t : Taken) (small : vw .kin
   d = peek (memOf bus store)
 
   taken-is : (st ad fw n : ℕ) → wordOf w (top vw) 0 ≡ st → longOf w (top vw) 2 ≡ ad
-      → takenFrame w (top vw) fw n ≡ record { refused = 0; format = fw / 4096; status = st; address = ad; offset = fw % 4096; size = n }
+      → takenFrame w (top vw) fw n ≡ record { refused = 0; format = fw / 0x1000; status = st; address = ad; offset = fw % 0x1000; size = n }
   unfolding takenFrame
   taken-is st ad fw n e f = rw (e, f)
 
@@ -226,9 +226,9 @@ module _ (vw : View) (bus : Bus) (store : List ℕ) (t : Taken) (small : vw .kin
   sized-is st ad fw zero e f h = never t h
   sized-is st ad fw (suc n) e f h = rw (ne-eqb (suc n) 0 (λ z. omega arith), sym (served-is (vw .kind) bus store (top vw) (suc n))) (go (served d (vw .kind) (top vw) (suc n)) h)
     where
-      go : (q : Bool) → cond q (some (record { format = fw / 4096; status = st; address = ad; offset = fw % 4096; size = suc n; after = settle vw (suc n) st })) none ≡ some t
+      go : (q : Bool) → cond q (some (record { format = fw / 0x1000; status = st; address = ad; offset = fw % 0x1000; size = suc n; after = settle vw (suc n) st })) none ≡ some t
           → pick q (takenFrame w (top vw) fw (suc n)) (refusedFrame 12) ≡ frameIs t
-      go true g = taken-is st ad fw (suc n) e f ∙ ap frameIs (let z : record { format = fw / 4096; status = st; address = ad; offset = fw % 4096; size = suc n; after = settle vw (suc n) st } ≡ t = cc in z)
+      go true g = taken-is st ad fw (suc n) e f ∙ ap frameIs (let z : record { format = fw / 0x1000; status = st; address = ad; offset = fw % 0x1000; size = suc n; after = settle vw (suc n) st } ≡ t = cc in z)
       go false g = never t g
 
   abbrev Goal : Type 0
@@ -254,7 +254,7 @@ module _ (vw : View) (bus : Bus) (store : List ℕ) (t : Taken) (small : vw .kin
   frame-full k e = go (word d (vw .kind) (top vw) 0) refl (long d (vw .kind) (top vw) 2) refl (word d (vw .kind) (top vw) 6) refl
     where
       go : (o : Option ℕ) → word d (vw .kind) (top vw) 0 ≡ o → (q : Option ℕ) → long d (vw .kind) (top vw) 2 ≡ q → (r : Option ℕ) → word d (vw .kind) (top vw) 6 ≡ r
-          → opt o (λ st. opt q (λ ad. opt r (λ fw. sized vw d st ad fw (frameLen (vw .kind) (fw / 4096))))) ≡ some t
+          → opt o (λ st. opt q (λ ad. opt r (λ fw. sized vw d st ad fw (frameLen (vw .kind) (fw / 0x1000))))) ≡ some t
           → pick (oddPointer (vw .kind) (top vw)) (refusedFrame 12) (pick (allServed w (top vw) (pick (eqb (vw .kind) 1) 6 8)) (pick (eqb (vw .kind) 1) (takenFrame w (top vw) 0 6)
           (sizedFrame w (top vw) (wordOf w (top vw) 6) (frameLength (vw .kind) (wordOf w (top vw) 6 / 0x1000)))) (refusedFrame 12)) ≡ frameIs t
       go none x q y r u h = never t h
@@ -264,8 +264,8 @@ module _ (vw : View) (bus : Bus) (store : List ℕ) (t : Taken) (small : vw .kin
           let s : WordIs (vw .kind) bus store (top vw) 0 st = word-some (vw .kind) bus store (top vw) 0 st x in
           let a : LongIs (vw .kind) bus store (top vw) 2 ad = long-some (vw .kind) bus store (top vw) 2 ad y in
           let f : WordIs (vw .kind) bus store (top vw) 6 fw = word-some (vw .kind) bus store (top vw) 6 fw u in
-          rw (odd-is (vw .kind) (top vw), e, k, eight (vw .kind) bus store (top vw) st ad fw s a f, f .is, table-is (vw .kind) (fw / 4096) small)
-          (sized-is st ad fw (frameLen (vw .kind) (fw / 4096)) (s .is) (a .is) h)
+          rw (odd-is (vw .kind) (top vw), e, k, eight (vw .kind) bus store (top vw) st ad fw s a f, f .is, table-is (vw .kind) (fw / 0x1000) small)
+          (sized-is st ad fw (frameLen (vw .kind) (fw / 0x1000)) (s .is) (a .is) h)
 
   -- a frame that the nest takes is the one that `unwind` takes
   pub frame-of : frame vw d ≡ some t → frameOf w (top vw) ≡ frameIs t

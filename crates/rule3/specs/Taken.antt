@@ -15,7 +15,7 @@ use Rattle.types.specs.Tables.{frameLength}
 use Rattle.cpu.specs.declared.Cpu.{Cpu}
 use Rattle.cpu.specs.Fields.{kindOf, pcOf, ppcOf, vbrOf, a7Of, checksAlignment, hasFcOverride, fcOverrideOf, setA7, setPc}
 use Rattle.cpu.specs.Clocks.{clearPrefetch}
-use Rattle.status.specs.Status.{statusOf, decompose, sOf, mOf, putBackSr}
+use Rattle.status.specs.Status.{getSr, decompose, sOf, mOf, putBackSr}
 use Rattle.status.specs.Banks.{spIndex, backupSp, restoreSp}
 use Rattle.refusals.specs.Refusals.{badFlags, oddBase, badCode}
 use Rattle.memory.specs.declared.Bus.{Bus}
@@ -50,8 +50,8 @@ put-fit c sr h =
     record {
       registers = h .registers;
       pointers = h .pointers;
-      s-is = bit-flag (maskStatus (kindOf c) sr / 8192 % 2) 4 (omega arith);
-      m-is = bit-flag (maskStatus (kindOf c) sr / 4096 % 2) 2 (omega arith);
+      s-is = bit-flag (maskStatus (kindOf c) sr / 0x2000 % 2) 4 (omega arith);
+      m-is = bit-flag (maskStatus (kindOf c) sr / 0x1000 % 2) 2 (omega arith);
     }
 
 put-stacks : (c : Cpu) (sr : ℕ) → stacksOf (putBackSr (backupSp c) sr) ≡ withFlags (stacksOf (backupSp c)) (sOf (maskStatus (kindOf c) sr)) (mOf (maskStatus (kindOf c) sr))
@@ -172,7 +172,7 @@ restore-inside c h =
       ppc = h .ppc;
     }
 
-jump-inside : (c : Cpu) (pc : ℕ) → (isPrefetchKind (kindOf c) ≡ true → pc < 4294967296) → Inside c → Inside (clearPrefetch (setPc c pc))
+jump-inside : (c : Cpu) (pc : ℕ) → (isPrefetchKind (kindOf c) ≡ true → pc < 0x100000000) → Inside c → Inside (clearPrefetch (setPc c pc))
 unfolding clearPrefetch setPc a7Of kindOf pcOf ppcOf
 jump-inside c pc q h = record { registers = h .registers; pointers = h .pointers; a7 = h .a7; saved = h .saved; pc = q; ppc = h .ppc }
 
@@ -180,7 +180,7 @@ kind-swap : (c : Cpu) (n sr : ℕ) → kindOf (restoreSp (putBackSr (backupSp (r
 unfolding restoreSp putBackSr backupSp raiseA7 setA7 kindOf
 kind-swap c n sr = refl
 
-take-inside : (c : Cpu) (f : Frame) → (isPrefetchKind (kindOf c) ≡ true → f .address < 4294967296) → Inside c → Inside (takeFrame c f)
+take-inside : (c : Cpu) (f : Frame) → (isPrefetchKind (kindOf c) ≡ true → f .address < 0x100000000) → Inside c → Inside (takeFrame c f)
 unfolding takeFrame swapSr
 take-inside c f q h =
     jump-inside (restoreSp (putBackSr (backupSp (raiseA7 c (f .size))) (f .status))) (f .address) (λ e. q (sym (ap isPrefetchKind kinds) ∙ e))
@@ -197,18 +197,18 @@ module _ {A : Type 0} (P : A → Type 0) where
   by-pick false x y p q = q
 
 abbrev Low : Frame → Type 0
-Low f = f .address < 4294967296
+Low f = f .address < 0x100000000
 
 module _ (v : Sight) (p : ℕ) (h : AllBytes (v .store)) where
   byte-low : (i : ℕ) → byteOf v p i < 256
   unfolding byteOf
   byte-low i = h _
 
-  word-low : (i : ℕ) → wordOf v p i < 65536
+  word-low : (i : ℕ) → wordOf v p i < 0x10000
   unfolding wordOf
   word-low i = omega (arith, byte-low i, byte-low (i + 1))
 
-  long-low : (i : ℕ) → longOf v p i < 4294967296
+  long-low : (i : ℕ) → longOf v p i < 0x100000000
   unfolding longOf
   long-low i = omega (arith, word-low i, word-low (i + 2))
 
@@ -220,7 +220,7 @@ module _ (v : Sight) (p : ℕ) (h : AllBytes (v .store)) where
   unfolding refusedFrame
   refused-low n = omega arith
 
-  pub frame-low : frameOf v p .address < 4294967296
+  pub frame-low : frameOf v p .address < 0x100000000
   unfolding frameOf formatFrame sizedFrame
   frame-low =
       by-pick Low (oddPointer (v .kind) p) _ _ (refused-low 12)
@@ -304,7 +304,7 @@ pub record Gives (c : Cpu) (y : Back) (x : NestBack) : Type 0 where
   pub accepted : y .refused ≡ 0
   pub row : rowHere (y .row) ≡ x .row
   pub views : view (regsOf (y .cpu)) ≡ x .view
-  pub status : statusOf (y .cpu) ≡ maskStatus (kindOf c) (x .row .status)
+  pub status : getSr (y .cpu) ≡ maskStatus (kindOf c) (x .row .status)
   pub pc : pcOf (y .cpu) ≡ x .row .address
   pub kind : kindOf (y .cpu) ≡ kindOf c
   pub fit : Fit (y .cpu)

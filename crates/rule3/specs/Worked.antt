@@ -15,7 +15,7 @@ use Rattle.cpu.specs.declared.Cpu.{Cpu}
 use Rattle.cpu.specs.Fields.{setA7, setPc}
 use Rattle.cpu.specs.Fresh.{freshCpu}
 use Rattle.status.specs.Status.{setSrNointNosp}
-use Rattle.requests.specs.Interrupts.{setIrq}
+use Rattle.pending.specs.Interrupts.{setIrq}
 use Rattle.memory.specs.declared.Bus.{Bus}
 use Rattle.memory.specs.ByteLaws.{AllBytes}
 use Rattle.calls.specs.declared.Call.the-variants.{CheckAndServiceInterrupts}

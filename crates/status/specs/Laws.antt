@@ -13,7 +13,7 @@ use Rattle.cpu.specs.declared.Flags.{Flags}
 use Rattle.cpu.specs.declared.Cpu.{Cpu}
 use Rattle.cpu.specs.Groups.{withRegs, withFlags}
 use Rattle.cpu.specs.Fields.{kindOf, a7Of}
-use Rattle.status.specs.Status.{compose, statusOf, decompose, sOf, mOf, mUnderS, setSrNointNosp, putBackSr, clearTrace}
+use Rattle.status.specs.Status.{compose, getSr, decompose, sOf, mOf, mUnderS, setSrNointNosp, putBackSr, clearTrace}
 use Rattle.status.specs.Banks.{spIndex, backupSp, restoreSp, putS, setSmFlagNosp, setSFlag, setSmFlag, enterSupervisor}
 use Rattle.cpu.specs.Fresh.{freshCpu, freshFlags}
 
@@ -58,8 +58,8 @@ composed f w s m =
     )
 
 -- a status put back by a return reads as that status under the kind's mask
-pub status-back : (c : Cpu) (sr : ℕ) → statusOf (putBackSr c sr) ≡ maskStatus (kindOf c) sr
-unfolding statusOf putBackSr
+pub status-back : (c : Cpu) (sr : ℕ) → getSr (putBackSr c sr) ≡ maskStatus (kindOf c) sr
+unfolding getSr putBackSr
 status-back c sr =
     let v : ℕ = maskStatus (kindOf c) sr in
     composed (c .flags) v (sOf v) (mOf v) ∙ rw (bit-back (v / 0x2000) 4 (lit< tt), bit-back (v / 0x1000) 2 (lit< tt)) (masked-status-sum (kindOf c) sr)
@@ -74,20 +74,20 @@ m-dropped (suc zero) m w x y z l d e = omega arith
 m-dropped (suc (suc s)) m w x y z l d e = absurd (omega arith)
 
 -- a status set by `set_sr_noint_nosp` reads as that status under the kind's mask, with M dropped where S is clear
-pub status-restored : (c : Cpu) (sr : ℕ) → statusOf (setSrNointNosp c sr) ≡ dropM (maskStatus (kindOf c) sr)
-unfolding statusOf setSrNointNosp mUnderS dropM
+pub status-restored : (c : Cpu) (sr : ℕ) → getSr (setSrNointNosp c sr) ≡ dropM (maskStatus (kindOf c) sr)
+unfolding getSr setSrNointNosp mUnderS dropM
 status-restored c sr =
     let v : ℕ = maskStatus (kindOf c) sr in
     composed (c .flags) v (sOf v) (mUnderS v)
     ∙ rw (bit-back (v / 0x2000) 4 (lit< tt)) (m-dropped (v / 0x2000 % 2) (v / 0x1000 % 2) v _ _ _ (omega arith) (omega arith) (masked-status-sum (kindOf c) sr))
 
 -- so in supervisor state it is the status under the mask
-pub status-restored-supervisor : (c : Cpu) (sr : ℕ) → sr / 0x2000 % 2 ≡ 1 → statusOf (setSrNointNosp c sr) ≡ maskStatus (kindOf c) sr
+pub status-restored-supervisor : (c : Cpu) (sr : ℕ) → sr / 0x2000 % 2 ≡ 1 → getSr (setSrNointNosp c sr) ≡ maskStatus (kindOf c) sr
 unfolding dropM
 status-restored-supervisor c sr h = status-restored c sr ∙ rw (masked-status-parts (kindOf c) sr .s-bit, h)
 
 -- and in user state its M is clear
-pub status-restored-user : (c : Cpu) (sr : ℕ) → sr / 0x2000 % 2 ≡ 0 → statusOf (setSrNointNosp c sr) / 0x1000 % 2 ≡ 0
+pub status-restored-user : (c : Cpu) (sr : ℕ) → sr / 0x2000 % 2 ≡ 0 → getSr (setSrNointNosp c sr) / 0x1000 % 2 ≡ 0
 unfolding dropM
 status-restored-user c sr h = rw (status-restored, masked-status-parts (kindOf c) sr .s-bit, h) (omega arith)
 
@@ -148,8 +148,8 @@ tidy-fresh =
     record { t1-bit = refl; t0-bit = refl; s-bit = refl; m-bit = refl; level = refl; x-bit = refl; n-bit = refl; z-bit = lit≤ tt; v-bit = refl; c-bit = refl }
 
 -- and its status is 0x2700
-pub status-fresh : (k : ℕ) → statusOf (freshCpu k) ≡ 0x2700
-unfolding statusOf compose freshCpu freshFlags
+pub status-fresh : (k : ℕ) → getSr (freshCpu k) ≡ 0x2700
+unfolding getSr compose freshCpu freshFlags
 status-fresh k = refl
 
 -- the parts of the status of any flags
@@ -201,8 +201,8 @@ own-flags f h =
     }
 
 -- a record with tidy flags and a status inside its mask: putting its own status back changes nothing
-pub tidy-status : (c : Cpu) → Tidy (c .flags) → maskStatus (kindOf c) (statusOf c) ≡ statusOf c → putBackSr c (statusOf c) ≡ c
-unfolding putBackSr statusOf
+pub tidy-status : (c : Cpu) → Tidy (c .flags) → maskStatus (kindOf c) (getSr c) ≡ getSr c → putBackSr c (getSr c) ≡ c
+unfolding putBackSr getSr
 tidy-status c h e =
     let p : _ = composed-parts (c .flags) in
     rw (e, p .s-bit, p .m-bit, h .s-bit, h .m-bit, own-flags (c .flags) h)

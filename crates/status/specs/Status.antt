@@ -16,8 +16,8 @@ compose f =
     f .«t1_flag» / 0x8000 % 2 * 0x8000 + f .«t0_flag» / 0x4000 % 2 * 0x4000 + f .«s_flag» / 4 % 2 * 0x2000 + f .«m_flag» / 2 % 2 * 0x1000 + f .«int_mask» / 256 % 8 * 256
     + (f .«x_flag» / 256 % 2 * 16 + f .«n_flag» / 128 % 2 * 8 + f .«v_flag» / 128 % 2 * 2 + f .«c_flag» / 256 % 2) + pick (eqb (f .«not_z_flag») 0) 4 0
 
-unfoldable pub statusOf : Cpu → ℕ
-statusOf c = compose (c .flags)
+unfoldable pub getSr : Cpu → ℕ
+getSr c = compose (c .flags)
 
 -- the flags of a status, each 0 or the bit that `get_sr` tests, with the S and M flags given
 unfoldable pub decompose : Flags → ℕ → ℕ → ℕ → Flags
@@ -82,4 +82,4 @@ mIsSet c = not (eqb (c .flags .«m_flag») 0)
 -- PC, the status and the registers are kept for the end of the faulted instruction, and the record is faulted
 unfoldable pub keepResume : Cpu → Cpu
 keepResume c =
-    withFaultResume (withRunMode c 1) (record { some = true; pc = c .flow .pc; sr = statusOf c; dar = c .regs .dar })
+    withFaultResume (withRunMode c 1) (record { some = true; pc = c .flow .pc; sr = getSr c; dar = c .regs .dar })

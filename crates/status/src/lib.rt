@@ -8,11 +8,11 @@ use cpu::Resume;
 pub mod banks; // the stack pointers of user, interrupt and master state
 
 ghost use mathlib.Core.Path.{_≡_};
-ghost use Rattle.status.specs.Status.{statusOf, compose, decompose, sOf, mOf, mUnderS, setSrNointNosp, putBackSr, restoreSr, setCcr, clearTrace, setIntMask, clearM, mIsSet, keepResume};
+ghost use Rattle.status.specs.Status.{getSr, compose, decompose, sOf, mOf, mUnderS, setSrNointNosp, putBackSr, restoreSr, setCcr, clearTrace, setIntMask, clearM, mIsSet, keepResume};
 
 // `get_sr`: the status register, composed from the flags.
 pub fn get_sr(c: Cpu) -> u16
-    ensures { λ r. ⌜ r ≡ statusOf c ⌝ }
+    ensures { λ r. ⌜ r ≡ getSr c ⌝ }
 {
     compose(c.flags)
 }

@@ -11,7 +11,7 @@ use native.Mathlib.Numerals.{sub-one}
 use Rattle.cpu.specs.Clocks.{internalCycles}
 use Rattle.cpu.specs.Fields.{clearCause, clearFcOverride, clearStopped, leaveStop, pcOf, ppcOf, restoreRegisters, setException, vbrOf}
 use Rattle.cpu.specs.declared.Cpu.{Cpu}
-use Rattle.requests.specs.Interrupts.{chargeInterrupt}
+use Rattle.pending.specs.Interrupts.{chargeInterrupt}
 use Rattle.status.specs.Banks.{enterSupervisor}
 use Rattle.status.specs.Status.{keepResume, restoreSr, setIntMask}
 use Rattle.steps.specs.Steps.{beginAddress, beginBus, beginEntry, beginTrace, closeBus, closeInterrupt, enterBusError, enterLevel, stackedAddress, stacksNext, vectorAddress}

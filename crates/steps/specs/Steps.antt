@@ -9,7 +9,7 @@ use Rattle.cpu.specs.Fields.{pcOf, ppcOf, checksAlignment, vbrOf, restoreRegist
 use Rattle.cpu.specs.Clocks.{internalCycles}
 use Rattle.status.specs.Status.{restoreSr, keepResume, setIntMask}
 use Rattle.status.specs.Banks.{enterSupervisor}
-use Rattle.requests.specs.Interrupts.{chargeInterrupt}
+use Rattle.pending.specs.Interrupts.{chargeInterrupt}
 
 -- an odd guarded access is refused on kinds 1, 2, 10
 unfoldable pub refusesOdd : Cpu → ℕ → Bool
@@ -17,7 +17,7 @@ refusesOdd c a = pick (checksAlignment c) (eqb (a % 2) 1) false
 
 -- the address of a vector: vector × 4 + vbr, modulo 2^32
 unfoldable pub vectorAddress : Cpu → ℕ → ℕ
-vectorAddress c v = (v % 1073741824 * 4 + vbrOf c) % 2 ^ 32
+vectorAddress c v = (v % 0x40000000 * 4 + vbrOf c) % 2 ^ 32
 
 -- `trigger_bus_error` before its entry: status and registers as saved, exception processing, the cause taken
 unfoldable pub beginBus : Cpu → Cpu

@@ -1,5 +1,5 @@
-// What an entry tests and changes on the record, one step each, and the numbers that it computes. It uses `requests` for the end of
-// an interrupt, and everything below; `faults`, `exceptions` and `interrupts` use it.
+// What an entry tests and changes on the record, one step each, and the numbers that it computes. It uses `pending` for the end of
+// an interrupt, and everything below; `access`, `exceptions` and `interrupts` use it.
 use cpu::Cpu;
 ghost use mathlib.Core.Path.{_≡_};
 ghost use mathlib.Core.Bool.{true, false};
@@ -61,7 +61,7 @@ pub fn vector_address(c: Cpu, v: u32) -> u32
     ensures { λ r. ⌜ r ≡ vectorAddress c v ⌝ }
 {
     let base = c.flow.vbr;
-    std::num::wrapping_add_u32(v % 1073741824 * 4, base)
+    std::num::wrapping_add_u32(v % 0x40000000 * 4, base)
 }
 
 // A bus error entry: supervisor state, trace off, and the function code that stood in is consumed.
@@ -156,5 +156,5 @@ pub fn close_interrupt(c: Cpu) -> Cpu
     ensures { λ r. ⌜ r ≡ closeInterrupt c ⌝ }
 {
     let a = cpu::fields::clear_stopped(c);
-    requests::interrupts::charge_interrupt(a)
+    pending::interrupts::charge_interrupt(a)
 }

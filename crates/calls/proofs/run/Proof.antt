@@ -1,6 +1,6 @@
 use mathlib.Core.Path.{_≡_, refl, sym, ap, _∙_}
 use Rattle.calls.specs.Calls.{run}
-use Rattle.calls.proofs.Ways.{charged-cause-number-way, charged-way, done-way, entered-way, flagged-way, noted-way, read-way, serviced-way, traced-way}
+use Rattle.calls.proofs.Ways.{charged-cause-number-way, charged-way, done-way, entered-way, flagged-way, replaced-way, read-way, serviced-way, traced-way}
 use borrow.Author.Needs.{needs}
 use Rattle.calls.proofs.run.Statement.{statement}
 use Rattle.calls.proofs.run.Tie as tie
@@ -10,13 +10,13 @@ use Rattle.calls.proofs.charged.Reads as charged-reads
 use Rattle.calls.proofs.done.Reads as done-reads
 use Rattle.calls.proofs.entered.Reads as entered-reads
 use Rattle.calls.proofs.flagged.Reads as flagged-reads
-use Rattle.calls.proofs.noted.Reads as noted-reads
+use Rattle.calls.proofs.replaced.Reads as replaced-reads
 use Rattle.calls.proofs.read.Reads as read-reads
 use Rattle.calls.proofs.serviced.Reads as serviced-reads
 use Rattle.calls.proofs.traced.Reads as traced-reads
-use Rattle.requests.proofs.interrupts.check_interrupts.Reads as check-interrupts-reads
-use Rattle.requests.proofs.interrupts.set_irq.Reads as set-irq-reads
-use Rattle.requests.proofs.trace.check_trace.Reads as check-trace-reads
+use Rattle.pending.proofs.interrupts.check_interrupts.Reads as check-interrupts-reads
+use Rattle.pending.proofs.interrupts.set_irq.Reads as set-irq-reads
+use Rattle.pending.proofs.trace.check_trace.Reads as check-trace-reads
 use Rattle.exceptions.proofs.exception_chk.Reads as exception-chk-reads
 use Rattle.exceptions.proofs.exception_privilege.Reads as exception-privilege-reads
 use Rattle.exceptions.proofs.exception_trace.Reads as exception-trace-reads
@@ -31,18 +31,18 @@ use Rattle.exceptions.proofs.take_group2_exception.Reads as take-group2-excepti
 use Rattle.exceptions.proofs.take_illegal_exception.Reads as take-illegal-exception-reads
 use Rattle.exceptions.proofs.take_trap_exception.Reads as take-trap-exception-reads
 use Rattle.exceptions.proofs.trap.Reads as trap-reads
-use Rattle.faults.proofs.exception_address_error.Reads as exception-address-error-reads
-use Rattle.faults.proofs.exception_bus_error.Reads as exception-bus-error-reads
-use Rattle.faults.proofs.prefetch_first.Reads as prefetch-first-reads
-use Rattle.faults.proofs.prefetch_second.Reads as prefetch-second-reads
-use Rattle.faults.proofs.push_16.Reads as push-16-reads
-use Rattle.faults.proofs.push_32.Reads as push-32-reads
-use Rattle.faults.proofs.read_16.Reads as read-16-reads
-use Rattle.faults.proofs.read_32.Reads as read-32-reads
-use Rattle.faults.proofs.trigger_address_error.Reads as trigger-address-error-reads
-use Rattle.faults.proofs.trigger_bus_error.Reads as trigger-bus-error-reads
-use Rattle.faults.proofs.write_16.Reads as write-16-reads
-use Rattle.faults.proofs.write_32.Reads as write-32-reads
+use Rattle.access.proofs.exception_address_error.Reads as exception-address-error-reads
+use Rattle.access.proofs.exception_bus_error.Reads as exception-bus-error-reads
+use Rattle.access.proofs.prefetch_first.Reads as prefetch-first-reads
+use Rattle.access.proofs.prefetch_second.Reads as prefetch-second-reads
+use Rattle.access.proofs.push_16.Reads as push-16-reads
+use Rattle.access.proofs.push_32.Reads as push-32-reads
+use Rattle.access.proofs.read_16.Reads as read-16-reads
+use Rattle.access.proofs.read_32.Reads as read-32-reads
+use Rattle.access.proofs.trigger_address_error.Reads as trigger-address-error-reads
+use Rattle.access.proofs.trigger_bus_error.Reads as trigger-bus-error-reads
+use Rattle.access.proofs.write_16.Reads as write-16-reads
+use Rattle.access.proofs.write_32.Reads as write-32-reads
 use Rattle.interrupts.proofs.check_and_service_interrupts.Reads as check-and-service-interrupts-reads
 use Rattle.types.proofs.cause_number.Reads as cause-number-reads
 
@@ -226,8 +226,8 @@ enum-known-call-10 c = search needs
 set-irq-requires : tie.Need-set-irq-requires
 set-irq-requires c κs = search needs
 
-noted-requires : tie.Need-noted-requires
-noted-requires c κs = search needs
+replaced-requires : tie.Need-replaced-requires
+replaced-requires c κs = search needs
 
 enum-told-11 : tie.Need-enum-told-11
 enum-told-11 c = search needs
@@ -505,7 +505,7 @@ returns-19 c = traced-way _ (c .before .check-trace .ensures) (c .traced .ensure
 
 returns-20 : tie.Need-returns-20
 unfolding run
-returns-20 c = noted-way _ (c .before .set-irq .ensures) (c .noted .ensures) ∙ sym (ap (run _) (c .before .before .before .call10 .given .1))
+returns-20 c = replaced-way _ (c .before .set-irq .ensures) (c .replaced .ensures) ∙ sym (ap (run _) (c .before .before .before .call10 .given .1))
 
 returns-21 : tie.Need-returns-21
 unfolding run
@@ -665,7 +665,7 @@ run-spec =
     traced-requires
     enum-known-call-10
     set-irq-requires
-    noted-requires
+    replaced-requires
     enum-told-11
     check-interrupts-requires
     flagged-requires

@@ -12,7 +12,7 @@ use Rattle.exceptions.proofs.formats.format_word.Reads as format-word-r
 use Rattle.exceptions.proofs.formats.long_frame.Reads as long-frame-reads
 use Rattle.exceptions.proofs.formats.offset_word.Reads as offset-word-reads
 use Rattle.exceptions.proofs.stack_short.Reads as stack-short-reads
-use Rattle.faults.proofs.push_frame.Reads as push-frame-reads
+use Rattle.access.proofs.push_frame.Reads as push-frame-reads
 use Rattle.memory.proofs.with_cpu.Reads as with-cpu-reads
 use Rattle.status.proofs.banks.enter_supervisor.Reads as enter-supervisor-reads
 use Rattle.status.proofs.get_sr.Reads as get-sr-reads

@@ -6,7 +6,7 @@ use Rattle.exceptions.proofs.take_fp_disabled_060.Tie as tie
 use Rattle.exceptions.proofs.take_fp_disabled_060.Reads as reads
 use Rattle.exceptions.proofs.take_fp_disabled_060.Lts as lts
 use Rattle.exceptions.proofs.stack_disabled.Reads as stack-disabled-reads
-use Rattle.faults.proofs.jump_vector.Reads as jump-vector-reads
+use Rattle.access.proofs.jump_vector.Reads as jump-vector-reads
 use Rattle.types.proofs.exception_cycles.Reads as exception-cycles-reads
 
 -- src/lib.rt:202:9

@@ -7,7 +7,7 @@ use Rattle.exceptions.proofs.take_fp_unimp_060.Reads as reads
 use Rattle.exceptions.proofs.take_fp_unimp_060.Lts as lts
 use Rattle.cpu.proofs.fields.note_fpiar.Reads as note-fpiar-reads
 use Rattle.exceptions.proofs.stack_unimp.Reads as stack-unimp-reads
-use Rattle.faults.proofs.jump_vector.Reads as jump-vector-reads
+use Rattle.access.proofs.jump_vector.Reads as jump-vector-reads
 use Rattle.memory.proofs.with_cpu.Reads as with-cpu-reads
 use Rattle.types.proofs.exception_cycles.Reads as exception-cycles-reads
 

@@ -6,7 +6,7 @@ use Rattle.exceptions.proofs.take_group2_exception.Tie as tie
 use Rattle.exceptions.proofs.take_group2_exception.Reads as reads
 use Rattle.exceptions.proofs.take_group2_exception.Lts as lts
 use Rattle.exceptions.proofs.stack_group2.Reads as stack-group2-reads
-use Rattle.faults.proofs.jump_vector.Reads as jump-vector-reads
+use Rattle.access.proofs.jump_vector.Reads as jump-vector-reads
 use Rattle.types.proofs.exception_cycles.Reads as exception-cycles-reads
 
 -- src/lib.rt:78:9

@@ -8,7 +8,7 @@ use Rattle.frames.proofs.address_frame.Lts as lts
 use Rattle.cpu.proofs.fields.kind.Reads as kind-reads
 use Rattle.cpu.proofs.fields.ppc.Reads as ppc-reads
 use Rattle.frames.proofs.codes.state_code.Reads as state-code-reads
-use Rattle.frames.proofs.codes.status_word.Reads as status-word-reads
+use Rattle.frames.proofs.codes.fault_word.Reads as status-word-reads
 use Rattle.frames.proofs.even.Reads as even-reads
 use Rattle.frames.proofs.frame_0.Reads as frame-0-reads
 use Rattle.frames.proofs.frame_2.Reads as frame-2-reads

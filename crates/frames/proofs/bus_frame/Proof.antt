@@ -11,7 +11,7 @@ use Rattle.frames.proofs.codes.fault_code.Reads as fault-code-reads
 use Rattle.frames.proofs.codes.fslw_060.Reads as fslw-060-reads
 use Rattle.frames.proofs.codes.ssw_020.Reads as ssw-020-reads
 use Rattle.frames.proofs.codes.ssw_040.Reads as ssw-040-reads
-use Rattle.frames.proofs.codes.status_word.Reads as status-word-reads
+use Rattle.frames.proofs.codes.fault_word.Reads as status-word-reads
 use Rattle.frames.proofs.codes.wb3_status.Reads as wb3-status-reads
 use Rattle.frames.proofs.either_of.Reads as either-of-reads
 use Rattle.frames.proofs.frame_11.Reads as frame-11-reads

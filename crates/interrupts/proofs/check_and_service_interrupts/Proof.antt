@@ -7,9 +7,9 @@ use Rattle.interrupts.proofs.check_and_service_interrupts.Reads as read
 use Rattle.interrupts.proofs.check_and_service_interrupts.Lts as lts
 use Rattle.interrupts.proofs.service_interrupt.Reads as service-interrupt-reads
 use Rattle.memory.proofs.with_cpu.Reads as with-cpu-reads
-use Rattle.requests.proofs.interrupts.clear_level.Reads as clear-level-reads
-use Rattle.requests.proofs.interrupts.pending_level.Reads as pending-level-reads
-use Rattle.requests.proofs.interrupts.takes_interrupt.Reads as takes-interrupt-reads
+use Rattle.pending.proofs.interrupts.clear_level.Reads as clear-level-reads
+use Rattle.pending.proofs.interrupts.pending_level.Reads as pending-level-reads
+use Rattle.pending.proofs.interrupts.takes_interrupt.Reads as takes-interrupt-reads
 
 -- src/lib.rt:201:8
 takes-interrupt-requires : tie.Need-takes-interrupt-requires

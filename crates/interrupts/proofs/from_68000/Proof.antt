@@ -6,7 +6,7 @@ use Rattle.interrupts.proofs.from_68000.Tie as tie
 use Rattle.interrupts.proofs.from_68000.Reads as reads
 use Rattle.interrupts.proofs.from_68000.Lts as lts
 use Rattle.cpu.proofs.clocks.internal_cycles.Reads as internal-cycles-reads
-use Rattle.faults.proofs.write_16.Reads as write-16-reads
+use Rattle.access.proofs.write_16.Reads as write-16-reads
 use Rattle.interrupts.proofs.synced_acknowledge.Reads as synced-acknowledge-reads
 use Rattle.memory.proofs.with_cpu.Reads as with-cpu-reads
 use Rattle.steps.proofs.high_word.Reads as high-word-reads

@@ -7,7 +7,7 @@ use Rattle.interrupts.proofs.push_interrupt_other.Reads as reads
 use Rattle.interrupts.proofs.push_interrupt_other.Lts as lts
 use Rattle.exceptions.proofs.formats.offset_word.Reads as offset-word-reads
 use Rattle.exceptions.proofs.formats.short_frame.Reads as short-frame-reads
-use Rattle.faults.proofs.push_frame.Reads as push-frame-reads
+use Rattle.access.proofs.push_frame.Reads as push-frame-reads
 use Rattle.interrupts.proofs.acknowledge_level.Reads as acknowledge-level-reads
 
 -- src/lib.rt:124:9

@@ -6,7 +6,7 @@ use Rattle.interrupts.proofs.service_interrupt.Tie as tie
 use Rattle.interrupts.proofs.service_interrupt.Reads as reads
 use Rattle.interrupts.proofs.service_interrupt.Lts as lts
 use Rattle.cpu.proofs.fields.pc.Reads as pc-reads
-use Rattle.faults.proofs.jump_vector.Reads as jump-vector-reads
+use Rattle.access.proofs.jump_vector.Reads as jump-vector-reads
 use Rattle.interrupts.proofs.first_frame.Reads as first-frame-reads
 use Rattle.interrupts.proofs.second_frame.Reads as second-frame-reads
 use Rattle.memory.proofs.with_cpu.Reads as with-cpu-reads

@@ -5,7 +5,7 @@ use Rattle.interrupts.proofs.writes_68010.Statement.{statement}
 use Rattle.interrupts.proofs.writes_68010.Tie as tie
 use Rattle.interrupts.proofs.writes_68010.Reads as reads
 use Rattle.interrupts.proofs.writes_68010.Lts as lts
-use Rattle.faults.proofs.write_16.Reads as write-16-reads
+use Rattle.access.proofs.write_16.Reads as write-16-reads
 use Rattle.steps.proofs.high_word.Reads as high-word-reads
 use Rattle.steps.proofs.low_word.Reads as low-word-reads
 use Rattle.steps.proofs.plus.Reads as plus-reads

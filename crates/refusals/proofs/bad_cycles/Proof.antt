@@ -8,7 +8,7 @@ use Rattle.refusals.proofs.bad_cycles.Statement.{statement}
 use Rattle.refusals.proofs.bad_cycles.Tie as tie
 use Rattle.refusals.proofs.bad_cycles.Reads as reads
 use Rattle.refusals.proofs.bad_cycles.Lts as lts
-use Rattle.requests.proofs.interrupts.has_cycles.Reads as has-cycles-reads
+use Rattle.pending.proofs.interrupts.has_cycles.Reads as has-cycles-reads
 
 has-cycles-requires : tie.Need-has-cycles-requires
 has-cycles-requires c κs = search needs

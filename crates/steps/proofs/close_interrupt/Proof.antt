@@ -6,7 +6,7 @@ use Rattle.steps.proofs.close_interrupt.Tie as tie
 use Rattle.steps.proofs.close_interrupt.Reads as reads
 use Rattle.steps.proofs.close_interrupt.Lts as lts
 use Rattle.cpu.proofs.fields.clear_stopped.Reads as clear-stopped-reads
-use Rattle.requests.proofs.interrupts.charge_interrupt.Reads as charge-interrupt-reads
+use Rattle.pending.proofs.interrupts.charge_interrupt.Reads as charge-interrupt-reads
 
 -- src/lib.rt:158:9
 clear-stopped-requires : tie.Need-clear-stopped-requires
