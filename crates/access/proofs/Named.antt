@@ -8,7 +8,7 @@ use mathlib.Core.List.{List}
 use lib.ListN.{length, getD, set}
 use lib.Dec.{eqb, ltb, leb}
 use native.Mathlib.Numerals.{sub-one}
-use Rattle.access.specs.Faults.{addressError, busError, checkedRead, checkedWrite, exceptionAddressError, exceptionBusError, firstFrom, jumpTo, jumpVector, keptFirst, keptSecond, prefetchFirst, prefetchSecond, pushExceptionFrame68000, pushField, pushFields, pushFrame, raised, readAt, readOr, refill, secondFrom, shortWrites, stackField, trigger, vectorRead, writeAt, wrote}
+use Rattle.access.specs.Access.{addressError, busError, checkedRead, checkedWrite, exceptionAddressError, exceptionBusError, firstFrom, jumpTo, jumpVector, keptFirst, keptSecond, prefetchFirst, prefetchSecond, pushExceptionFrame68000, pushField, pushFields, pushFrame, raised, readAt, readOr, refill, secondFrom, shortWrites, stackField, trigger, vectorRead, writeAt, wrote}
 use Rattle.cpu.specs.Fields.{a7Of, lowerA7}
 use Rattle.cpu.specs.declared.Cpu.{Cpu}
 use Rattle.frames.specs.Frames.{long, word}

@@ -8,7 +8,7 @@ use mathlib.Core.List.{List}
 use lib.ListN.{length, getD, set}
 use lib.Dec.{eqb, ltb, leb}
 use native.Mathlib.Numerals.{sub-one}
-use Rattle.access.specs.Faults.{addressError, busError, checkedRead, checkedWrite, exceptionAddressError, exceptionBusError, firstFrom, jumpTo, jumpVector, keptFirst, keptSecond, prefetchFirst, prefetchRead, prefetchSecond, pushField, pushFields, pushFrame, raiseAddress, raiseBus, readAt, readOr, refill, secondFrom, stackField, trigger, vectorRead, writeAt, wrote}
+use Rattle.access.specs.Access.{addressError, busError, checkedRead, checkedWrite, exceptionAddressError, exceptionBusError, firstFrom, jumpTo, jumpVector, keptFirst, keptSecond, prefetchFirst, prefetchRead, prefetchSecond, pushField, pushFields, pushFrame, raiseAddress, raiseBus, readAt, readOr, refill, secondFrom, stackField, trigger, vectorRead, writeAt, wrote}
 use Rattle.cpu.specs.Clocks.{clearPrefetch, firstWord, internalCycles, oneFetched, prefetchEnabled, secondWord}
 use Rattle.cpu.specs.Fields.{a7Of, addressOf, causeNumberOf, halted, inException, isFaulted, lowerA7, oddPc, pcOf, setPc, setWdata, startVector}
 use Rattle.cpu.specs.declared.Cpu.{Cpu}

@@ -12,7 +12,7 @@ ghost use mathlib.Core.Path.{_≡_};
 ghost use mathlib.Core.Bool.{true, false};
 ghost use Rattle.memory.specs.World.{world, reply};
 ghost use Rattle.frames.specs.Frames.{word, long};
-ghost use Rattle.access.specs.Faults.{raised, trigger, busError, addressError, readAt, writeAt, pushField, pushFrame, pushExceptionFrame68000, jumpVector, prefetchFirst, prefetchSecond, exceptionBusError, exceptionAddressError};
+ghost use Rattle.access.specs.Access.{raised, trigger, busError, addressError, readAt, writeAt, pushField, pushFrame, pushExceptionFrame68000, jumpVector, prefetchFirst, prefetchSecond, exceptionBusError, exceptionAddressError};
 
 // A guarded read of a word.
 pub fn read_16(m: Core, store: &mut [u8], log: &mut [u32], a: u32) -> Reply

@@ -7,7 +7,7 @@ use memory::Reply;
 ghost use mathlib.Core.Path.{_≡_};
 ghost use mathlib.Core.Bool.{true, false};
 ghost use Rattle.memory.specs.World.{world, reply};
-ghost use Rattle.access.specs.Faults.{trigger, busError, addressError, readAt, writeAt, pushField, pushFields, jumpVector, prefetchRead, prefetchFirst, prefetchSecond, exceptionBusError, exceptionAddressError};
+ghost use Rattle.access.specs.Access.{trigger, busError, addressError, readAt, writeAt, pushField, pushFields, jumpVector, prefetchRead, prefetchFirst, prefetchSecond, exceptionBusError, exceptionAddressError};
 
 pub fn trigger_bus_error(
     m: Core,

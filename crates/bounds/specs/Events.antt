@@ -17,7 +17,7 @@ use Rattle.frames.specs.declared.Frame.{Frame}
 use Rattle.frames.specs.Frames.{fieldAt, busFrame, addressFrame, isCounted}
 use Rattle.steps.specs.Steps.{beginBus, beginAddress, enterBusError, closeBus}
 use Rattle.status.specs.Status.{keepResume}
-use Rattle.access.specs.Faults.{busError, addressError, Raise, readAt, writeAt, pushField, pushExceptionFrame68000, jumpVector, prefetchFirst, prefetchSecond, exceptionAddressError, exceptionBusError, raiseBus, raiseAddress, trigger, raised, entered, Fault}
+use Rattle.access.specs.Access.{busError, addressError, Raise, readAt, writeAt, pushField, pushExceptionFrame68000, jumpVector, prefetchFirst, prefetchSecond, exceptionAddressError, exceptionBusError, raiseBus, raiseAddress, trigger, raised, entered, Fault}
 use Rattle.bounds.specs.Skeleton.{Steps, Raises, refills, more, afterField, afterFields, pick-one, pick-when, both-steps, guardRead-good, guardWrite-good, pushed-good, pushShort-good, jump-good, prefetchFirst-good, prefetchSecond-good, frame-good}
 use Rattle.bounds.specs.ErrorFrames.{busWrites, addressWrites, address-plain, bus-plain, address-writes, bus-writes}
 use Rattle.bounds.specs.Levels.{Domain, Safe, Kept, Any, Either, Set, inside, under, domain, clash, refusing, refused, vector-safe, steps, fetching, halted-kept, address-kept, bus-kept, super-kept, super-bus-kept, close-address-kept, close-bus-kept, level-halts}

@@ -15,7 +15,7 @@ use Rattle.frames.specs.declared.Field.{Field}
 use Rattle.frames.specs.declared.Frame.{Frame}
 use Rattle.frames.specs.Frames.{fieldAt, busFrame, addressFrame, isCounted, isRaw}
 use Rattle.steps.specs.Steps.{beginBus, beginAddress, enterBusError, closeBus}
-use Rattle.access.specs.Faults.{busError, addressError, Raise, readAt, writeAt, stackField, pushField, pushFields, pushFrame, jumpVector, prefetchFirst, prefetchSecond, exceptionAddressError, exceptionBusError, raiseBus, raiseAddress, trigger, Fault}
+use Rattle.access.specs.Access.{busError, addressError, Raise, readAt, writeAt, stackField, pushField, pushFields, pushFrame, jumpVector, prefetchFirst, prefetchSecond, exceptionAddressError, exceptionBusError, raiseBus, raiseAddress, trigger, Fault}
 use Rattle.bounds.specs.Skeleton.{Steps, Raises, pick-one, pick-when, flush-ways, write-ways, read-ways, clocks-ways, pushFields-good, jump-good, prefetchFirst-good, prefetchSecond-good, frame-good}
 
 abbrev pub Faulted : World → Type 0

@@ -16,7 +16,7 @@ use Rattle.frames.specs.declared.Field.{Field}
 use Rattle.frames.specs.declared.Frame.{Frame}
 use Rattle.frames.specs.Frames.{busFrame, addressFrame}
 use Rattle.steps.specs.Steps.{refusesOdd, vectorAddress, beginBus, beginAddress, enterBusError, closeBus}
-use Rattle.access.specs.Faults.{busError, addressError, Raise, readAt, writeAt, pushField, pushFields, pushExceptionFrame68000, pushFrame, jumpVector, prefetchFirst, prefetchSecond, exceptionAddressError, exceptionBusError, raiseBus, raiseAddress, trigger, entered, Fault}
+use Rattle.access.specs.Access.{busError, addressError, Raise, readAt, writeAt, pushField, pushFields, pushExceptionFrame68000, pushFrame, jumpVector, prefetchFirst, prefetchSecond, exceptionAddressError, exceptionBusError, raiseBus, raiseAddress, trigger, entered, Fault}
 use Rattle.bounds.specs.Skeleton.{Good, Steps, Raises, pick-if, pick-one, flush-ways, write-ways, read-ways, clocks-ways, guardRead-good, guardWrite-good, pushed-good, pushFields-good, stacked-good, pushShort-good, jump-good, prefetchFirst-good, prefetchSecond-good, frame-good}
 use Rattle.bounds.specs.ErrorFrames.{address-plain, bus-plain}
 

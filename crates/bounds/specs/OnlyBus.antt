@@ -8,7 +8,7 @@ use Rattle.cpu.specs.Fields.{kindOf, addressOf, isFaulted, inException, causeNu
 use Rattle.memory.specs.World.{World, cpuOf, step}
 use Rattle.steps.specs.Steps.{refusesOdd, vectorAddress, beginBus, beginAddress, closeBus}
 use Rattle.status.specs.Status.{keepResume}
-use Rattle.access.specs.Faults.{busError, addressError, Raise, readOr, prefetchRead, firstFrom, prefetchFirst, secondFrom, prefetchSecond, jumpVector, exceptionAddressError, exceptionBusError, raiseBus, raiseAddress, trigger, Fault}
+use Rattle.access.specs.Access.{busError, addressError, Raise, readOr, prefetchRead, firstFrom, prefetchFirst, secondFrom, prefetchSecond, jumpVector, exceptionAddressError, exceptionBusError, raiseBus, raiseAddress, trigger, Fault}
 use Rattle.bounds.specs.Skeleton.{Raises, pick-one, jump-good}
 use Rattle.bounds.specs.Levels.{Domain, Safe, Kept, Either, Set, inside, domain, refused, vector-safe, raises-of, steps, halted-kept, bus-kept, address-kept, entryAddress-good, entryBus-good, level-bus}
 

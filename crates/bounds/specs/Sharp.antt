@@ -17,7 +17,7 @@ use Rattle.memory.specs.Served.{meets, clearOf, windowsInUse, inStore, servedOf
 use Rattle.memory.specs.World.{World, world, putCpu, withCpu, stored, noted, served, written, fetched, rawWrite, tryWrite, readValue, rawRead, tryRead, flush, release}
 use Rattle.frames.specs.Frames.{long, fieldAt, frame68000, frame8, frame2, frame0, frame4, frame7, frame11, addressFrame, busFrame, isCounted, isRaw}
 use Rattle.steps.specs.Steps.{refusesOdd, vectorAddress, beginBus, beginAddress, enterBusError}
-use Rattle.access.specs.Faults.{busError, addressError, raised, readOr, prefetchRead, keptFirst, firstFrom, prefetchFirst, keptSecond, secondFrom, prefetchSecond, checkedRead, readAt, wrote, checkedWrite, writeAt, stackField, pushField, pushFields, shortWrites, pushExceptionFrame68000, vectorRead, refill, jumpTo, jumpVector, pushFrame, exceptionAddressError, exceptionBusError, raiseBus, raiseAddress, trigger}
+use Rattle.access.specs.Access.{busError, addressError, raised, readOr, prefetchRead, keptFirst, firstFrom, prefetchFirst, keptSecond, secondFrom, prefetchSecond, checkedRead, readAt, wrote, checkedWrite, writeAt, stackField, pushField, pushFields, shortWrites, pushExceptionFrame68000, vectorRead, refill, jumpTo, jumpVector, pushFrame, exceptionAddressError, exceptionBusError, raiseBus, raiseAddress, trigger}
 use Rattle.cpu.specs.declared.Cpu.{Cpu}
 use Rattle.bounds.specs.Events.{Call, reads, writes, pushes, pushesShort, first, second, jumps, busEntry, addressEntry, raises, run, mostEvents}
 

@@ -11,7 +11,7 @@ use Rattle.frames.specs.declared.Field.{Field}
 use Rattle.frames.specs.declared.Frame.{Frame}
 use Rattle.frames.specs.Frames.{fieldAt, isCounted, isRaw}
 use Rattle.steps.specs.Steps.{refusesOdd, vectorAddress}
-use Rattle.access.specs.Faults.{busError, addressError, Raise, readOr, prefetchRead, keptFirst, firstFrom, prefetchFirst, keptSecond, secondFrom, prefetchSecond, checkedRead, readAt, wrote, checkedWrite, writeAt, stackField, pushField, pushFields, pushFrame, shortWrites, pushExceptionFrame68000, vectorRead, refill, jumpTo, jumpVector}
+use Rattle.access.specs.Access.{busError, addressError, Raise, readOr, prefetchRead, keptFirst, firstFrom, prefetchFirst, keptSecond, secondFrom, prefetchSecond, checkedRead, readAt, wrote, checkedWrite, writeAt, stackField, pushField, pushFields, pushFrame, shortWrites, pushExceptionFrame68000, vectorRead, refill, jumpTo, jumpVector}
 
 -- the two runs come to one world, and it has P at the cost n
 abbrev pub Good : (ℕ → World → Type 0) → ℕ → World → World → Type 0

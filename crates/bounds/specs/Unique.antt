@@ -2,7 +2,7 @@
 use mathlib.Core.Path.{_≡_}
 use Rattle.cpu.specs.Fields.{kindOf}
 use Rattle.memory.specs.World.{World, cpuOf}
-use Rattle.access.specs.Faults.{busError, addressError, Raise, trigger, Fault}
+use Rattle.access.specs.Access.{busError, addressError, Raise, trigger, Fault}
 use Rattle.bounds.specs.Levels.{Domain, Either, inside, Unrolls, unrolled-halts, level-halts, level-unrolls, raises-in, raises-bus, bus-any, address-any, again}
 
 -- two levels meet the equations

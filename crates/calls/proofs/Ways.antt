@@ -11,7 +11,7 @@ use Rattle.pending.specs.declared.trace.Traced.{Traced}
 use Rattle.memory.specs.declared.Core.{Core}
 use Rattle.memory.specs.declared.Reply.{Reply}
 use Rattle.memory.specs.World.{World, Attempt, world, reply, tried, putCpu, withCpu}
-use Rattle.access.specs.Faults.{raised, exceptionBusError}
+use Rattle.access.specs.Access.{raised, exceptionBusError}
 use Rattle.exceptions.specs.declared.Entered.{Entered}
 use Rattle.exceptions.specs.Exceptions.{Entry, entry}
 use Rattle.interrupts.specs.declared.Serviced.{Serviced}

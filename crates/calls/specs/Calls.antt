@@ -14,7 +14,7 @@ use Rattle.memory.specs.declared.Core.{Core}
 use Rattle.memory.specs.declared.Bus.{Bus}
 use Rattle.memory.specs.World.{World, Attempt, world, withCpu, cpuOf, step}
 use Rattle.frames.specs.Frames.{word, long}
-use Rattle.access.specs.Faults.{raised, busError, addressError, readAt, writeAt, pushField, prefetchFirst, prefetchSecond, exceptionBusError, exceptionAddressError}
+use Rattle.access.specs.Access.{raised, busError, addressError, readAt, writeAt, pushField, prefetchFirst, prefetchSecond, exceptionBusError, exceptionAddressError}
 use Rattle.exceptions.specs.Exceptions.{Entry, takeException, takeGroup2, trap, exceptionTrace, takeRewound, takeFpUnimp060, takeFpDisabled060}
 use Rattle.interrupts.specs.Interrupts.{checkAndService}
 use Rattle.calls.specs.declared.Call.{Call}

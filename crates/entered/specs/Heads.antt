@@ -21,7 +21,7 @@ use Rattle.memory.specs.AccessLaws.{kept}
 use Rattle.frames.specs.declared.Field.{Field}
 use Rattle.frames.specs.declared.Frame.{Frame}
 use Rattle.frames.specs.Frames.{fieldAt, isCounted}
-use Rattle.access.specs.Faults.{raised, pushFrame}
+use Rattle.access.specs.Access.{raised, pushFrame}
 use Rattle.images.specs.Pushes.{calm, served-same}
 use Rattle.images.specs.Images.{Shape, Ready, Image, SameByte, frameBytes, newA7, bottom, at-offset, stacked-image}
 use Rattle.forms.specs.Gist.{gist, gistCpu, a7-gist, framedBy, stacked-form, minus-below}

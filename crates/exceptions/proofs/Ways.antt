@@ -8,7 +8,7 @@ use mathlib.Core.List.{List}
 use lib.ListN.{length, getD, set}
 use lib.Dec.{eqb, ltb, leb}
 use native.Mathlib.Numerals.{sub-one}
-use Rattle.access.specs.Faults.{jumpVector, pushExceptionFrame68000, pushFrame, raised}
+use Rattle.access.specs.Access.{jumpVector, pushExceptionFrame68000, pushFrame, raised}
 use Rattle.cpu.specs.Fields.{halted, inException, kindOf, noteFpiar, pcOf, ppcOf, rewindPc, setException}
 use Rattle.cpu.specs.declared.Cpu.{Cpu}
 use Rattle.exceptions.specs.Exceptions.{entry, exceptionTrace, finished, stackDisabled, stackGroup2, stackShort, stackUnimp, takeException, takeFpDisabled060, takeFpUnimp060, takeGroup2, takeRewound, taken, trap}

@@ -17,7 +17,7 @@ use Rattle.memory.specs.World.{World, world, putCpu, cpuOf, withCpu, step}
 use Rattle.frames.specs.declared.Frame.{Frame}
 use Rattle.frames.specs.Frames.{addressFrame, busFrame}
 use Rattle.steps.specs.Steps.{enterBusError, stacksNext, stackedAddress, beginEntry, beginTrace}
-use Rattle.access.specs.Faults.{Raise, raised, pushFrame, pushExceptionFrame68000, jumpVector, exceptionAddressError, exceptionBusError}
+use Rattle.access.specs.Access.{Raise, raised, pushFrame, pushExceptionFrame68000, jumpVector, exceptionAddressError, exceptionBusError}
 use Rattle.exceptions.specs.Frames.{formatWord, offsetWord, shortFrame, longFrame, disabledFrame}
 use Rattle.exceptions.specs.Exceptions.{Entry, entry, supervised, stackShort, finished, taken, takeException, stackGroup2, takeGroup2, trap, exceptionTrace, takeRewound, stackUnimp, takeFpUnimp060, stackDisabled, takeFpDisabled060}
 use Rattle.images.specs.Pushes.{calm}

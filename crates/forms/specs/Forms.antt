@@ -16,7 +16,7 @@ use Rattle.memory.specs.declared.Core.{Core}
 use Rattle.memory.specs.declared.Bus.{Bus}
 use Rattle.memory.specs.World.{World, Attempt, tried, putCpu, cpuOf}
 use Rattle.refusals.specs.Refusals.{oddBase, badCode}
-use Rattle.access.specs.Faults.{raised, exceptionBusError, exceptionAddressError}
+use Rattle.access.specs.Access.{raised, exceptionBusError, exceptionAddressError}
 use Rattle.exceptions.specs.Exceptions.{Entry, takeException, takeGroup2, trap, exceptionTrace, takeRewound, takeFpUnimp060, takeFpDisabled060}
 use Rattle.interrupts.specs.Interrupts.{checkAndService}
 use Rattle.calls.specs.declared.Call.{Call}

@@ -27,7 +27,7 @@ use Rattle.frames.specs.declared.Field.{Field}
 use Rattle.frames.specs.declared.Frame.{Frame}
 use Rattle.frames.specs.Frames.{fieldAt, isCounted, isRaw}
 use Rattle.steps.specs.Steps.{refusesOdd}
-use Rattle.access.specs.Faults.{Raise, wrote, checkedWrite, writeAt, stackField, pushField, pushFields, pushFrame}
+use Rattle.access.specs.Access.{Raise, wrote, checkedWrite, writeAt, stackField, pushField, pushFields, pushFrame}
 use Rattle.images.specs.Pushes.{calm, served-calm, laidField}
 use Rattle.images.specs.Images.{Sound, Allowed, frameBytes, fieldAddress, laid, newA7, minus-minus, minus-plus}
 

@@ -14,7 +14,7 @@ use Rattle.memory.specs.Log.{counted}
 use Rattle.memory.specs.Served.{servedOf, placeOf}
 use Rattle.memory.specs.World.{World, world, Attempt, reply, noted, putCpu, widthOf, served, fetched, readValue, flush, release, rawRead, tryRead, cpuOf, withCpu, step}
 use Rattle.steps.specs.Steps.{refusesOdd, vectorAddress}
-use Rattle.access.specs.Faults.{Raise, readOr, prefetchRead, keptFirst, firstFrom, prefetchFirst, keptSecond, secondFrom, prefetchSecond, checkedRead, readAt, vectorRead, refill, jumpTo, jumpVector}
+use Rattle.access.specs.Access.{Raise, readOr, prefetchRead, keptFirst, firstFrom, prefetchFirst, keptSecond, secondFrom, prefetchSecond, checkedRead, readAt, vectorRead, refill, jumpTo, jumpVector}
 use Rattle.images.specs.Pushes.{calm, served-calm}
 use Rattle.images.specs.Jumps.{vectorPlace, handler, Reachable}
 use Rattle.forms.specs.Gist.{gist, gistCpu, gist-gist, served-gist, flush-gist, address-gist, faulted-gist}

@@ -24,7 +24,7 @@ use Rattle.frames.specs.declared.Field.{Field}
 use Rattle.frames.specs.declared.Frame.{Frame}
 use Rattle.frames.specs.Frames.{word, framed, fieldAt, isCounted, isRaw}
 use Rattle.steps.specs.Steps.{refusesOdd}
-use Rattle.access.specs.Faults.{Raise, writeAt, shortWrites, pushExceptionFrame68000}
+use Rattle.access.specs.Access.{Raise, writeAt, shortWrites, pushExceptionFrame68000}
 use Rattle.images.specs.Pushes.{laidField}
 use Rattle.images.specs.Images.{Sound, Shape, Ready, Allowed, frameBytes, fieldAddress, laid, newA7, bottom, at-offset}
 use Rattle.forms.specs.Gist.{gist, wroteAt, at7, a7-gist, a7-at7, guard-form, lower-form, framedBy, minus-below}

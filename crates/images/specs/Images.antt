@@ -26,7 +26,7 @@ use Rattle.frames.specs.declared.Field.{Field}
 use Rattle.frames.specs.declared.Frame.{Frame}
 use Rattle.frames.specs.Frames.{fieldAt, isCounted, isRaw}
 use Rattle.steps.specs.Steps.{refusesOdd}
-use Rattle.access.specs.Faults.{Raise, stackField, pushField, pushFields, pushFrame}
+use Rattle.access.specs.Access.{Raise, stackField, pushField, pushFields, pushFrame}
 use Rattle.images.specs.Pushes.{calm, served-same, place-same, Kept, Left, laidField, field-left}
 
 -- the bytes of the first k fields of a frame, counted ones too: the offset of field k from the new A7

@@ -21,7 +21,7 @@ use Rattle.memory.specs.World.{World, world, Attempt, reply, noted, putCpu, wid
 use Rattle.frames.specs.declared.Frame.{Frame}
 use Rattle.frames.specs.Frames.{busFrame, addressFrame}
 use Rattle.steps.specs.Steps.{refusesOdd, vectorAddress, beginBus, beginAddress, enterBusError, closeBus}
-use Rattle.access.specs.Faults.{Raise, busError, addressError, readOr, prefetchRead, keptFirst, firstFrom, prefetchFirst, keptSecond, secondFrom, prefetchSecond, checkedRead, readAt, vectorRead, refill, jumpTo, jumpVector, pushFrame, exceptionBusError, exceptionAddressError, raiseBus, raiseAddress, trigger}
+use Rattle.access.specs.Access.{Raise, busError, addressError, readOr, prefetchRead, keptFirst, firstFrom, prefetchFirst, keptSecond, secondFrom, prefetchSecond, checkedRead, readAt, vectorRead, refill, jumpTo, jumpVector, pushFrame, exceptionBusError, exceptionAddressError, raiseBus, raiseAddress, trigger}
 use Rattle.images.specs.Pushes.{calm, served-same, place-same, Kept, kept-trans, Left, flush-left}
 use Rattle.images.specs.Images.{frameBytes, Shape, Ready, Image, Still, still-trans, read-same, image-still, stacked-image, stacked-runs, stacked-framed, stacked-serves, read-apart, newA7, bottom}
 use Rattle.images.specs.Lengths.{lengthOf, errorLength, busFormat, addressFormat, bus-length, address-length}

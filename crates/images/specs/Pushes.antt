@@ -22,7 +22,7 @@ use Rattle.memory.specs.AccessLaws.{kept, write-store}
 use Rattle.frames.specs.declared.Field.{Field}
 use Rattle.frames.specs.Frames.{isCounted, isRaw}
 use Rattle.steps.specs.Steps.{refusesOdd}
-use Rattle.access.specs.Faults.{Raise, wrote, checkedWrite, writeAt, stackField}
+use Rattle.access.specs.Access.{Raise, wrote, checkedWrite, writeAt, stackField}
 
 -- a bus with its events not counted: base, windows and responses
 unfoldable pub calm : Bus → Bus

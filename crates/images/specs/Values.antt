@@ -18,7 +18,7 @@ use Rattle.frames.specs.declared.Field.{Field}
 use Rattle.frames.specs.declared.Frame.{Frame}
 use Rattle.frames.specs.Frames.{word, long, framed, gapWord, fieldAt, frame68000, frame8, frame2, frame0, frame4, frame7, frame11, writeData, addressFrame, busFrame, isCounted}
 use Rattle.steps.specs.Steps.{enterBusError}
-use Rattle.access.specs.Faults.{Raise, pushFrame, exceptionBusError, exceptionAddressError}
+use Rattle.access.specs.Access.{Raise, pushFrame, exceptionBusError, exceptionAddressError}
 use Rattle.images.specs.Images.{frameBytes, bottom, Ready, Image, field-value}
 use Rattle.images.specs.Jumps.{Reachable, bus-image, address-image}
 use Rattle.frames.specs.Codes.{functionCode, isSupervisor, stateCode, faultCode, faultWord, size020, ssw020, isCause, size040, ssw040, wb3s, causeBit, size060, fslw060}

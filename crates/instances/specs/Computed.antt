@@ -12,7 +12,7 @@ use Rattle.memory.specs.Log.{noteLog, counted}
 use Rattle.memory.specs.Served.{meets, clearOf, windowsInUse, inStore, servedOf, placeOf}
 use Rattle.memory.specs.World.{World, putCpu, withCpu, stored, noted, served, written, fetched, rawWrite, tryWrite, readValue, rawRead, tryRead, flush, release, responseOf, acknowledged}
 use Rattle.frames.specs.Codes.{functionCode, isSupervisor, stateCode, faultCode, size020, ssw020, isCause, size040, ssw040, wb3s, causeBit, size060, fslw060}
-use Rattle.access.specs.Faults.{readOr, prefetchRead, keptFirst, firstFrom, prefetchFirst, keptSecond, secondFrom, prefetchSecond, checkedRead, readAt, wrote, checkedWrite, writeAt, stackField, pushField, pushFields, shortWrites, pushExceptionFrame68000, vectorRead, refill, jumpTo, jumpVector, pushFrame, exceptionBusError, raiseBus, trigger}
+use Rattle.access.specs.Access.{readOr, prefetchRead, keptFirst, firstFrom, prefetchFirst, keptSecond, secondFrom, prefetchSecond, checkedRead, readAt, wrote, checkedWrite, writeAt, stackField, pushField, pushFields, shortWrites, pushExceptionFrame68000, vectorRead, refill, jumpTo, jumpVector, pushFrame, exceptionBusError, raiseBus, trigger}
 use Rattle.frames.specs.Frames.{fieldAt, frame4, frame7, frame11, writeData, busFrame, isCounted, isRaw}
 use Rattle.steps.specs.Steps.{refusesOdd, vectorAddress, beginBus, enterBusError, stacksNext, stackedAddress, beginEntry, iackVector, enterLevel, withS, closeInterrupt}
 use Rattle.images.specs.Images.{frameBytes}

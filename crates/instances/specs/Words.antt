@@ -16,7 +16,7 @@ use Rattle.memory.specs.World.{World, putCpu, served, readValue, withCpu}
 use Rattle.frames.specs.declared.Frame.{Frame}
 use Rattle.frames.specs.Frames.{fieldAt, busFrame, isCounted}
 use Rattle.steps.specs.Steps.{refusesOdd, enterBusError}
-use Rattle.access.specs.Faults.{raised, pushFrame, exceptionBusError}
+use Rattle.access.specs.Access.{raised, pushFrame, exceptionBusError}
 use Rattle.images.specs.Images.{frameBytes, bottom, Ready, Sound, ready-whole}
 use Rattle.images.specs.Jumps.{Reachable, vectorPlace, handler, reachable-after}
 use Rattle.images.specs.Values.{bus-fields}

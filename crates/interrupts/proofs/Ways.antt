@@ -8,7 +8,7 @@ use mathlib.Core.List.{List}
 use lib.ListN.{length, getD, set}
 use lib.Dec.{eqb, ltb, leb}
 use native.Mathlib.Numerals.{sub-one}
-use Rattle.access.specs.Faults.{jumpVector, pushFrame, raised, writeAt}
+use Rattle.access.specs.Access.{jumpVector, pushFrame, raised, writeAt}
 use Rattle.cpu.specs.Clocks.{internalCycles}
 use Rattle.cpu.specs.Fields.{a7Of, kindOf, lowerA7, pcOf}
 use Rattle.cpu.specs.declared.Cpu.{Cpu}

@@ -14,7 +14,7 @@ use Rattle.cpu.specs.Clocks.{setClocks, internalCycles}
 use Rattle.memory.specs.World.{World, putCpu, cpuOf, withCpu, step}
 use Rattle.frames.specs.Frames.{fieldAt, isCounted}
 use Rattle.steps.specs.Steps.{stackedAddress, beginEntry, beginTrace}
-use Rattle.access.specs.Faults.{raised, jumpVector, pushFrame}
+use Rattle.access.specs.Access.{raised, jumpVector, pushFrame}
 use Rattle.exceptions.specs.Frames.{formatWord, offsetWord, shortFrame, longFrame, disabledFrame}
 use Rattle.exceptions.specs.Exceptions.{entry, supervised, stackShort, finished, taken, takeException, stackGroup2, takeGroup2, trap, exceptionTrace, takeRewound, stackUnimp, takeFpUnimp060, stackDisabled, takeFpDisabled060}
 use Rattle.bounds.specs.Skeleton.{Raises, afterFields, refills, pick-one, clocks-ways, pushShort-good, stacked-good, jump-good}

@@ -16,7 +16,7 @@ use Rattle.cpu.specs.Clocks.{hasClocks, setClocks, internalCycles}
 use Rattle.pending.specs.Interrupts.{pendingLevel, maskLevel, takesInterrupt, clearLevel, chargeInterrupt, charged}
 use Rattle.pending.specs.Laws.{seven-taken, taken-above, taken-exceeds, exceeding-taken}
 use Rattle.memory.specs.World.{World, Attempt, tried, putCpu, noted, flush, responseOf, acknowledged, cpuOf, withCpu, step}
-use Rattle.access.specs.Faults.{raised, writeAt, jumpVector}
+use Rattle.access.specs.Access.{raised, writeAt, jumpVector}
 use Rattle.exceptions.specs.Frames.{formatWord, offsetWord}
 use Rattle.steps.specs.Steps.{enterLevel, withS, closeInterrupt}
 use Rattle.interrupts.specs.Interrupts.{vectorFrom, acknowledgeLevel, syncedAcknowledge, rest68000, from68000, writes68010, rest68010, restOther, firstFrame, throwaway, secondFrame, ended, dispatched, serviceInterrupt, serviced, checkAndService, pushInterrupt68000, pushInterrupt68010, pushInterruptOther}

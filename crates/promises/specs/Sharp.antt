@@ -17,7 +17,7 @@ use Rattle.memory.specs.Bytes.{putWord, putLong, getWord, getLong}
 use Rattle.memory.specs.Log.{noteLog, counted}
 use Rattle.memory.specs.Served.{meets, clearOf, windowsInUse, inStore, servedOf, placeOf}
 use Rattle.memory.specs.World.{World, world, putCpu, withCpu, stored, noted, served, written, fetched, rawWrite, tryWrite, readValue, rawRead, tryRead, flush, release, responseOf, acknowledged}
-use Rattle.access.specs.Faults.{readOr, prefetchRead, keptFirst, firstFrom, prefetchFirst, keptSecond, secondFrom, prefetchSecond, checkedRead, readAt, wrote, checkedWrite, writeAt, stackField, pushField, pushFields, vectorRead, refill, jumpTo, jumpVector, pushFrame, exceptionAddressError, exceptionBusError, raiseBus, raiseAddress, trigger}
+use Rattle.access.specs.Access.{readOr, prefetchRead, keptFirst, firstFrom, prefetchFirst, keptSecond, secondFrom, prefetchSecond, checkedRead, readAt, wrote, checkedWrite, writeAt, stackField, pushField, pushFields, vectorRead, refill, jumpTo, jumpVector, pushFrame, exceptionAddressError, exceptionBusError, raiseBus, raiseAddress, trigger}
 use Rattle.frames.specs.Frames.{fieldAt, frame68000, frame8, frame2, frame0, frame4, frame7, frame11, addressFrame, busFrame, isCounted, isRaw}
 use Rattle.steps.specs.Steps.{refusesOdd, vectorAddress, beginBus, beginAddress, enterBusError, beginEntry, iackVector, enterLevel, closeInterrupt}
 use Rattle.exceptions.specs.Exceptions.{stackShort, finished, taken, takeException, stackGroup2, takeGroup2, stackUnimp, takeFpUnimp060, stackDisabled, takeFpDisabled060}

@@ -8,7 +8,7 @@ use Rattle.cpu.specs.declared.Cpu.{Cpu}
 use Rattle.cpu.specs.Fields.{rewindPc, leaveStop, noteFpiar}
 use Rattle.status.specs.Status.{putBackSr}
 use Rattle.frames.specs.Frames.{frame8, frame68000, addressFrame}
-use Rattle.access.specs.Faults.{exceptionAddressError}
+use Rattle.access.specs.Access.{exceptionAddressError}
 use Rattle.exceptions.specs.Frames.{disabledFrame}
 use Rattle.exceptions.specs.Exceptions.{takeRewound, beginTrace, exceptionTrace, stackUnimp, takeFpUnimp060, stackDisabled, takeFpDisabled060}
 use Rattle.images.specs.Pushes.{calm, laidField}
