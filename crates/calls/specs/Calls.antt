@@ -12,6 +12,7 @@ use Rattle.pending.specs.Trace.{checkTrace}
 use Rattle.pending.specs.Interrupts.{setIrq, checkInterrupts}
 use Rattle.memory.specs.declared.Core.{Core}
 use Rattle.memory.specs.declared.Bus.{Bus}
+use Rattle.memory.specs.Log.{withEvents}
 use Rattle.memory.specs.World.{World, Attempt, world, withCpu, cpuOf, step}
 use Rattle.frames.specs.Frames.{word, long}
 use Rattle.access.specs.Access.{raised, busError, addressError, readAt, writeAt, pushField, prefetchFirst, prefetchSecond, exceptionBusError, exceptionAddressError}
@@ -116,7 +117,7 @@ run w PrefetchSecond = plain (prefetchSecond raised w)
 
 -- the log starts at its first word
 unfoldable pub restarted : Core → Core
-restarted m = record { cpu = m .cpu; bus = record { base = m .bus .base; windows = m .bus .windows; starts = m .bus .starts; lengths = m .bus .lengths; responses = m .bus .responses; events = 0 } }
+restarted m = record { cpu = m .cpu; bus = withEvents (m .bus) 0 }
 
 unfoldable pub begun : World → World
 begun w = world (restarted (w .core)) (w .store) (w .log)

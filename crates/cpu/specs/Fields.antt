@@ -113,7 +113,9 @@ clearFcOverride c = withMmuFcOverride c (record { some = false; value = 0 })
 
 -- a vectored dispatch ends loop mode and leaves its vector in both vector fields
 unfoldable pub startVector : Cpu → ℕ → Cpu
-startVector c v = withLastExceptionVector (withInstructionExceptionVector (withLoopMode c false) (record { some = true; value = v })) (record { some = true; value = v })
+startVector c v =
+    withLastExceptionVector
+    (withInstructionExceptionVector (withLoopMode c false) (record { some = true; value = v })) (record { some = true; value = v })
 
 -- a minus n modulo 2^32
 unfoldable pub minus32 : ℕ → ℕ → ℕ

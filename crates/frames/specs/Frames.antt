@@ -101,5 +101,7 @@ busFrame c a write instruction z cause =
     pick (eqb (kindOf c) 1) (frame68000 (getSr c) (ppcOf c) (irOf c % 0x10000) a (faultWord (faultCode c instruction) write instruction))
     (pick (isPre68020 (kindOf c)) (frame8 (getSr c) (ppcOf c) 0x8008)
     (pick (is060 (kindOf c)) (frame4 (getSr c) (ppcOf c) a (fslw060 write instruction z (faultCode c instruction) cause))
-    (pick (is040 (kindOf c)) (frame7 (getSr c) (ppcOf c) a (ssw040 (faultCode c instruction) write z cause) (wb3s (faultCode c instruction) write z) (pick write a 0) (writeData c write))
+    (pick (is040 (kindOf c))
+    (frame7 (getSr c) (ppcOf c) a (ssw040 (faultCode c instruction) write z cause) (wb3s (faultCode c instruction) write z) (pick write a 0)
+    (writeData c write))
     (frame11 (getSr c) (ppcOf c) (ssw020 (faultCode c instruction) write instruction z) (pick instruction 0 a) (writeData c write) (pick instruction a 0)))))

@@ -11,6 +11,10 @@ use Rattle.memory.specs.declared.Bus.{Bus}
 unfoldable pub noteLog : ℕ → List ℕ → ℕ → ℕ → ℕ → List ℕ
 noteLog n l code a v = pick (ltb (n * 3 + 2) (length l)) (set (set (set l (n * 3) code) (n * 3 + 1) a) (n * 3 + 2) v) l
 
+-- the bus with another number of events
+abbrev pub withEvents : Bus → ℕ → Bus
+withEvents b n = record { base = b .base; windows = b .windows; starts = b .starts; lengths = b .lengths; responses = b .responses; events = n }
+
 -- one event more
 unfoldable pub counted : Bus → Bus
-counted b = record { base = b .base; windows = b .windows; starts = b .starts; lengths = b .lengths; responses = b .responses; events = (b .events + 1) % 2 ^ 32 }
+counted b = withEvents b ((b .events + 1) % 2 ^ 32)

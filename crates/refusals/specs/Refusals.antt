@@ -12,9 +12,13 @@ use Rattle.memory.specs.declared.Bus.{Bus}
 use Rattle.memory.specs.declared.Core.{Core}
 use Rattle.refusals.specs.declared.Matter.{Matter}
 
+-- a flag is 0 or its one other value
+abbrev pub isFlag : ℕ → ℕ → Bool
+isFlag n k = either (eqb n 0) (eqb n k)
+
 -- 1: `s_flag` not 0 or 4, or `m_flag` not 0 or 2
 unfoldable pub badFlags : Cpu → Bool
-badFlags c = not (both (either (eqb (c .flags .«s_flag») 0) (eqb (c .flags .«s_flag») 4)) (either (eqb (c .flags .«m_flag») 0) (eqb (c .flags .«m_flag») 2)))
+badFlags c = not (both (isFlag (c .flags .«s_flag») 4) (isFlag (c .flags .«m_flag») 2))
 
 -- 2: odd `vbr` on kinds 1, 2, 10
 unfoldable pub oddBase : Cpu → Bool

@@ -10,7 +10,8 @@ use borrow.Author.Tests.{eqb-true, ltb-true, ltb-false, leb-true, leb-false, le-
 use lib.Dec.{eqb, ltb, leb}
 use lib.ListN.{length, getD, replicate}
 use Rattle.types.specs.Kinds.{pick, both, either, isPre68020, is040, is060, maskAddress}
-use Rattle.types.specs.Tables.{frameLength, formatLength, takesFormat, length-past-formats}
+use Rattle.types.specs.Tables.{frameLength, formatLength, takesFormat}
+use Rattle.types.specs.Past.{length-past-formats}
 use Rattle.types.specs.Every.{every, at}
 use Rattle.memory.specs.declared.Bus.{Bus}
 use Rattle.memory.specs.Served.{servedOf, windowsInUse, placeOf}

@@ -13,8 +13,10 @@ use Rattle.cpu.specs.Fields.{kindOf}
 -- `get_sr`: each flag gives the bit that is tested in it; Z is set where `not_z_flag` is 0
 unfoldable pub compose : Flags → ℕ
 compose f =
-    f .«t1_flag» / 0x8000 % 2 * 0x8000 + f .«t0_flag» / 0x4000 % 2 * 0x4000 + f .«s_flag» / 4 % 2 * 0x2000 + f .«m_flag» / 2 % 2 * 0x1000 + f .«int_mask» / 256 % 8 * 256
-    + (f .«x_flag» / 256 % 2 * 16 + f .«n_flag» / 128 % 2 * 8 + f .«v_flag» / 128 % 2 * 2 + f .«c_flag» / 256 % 2) + pick (eqb (f .«not_z_flag») 0) 4 0
+    f .«t1_flag» / 0x8000 % 2 * 0x8000 + f .«t0_flag» / 0x4000 % 2 * 0x4000 + f .«s_flag» / 4 % 2 * 0x2000 + f .«m_flag» / 2 % 2 * 0x1000
+    + f .«int_mask» / 256 % 8 * 256
+    + (f .«x_flag» / 256 % 2 * 16 + f .«n_flag» / 128 % 2 * 8 + f .«v_flag» / 128 % 2 * 2 + f .«c_flag» / 256 % 2)
+    + pick (eqb (f .«not_z_flag») 0) 4 0
 
 unfoldable pub getSr : Cpu → ℕ
 getSr c = compose (c .flags)
@@ -61,7 +63,10 @@ restoreSr c = setSrNointNosp c (c .flags .«sr_save»)
 
 -- `set_ccr_internal`: the five condition codes
 unfoldable pub setCcr : Cpu → ℕ → Cpu
-setCcr c ccr = withCFlag (withVFlag (withNotZFlag (withNFlag (withXFlag c (ccr / 16 % 2 * 256)) (ccr / 8 % 2 * 128)) (1 - ccr / 4 % 2)) (ccr / 2 % 2 * 128)) (ccr % 2 * 256)
+setCcr c ccr =
+    withCFlag
+    (withVFlag (withNotZFlag (withNFlag (withXFlag c (ccr / 16 % 2 * 256)) (ccr / 8 % 2 * 128)) (1 - ccr / 4 % 2)) (ccr / 2 % 2 * 128))
+    (ccr % 2 * 256)
 
 -- an entry clears both trace flags
 unfoldable pub clearTrace : Cpu → Cpu

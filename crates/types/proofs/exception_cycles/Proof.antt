@@ -8,7 +8,8 @@ use lib.ListN.{replicate}
 use lib.Dec.{eqb}
 use borrow.Author.Tests.{eqb-true}
 use borrow.Author.Needs.{needs}
-use Rattle.types.specs.Tables.{exceptionCycles, cycles-past}
+use Rattle.types.specs.Tables.{exceptionCycles}
+use Rattle.types.specs.Past.{cycles-past}
 use Rattle.types.specs.Every.{at}
 use Rattle.types.proofs.exception_cycles.Statement.{statement}
 use Rattle.types.proofs.exception_cycles.Tie as tie

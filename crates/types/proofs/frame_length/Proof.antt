@@ -9,7 +9,8 @@ use lib.Dec.{eqb}
 use borrow.Author.Tests.{eqb-true}
 use borrow.Author.Needs.{needs}
 use Rattle.types.specs.Kinds.{both, is040, is060}
-use Rattle.types.specs.Tables.{takesFormat, formatLength, frameLength, length-past-kinds, length-past-formats}
+use Rattle.types.specs.Tables.{takesFormat, formatLength, frameLength}
+use Rattle.types.specs.Past.{length-past-kinds, length-past-formats}
 use Rattle.types.specs.Every.{every, at, both-left, both-right}
 use Rattle.types.proofs.frame_length.Statement.{statement}
 use Rattle.types.proofs.frame_length.Tie as tie
