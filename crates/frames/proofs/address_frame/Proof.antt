@@ -8,7 +8,7 @@ use Rattle.frames.proofs.address_frame.Lts as lts
 use Rattle.cpu.proofs.fields.kind.Reads as kind-reads
 use Rattle.cpu.proofs.fields.ppc.Reads as ppc-reads
 use Rattle.frames.proofs.codes.state_code.Reads as state-code-reads
-use Rattle.frames.proofs.codes.fault_word.Reads as status-word-reads
+use Rattle.frames.proofs.codes.fault_word.Reads as fault-word-reads
 use Rattle.frames.proofs.even.Reads as even-reads
 use Rattle.frames.proofs.frame_0.Reads as frame-0-reads
 use Rattle.frames.proofs.frame_2.Reads as frame-2-reads
@@ -35,8 +35,8 @@ is-68000-requires c κs = search needs
 state-code-requires : tie.Need-state-code-requires
 state-code-requires c κs = search needs
 
-status-word-requires : tie.Need-status-word-requires
-status-word-requires c κs = search needs
+fault-word-requires : tie.Need-fault-word-requires
+fault-word-requires c κs = search needs
 
 ir-word-requires : tie.Need-ir-word-requires
 ir-word-requires c κs = search needs
@@ -45,7 +45,7 @@ frame-68000-requires : tie.Need-frame-68000-requires
 frame-68000-requires c κs = search needs
 
 returns : tie.Need-returns
-returns c = address-frame-way _ _ _ _ _ _ _ _ _ _ _ _ (c .before .before .before .before .before .before .before .before .kind .ensures) (c .before .before .before .before .before .before .before .status-of .ensures) (c .before .before .before .before .before .before .ppc .ensures) (c .before .before .before .before .before .is-68000 .ensures) (c .before .before .before .before .if1 .taken) (c .before .before .before .state-code .ensures .0) (c .before .before .status-word .ensures) (c .before .ir-word .ensures) (c .frame-68000 .ensures)
+returns c = address-frame-way _ _ _ _ _ _ _ _ _ _ _ _ (c .before .before .before .before .before .before .before .before .kind .ensures) (c .before .before .before .before .before .before .before .status-of .ensures) (c .before .before .before .before .before .before .ppc .ensures) (c .before .before .before .before .before .is-68000 .ensures) (c .before .before .before .before .if1 .taken) (c .before .before .before .state-code .ensures .0) (c .before .before .fault-word .ensures) (c .before .ir-word .ensures) (c .frame-68000 .ensures)
 
 is-pre-68020-requires : tie.Need-is-pre-68020-requires
 is-pre-68020-requires c κs = search needs
@@ -83,7 +83,7 @@ address-frame-spec =
     ppc-requires
     is-68000-requires
     state-code-requires
-    status-word-requires
+    fault-word-requires
     ir-word-requires
     frame-68000-requires
     returns

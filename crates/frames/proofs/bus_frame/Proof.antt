@@ -11,7 +11,7 @@ use Rattle.frames.proofs.codes.fault_code.Reads as fault-code-reads
 use Rattle.frames.proofs.codes.fslw_060.Reads as fslw-060-reads
 use Rattle.frames.proofs.codes.ssw_020.Reads as ssw-020-reads
 use Rattle.frames.proofs.codes.ssw_040.Reads as ssw-040-reads
-use Rattle.frames.proofs.codes.fault_word.Reads as status-word-reads
+use Rattle.frames.proofs.codes.fault_word.Reads as fault-word-reads
 use Rattle.frames.proofs.codes.wb3_status.Reads as wb3-status-reads
 use Rattle.frames.proofs.either_of.Reads as either-of-reads
 use Rattle.frames.proofs.frame_11.Reads as frame-11-reads
@@ -42,8 +42,8 @@ fault-code-requires c κs = search needs
 is-68000-requires : tie.Need-is-68000-requires
 is-68000-requires c κs = search needs
 
-status-word-requires : tie.Need-status-word-requires
-status-word-requires c κs = search needs
+fault-word-requires : tie.Need-fault-word-requires
+fault-word-requires c κs = search needs
 
 ir-word-requires : tie.Need-ir-word-requires
 ir-word-requires c κs = search needs
@@ -52,7 +52,7 @@ frame-68000-requires : tie.Need-frame-68000-requires
 frame-68000-requires c κs = search needs
 
 returns : tie.Need-returns
-returns c = bus-frame-way _ _ _ _ _ _ _ _ _ _ _ _ _ _ (c .before .before .before .before .before .before .before .before .kind .ensures) (c .before .before .before .before .before .before .before .status-of .ensures) (c .before .before .before .before .before .before .ppc .ensures) (c .before .before .before .before .before .fault-code .ensures .0) (c .before .before .before .before .is-68000 .ensures) (c .before .before .before .if1 .taken) (c .before .before .status-word .ensures) (c .before .ir-word .ensures) (c .frame-68000 .ensures)
+returns c = bus-frame-way _ _ _ _ _ _ _ _ _ _ _ _ _ _ (c .before .before .before .before .before .before .before .before .kind .ensures) (c .before .before .before .before .before .before .before .status-of .ensures) (c .before .before .before .before .before .before .ppc .ensures) (c .before .before .before .before .before .fault-code .ensures .0) (c .before .before .before .before .is-68000 .ensures) (c .before .before .before .if1 .taken) (c .before .before .fault-word .ensures) (c .before .ir-word .ensures) (c .frame-68000 .ensures)
 
 is-pre-68020-requires : tie.Need-is-pre-68020-requires
 is-pre-68020-requires c κs = search needs
@@ -120,7 +120,7 @@ bus-frame-spec =
     ppc-requires
     fault-code-requires
     is-68000-requires
-    status-word-requires
+    fault-word-requires
     ir-word-requires
     frame-68000-requires
     returns

@@ -26,7 +26,7 @@ returns : tie.Need-returns
 unfolding faultWord
 returns c = cc (c .before .number-unless .ensures .0, c .number-unless2 .ensures .0)
 
-pub status-word-spec : {M : Type 1} → statement M
-status-word-spec =
+pub fault-word-spec : {M : Type 1} → statement M
+fault-word-spec =
     tie.close
     (tie.spec number-unless-requires add-result number-unless-requires-2 add-result-2 returns)
