@@ -9,6 +9,7 @@ pub mod case;
 pub mod generate;
 pub mod leaf;
 pub mod measure;
+pub mod nest;
 pub mod record;
 pub mod rng;
 pub mod stubs;

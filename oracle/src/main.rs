@@ -2,12 +2,12 @@
 
 use oracle::rng::Rng;
 use oracle::text::changed;
-use oracle::{Case, Record, format, format_case, generate, leaf, parse, run};
+use oracle::{Case, Record, format, format_case, generate, leaf, nest, parse, run};
 use std::collections::BTreeMap;
 use std::io::{BufRead, BufReader, BufWriter, Read, Write};
 use std::process::ExitCode;
 
-const USAGE: &str = "usage: oracle gen SEED COUNT | run | replay FILE|- | replay --first FILE|- \
+const USAGE: &str = "usage: oracle gen SEED COUNT | nests SEED COUNT | run | replay FILE|- | replay --first FILE|- \
                      | cover SEED COUNT | tables";
 
 fn main() -> ExitCode {
@@ -17,6 +17,7 @@ fn main() -> ExitCode {
     let args: Vec<&str> = args.iter().map(String::as_str).collect();
     let done = match args[..] {
         ["gen", seed, count] => numbers(seed, count, generated),
+        ["nests", seed, count] => numbers(seed, count, nests),
         ["cover", seed, count] => numbers(seed, count, cover),
         ["run"] => answers(),
         ["replay", file] => replay(file, false),
@@ -53,6 +54,20 @@ fn generated(seed: u64, count: u64) -> Done {
     for _ in 0..count {
         let case = generate::case(&mut rng);
         writeln!(out, "{} => {}", format_case(&case), answer(&case)).map_err(text)?;
+    }
+    out.flush().map_err(text)?;
+    Ok(true)
+}
+
+/// COUNT lists that meet the premises of rule 3, a case a step. Each list's walk and returns are held to its book.
+fn nests(seed: u64, count: u64) -> Done {
+    let mut rng = Rng::new(seed);
+    let mut out = BufWriter::with_capacity(1 << 18, std::io::stdout().lock());
+    for number in 0..count {
+        let cases = nest::list(&mut rng).map_err(|e| format!("list {number} of seed {seed}: {e}"))?;
+        for (case, outcome) in &cases {
+            writeln!(out, "{} => {}", format_case(case), format(case, outcome)).map_err(text)?;
+        }
     }
     out.flush().map_err(text)?;
     Ok(true)
