@@ -64,7 +64,8 @@ fn nests(seed: u64, count: u64) -> Done {
     let mut rng = Rng::new(seed);
     let mut out = BufWriter::with_capacity(1 << 18, std::io::stdout().lock());
     for number in 0..count {
-        let cases = nest::list(&mut rng).map_err(|e| format!("list {number} of seed {seed}: {e}"))?;
+        let cases =
+            nest::list(&mut rng).map_err(|e| format!("list {number} of seed {seed}: {e}"))?;
         for (case, outcome) in &cases {
             writeln!(out, "{} => {}", format_case(case), format(case, outcome)).map_err(text)?;
         }

@@ -153,7 +153,8 @@ impl Nest {
             }
         }
         let len = self.bytes.len() as u64;
-        let store = Store { base: self.base, len, fill: 0, patch, win: self.win.clone(), ack: self.ack };
+        let store =
+            Store { base: self.base, len, fill: 0, patch, win: self.win.clone(), ack: self.ack };
         Case { call, kind: self.kind, record: self.record.clone(), store, log }
     }
 
@@ -171,7 +172,11 @@ impl Nest {
         let sr = leaf::get_sr(r);
         let even = [r.dar[15], r.sp[0], r.sp[4], r.sp[6]].iter().all(|p| p % 2 == 0);
         let own = (sr & 0x2000 != 0) == (r.s_flag != 0) && (sr & 0x1000 != 0) == (r.m_flag != 0);
-        r.run_mode != 1 && !r.exception_processing && even && sr & !status_mask(self.kind) == 0 && own
+        r.run_mode != 1
+            && !r.exception_processing
+            && even
+            && sr & !status_mask(self.kind) == 0
+            && own
     }
 
     fn masked(&self, address: u32) -> u32 {
@@ -183,7 +188,8 @@ impl Nest {
         let first = u64::from(self.masked(frame.at));
         let end = first + u64::from(frame.length);
         let bus = self.case(Call::Return, 0).store.bus(self.bytes.clone(), 0);
-        let served = (0..frame.length).all(|i| bus.byte(self.masked(frame.at.wrapping_add(i))).is_some());
+        let served =
+            (0..frame.length).all(|i| bus.byte(self.masked(frame.at.wrapping_add(i))).is_some());
         let apart = |f: &Frame| {
             let other = u64::from(self.masked(f.at));
             end <= other || other + u64::from(f.length) <= first
@@ -200,7 +206,8 @@ impl Nest {
             return self.adopt(case, out);
         };
         let mut live: Vec<Frame> = self.book.iter().flat_map(|line| line.frames.clone()).collect();
-        let error = matches!(call, Call::ExceptionAddressError { .. } | Call::ExceptionBusError { .. });
+        let error =
+            matches!(call, Call::ExceptionAddressError { .. } | Call::ExceptionBusError { .. });
         if !self.sound() || self.kind == 1 && error {
             return;
         }
@@ -242,10 +249,30 @@ impl Nest {
             Call::ExceptionChk => group(6),
             Call::ExceptionZeroDivide => group(5),
             Call::ExceptionTrace => group(9),
-            Call::ExceptionAddressError { .. } => (if early { 8 } else if forty { 2 } else { 0 }, 3, r.ppc),
-            Call::ExceptionBusError { .. } => {
-                (if early { 8 } else if k == 11 { 4 } else if forty { 7 } else { 11 }, 2, r.ppc)
-            }
+            Call::ExceptionAddressError { .. } => (
+                if early {
+                    8
+                } else if forty {
+                    2
+                } else {
+                    0
+                },
+                3,
+                r.ppc,
+            ),
+            Call::ExceptionBusError { .. } => (
+                if early {
+                    8
+                } else if k == 11 {
+                    4
+                } else if forty {
+                    7
+                } else {
+                    11
+                },
+                2,
+                r.ppc,
+            ),
             Call::TakeFpUnimp060(_) => (2, 11, r.pc),
             Call::TakeFpDisabled060 => (4, 11, r.ppc),
             Call::CheckAndServiceInterrupts => {
@@ -260,7 +287,8 @@ impl Nest {
         };
         let length = if k == 1 { 6 } else { u32::from(LENGTHS[k as usize][format as usize]) };
         let master = r.m_flag != 0 && k != 11;
-        let under = Frame { at: self.pointer(if master { 6 } else { 4 }).wrapping_sub(length), length };
+        let under =
+            Frame { at: self.pointer(if master { 6 } else { 4 }).wrapping_sub(length), length };
         let status = u32::from(leaf::get_sr(r));
         let offset = if k == 1 { 0 } else { vector * 4 };
         let interrupt = call == Call::CheckAndServiceInterrupts;
@@ -279,7 +307,10 @@ impl Nest {
         let out = run(&case);
         let gives = (u32::from(out.status), out.record.pc, out.record.dar[15]);
         if out.refused != 0 || out.rows != [row] || gives != (row[1], row[2], a7) {
-            return Err(format!("a return gives {gives:x?}, {:x?}; the book {row:x?}, A7 {a7:x}", out.rows));
+            return Err(format!(
+                "a return gives {gives:x?}, {:x?}; the book {row:x?}, A7 {a7:x}",
+                out.rows
+            ));
         }
         self.book.pop();
         self.adopt(case, out);
@@ -317,7 +348,8 @@ impl Nest {
         let (base, kind) = (self.base, self.kind);
         let inside = |at: u32| {
             let a = base.wrapping_add(at) & address_mask(kind);
-            live.iter().any(|f| (0..f.length).any(|i| f.at.wrapping_add(i) & address_mask(kind) == a))
+            live.iter()
+                .any(|f| (0..f.length).any(|i| f.at.wrapping_add(i) & address_mask(kind) == a))
         };
         for _ in 0..rng.below(4) {
             let at = VECTORS + rng.below(self.bytes.len() as u32 - VECTORS);
