@@ -80,11 +80,11 @@ unfoldable pub decode : RawCall → Decoded
 decode c = find (c .number) (callsOf c)
 
 -- the public call, its answer in numbers; 99 where the number names no call
-unfoldable pub ofPerformance : Performed → Outcome
-ofPerformance x = outcome (x .after) (refusedBy (x .answer)) (valueOf (x .answer)) (countOf (x .answer))
+unfoldable pub ofPerformed : Performed → Outcome
+ofPerformed x = outcome (x .after) (refusedBy (x .answer)) (valueOf (x .answer)) (countOf (x .answer))
 
 unfoldable pub rawOf : World → Decoded → Outcome
-rawOf w (Known c) = ofPerformance (perform w c)
+rawOf w (Known c) = ofPerformed (perform w c)
 rawOf w Unknown = outcome w 99 0 0
 
 unfoldable pub rawCall : World → RawCall → Outcome

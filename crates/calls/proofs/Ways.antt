@@ -22,9 +22,9 @@ use Rattle.calls.specs.declared.Call.{Call}
 use Rattle.refusals.specs.declared.Matter.{Matter}
 use Rattle.calls.specs.Matters.{matterOf}
 use Rattle.refusals.specs.Refusals.{refusalOf}
-use Rattle.calls.specs.Calls.{Performed, answered, eventsOf, cycles, flag, plain, ofEntry, ofRead, ofService, ofTrace, run, restarted, begun, refusal, perform}
+use Rattle.calls.specs.Calls.{Performed as Result, answered, eventsOf, cycles, flag, plain, ofEntry, ofRead, ofService, ofTrace, run, restarted, begun, refusal, perform}
 
-pub perform-way : (m : Core) {d : Core} (s l : List ℕ) {n : ℕ} (x : Matter) (call : Call) {b : Bool} {e : Performed} → x ≡ matterOf call → n ≡ refusalOf m (length s) (length l) x → b ≡ eqb n 0 → b ≡ true → d ≡ restarted m → e ≡ run (world d s l) call → e ≡ perform (world m s l) call
+pub perform-way : (m : Core) {d : Core} (s l : List ℕ) {n : ℕ} (x : Matter) (call : Call) {b : Bool} {e : Result} → x ≡ matterOf call → n ≡ refusalOf m (length s) (length l) x → b ≡ eqb n 0 → b ≡ true → d ≡ restarted m → e ≡ run (world d s l) call → e ≡ perform (world m s l) call
 unfolding perform refusal begun
 perform-way m s l x call h0 h1 h2 h3 h4 h5 = cc
 
