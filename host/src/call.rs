@@ -143,8 +143,8 @@ pub struct Answer {
     pub events: u32,
 }
 
-/// Why a call was refused: the lowest number of those that apply. The call left record, bus, store and
-/// log as they came.
+/// Why a call, a return or a walk was refused: of 1 to 10 the lowest that applies; 11 to 13 are met by a
+/// return on its way. Record, bus, store and log are as they came.
 #[derive(Debug, Clone, Copy, PartialEq, Eq)]
 pub enum Refusal {
     /// 1: `s_flag` is not 0 or 4, or `m_flag` is not 0 or 2.
@@ -165,13 +165,21 @@ pub enum Refusal {
     Vector,
     /// 9: the kind is above 11, or a floating-point entry meets another kind than 11.
     Kind,
+    /// 10: a walk is lent fewer than four words for each row.
+    Rows,
+    /// 11: a return in user mode.
+    User,
+    /// 12: bytes of a frame are not served, or A7 is odd on kind 1, 2 or 10.
+    Frame,
+    /// 13: the kind takes no frame of that format, or format 1 stands under format 1.
+    Format,
     /// Any other number: 99 where no call has the number that was asked for.
     Other(u32),
 }
 
 impl Refusal {
     /// The refusal of a number; 0 is none.
-    fn from_number(number: u32) -> Option<Refusal> {
+    pub(crate) fn from_number(number: u32) -> Option<Refusal> {
         Some(match number {
             0 => return None,
             1 => Refusal::Mode,
@@ -183,6 +191,10 @@ impl Refusal {
             7 => Refusal::Log,
             8 => Refusal::Vector,
             9 => Refusal::Kind,
+            10 => Refusal::Rows,
+            11 => Refusal::User,
+            12 => Refusal::Frame,
+            13 => Refusal::Format,
             other => Refusal::Other(other),
         })
     }
@@ -199,6 +211,10 @@ impl Refusal {
             Refusal::Log => 7,
             Refusal::Vector => 8,
             Refusal::Kind => 9,
+            Refusal::Rows => 10,
+            Refusal::User => 11,
+            Refusal::Frame => 12,
+            Refusal::Format => 13,
             Refusal::Other(number) => number,
         }
     }
@@ -216,6 +232,10 @@ impl fmt::Display for Refusal {
             Refusal::Log => "log under 192 words",
             Refusal::Vector => "vector above 255",
             Refusal::Kind => "wrong kind",
+            Refusal::Rows => "row buffer too short",
+            Refusal::User => "return in user mode",
+            Refusal::Frame => "frame not served",
+            Refusal::Format => "wrong frame format",
             Refusal::Other(_) => "not accepted",
         };
         write!(f, "refused {}: {why}", self.number())
@@ -229,6 +249,8 @@ pub(crate) struct Said {
     pub(crate) refused: u32,
     pub(crate) answer: u32,
     pub(crate) events: u32,
+    /// Rows of a return or a walk.
+    pub(crate) rows: u32,
 }
 
 /// Hands a call over the boundary; record and bus are then what came back.
@@ -261,7 +283,7 @@ pub(crate) fn ask(
     );
     *record = Record::from_mirror(&raw.core.cpu);
     bus.events = raw.core.bus.events;
-    Said { refused: raw.refused, answer: raw.answer, events: raw.events }
+    Said { refused: raw.refused, answer: raw.answer, events: raw.events, rows: 0 }
 }
 
 /// Performs a call on the record and the bus, over a lent store and a lent log.

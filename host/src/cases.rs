@@ -1,12 +1,9 @@
 //! Test cases in text: a line says a call, a record and a store; the answer says what came of it.
 
 use crate::call::{Said, ask};
-use crate::{Bus, Call, Cause, Record, Resume, Window, leaf};
+use crate::{Bus, Call, Cause, Record, Refusal, Resume, Window, leaf, return_from, walk};
 use std::hint::black_box;
 use std::io::Write;
-
-/// The answer to a call that this crate does not have.
-pub const NOT_AVAILABLE: &str = "error: not available";
 
 /// Most bytes of a store that is accepted, and that a case says the contents of.
 const STORE_LIMIT: usize = 65_536;
@@ -14,13 +11,34 @@ const STORE_LIMIT: usize = 65_536;
 const LONG_LIMIT: usize = 1 << 32;
 /// Most words that are lent as a log, whatever the case says: no call writes nearly as many.
 const LOG_LIMIT: u32 = 65_536;
-/// What the log holds before a call.
+/// Most words that are lent for rows.
+const ROWS_LIMIT: u32 = 1 << 20;
+/// What log and rows hold before a call.
 const UNWRITTEN: u32 = 0xA5C3_96F0;
+
+/// What a case asks for.
+#[derive(Clone, Copy)]
+pub(crate) enum Wanted {
+    Call(Call),
+    Return,
+    /// A walk of n into a buffer of so many words.
+    Walk {
+        n: u32,
+        words: u32,
+    },
+}
+
+/// What a case lends beside the store.
+pub(crate) struct Lent {
+    pub(crate) bus: Bus,
+    pub(crate) log: Vec<u32>,
+    rows: Vec<u32>,
+}
 
 /// Answers cases; its buffers serve one case after the other. The bus keeps the number of events of
 /// the case before, which a call must not mind.
 pub struct Cases {
-    pub(crate) bus: Bus,
+    pub(crate) lent: Lent,
     /// The bytes that a case says, 65,536 at most.
     pub(crate) store: Vec<u8>,
     before: Vec<u8>,
@@ -28,7 +46,6 @@ pub struct Cases {
     len: u64,
     /// What is lent of a longer store: zero after the bytes that the case says.
     long: Vec<u8>,
-    pub(crate) log: Vec<u32>,
 }
 
 /// What a line says beside the call.
@@ -52,8 +69,8 @@ impl Default for Cases {
 impl Cases {
     /// Buffers for cases.
     pub fn new() -> Cases {
-        let (store, before, long, log) = (vec![], vec![], vec![], vec![]);
-        Cases { bus: Bus::default(), store, before, len: 0, long, log }
+        let lent = Lent { bus: Bus::default(), log: vec![], rows: vec![] };
+        Cases { lent, store: vec![], before: vec![], len: 0, long: vec![] }
     }
 
     /// Puts the answer of a line into `out`, without a line end; what follows ` => ` is not looked at.
@@ -69,31 +86,31 @@ impl Cases {
     fn try_answer(&mut self, line: &str, out: &mut Vec<u8>) -> Result<(), String> {
         let input = line.split_once(" => ").map_or(line, |p| p.0);
         let (wanted, before) = self.read(input)?;
-        let Some(wanted) = wanted else {
-            return Err("not available".into());
-        };
         let mut after = before.clone();
-        let held = self.bus.events;
+        let held = self.lent.bus.events;
         let said = if self.len > STORE_LIMIT as u64 {
             self.ask_long(&mut after, wanted)?
         } else {
-            ask(&mut after, &mut self.bus, &mut self.store, &mut self.log, wanted)
+            wanted.ask(&mut after, &mut self.lent, &mut self.store)
         };
-        if self.bus.events != if said.refused == 0 { said.events } else { held } {
-            return Err(format!("the bus counts {} events", self.bus.events));
+        // Return and walk have no events and leave the count.
+        let counted = said.refused == 0 && matches!(wanted, Wanted::Call(_));
+        let events = self.lent.bus.events;
+        if events != if counted { said.events } else { held } {
+            return Err(format!("the bus counts {events} events"));
         }
         self.show(&before, &after, &said, out)
     }
 
     /// A call on a store that is longer than any that is accepted, really lent.
-    fn ask_long(&mut self, record: &mut Record, wanted: Call) -> Result<Said, String> {
+    fn ask_long(&mut self, record: &mut Record, wanted: Wanted) -> Result<Said, String> {
         if self.long.is_empty() {
             self.long = room();
         }
         let len = self.long.len().min(usize::try_from(self.len).unwrap_or(usize::MAX));
         let long = &mut self.long[..len];
         long[..STORE_LIMIT].copy_from_slice(&self.store);
-        let said = ask(record, &mut self.bus, long, &mut self.log, wanted);
+        let said = wanted.ask(record, &mut self.lent, long);
         self.store.copy_from_slice(&long[..STORE_LIMIT]);
         // Of a very long one, its ends: the rest was never touched and is not to be.
         let rest = &long[STORE_LIMIT..];
@@ -105,7 +122,7 @@ impl Cases {
         Ok(said)
     }
 
-    /// The answer in text: what the call said, and what it left of record, store and log.
+    /// The answer in text: what the call said, and what it left of record, store, log and rows.
     pub(crate) fn show(
         &self,
         before: &Record,
@@ -113,11 +130,15 @@ impl Cases {
         said: &Said,
         out: &mut Vec<u8>,
     ) -> Result<(), String> {
-        let events = self.events(said.events)?;
-        let Said { refused, answer, events: count } = said;
+        let Lent { log, rows, .. } = &self.lent;
+        let events = written(log, said.events, 3).map_err(|e| format!("events: {e}"))?;
+        let rows = written(rows, said.rows, 4).map_err(|e| format!("rows: {e}"))?;
+        let Said { refused, answer, events: count, .. } = said;
         write!(out, "refused={refused} ans={answer} nev={count} ev=").unwrap();
-        show_events(out, events);
-        out.extend_from_slice(b" rows=- chg=");
+        show_list(out, events, 3, b':');
+        out.extend_from_slice(b" rows=");
+        show_list(out, rows, 4, b'.');
+        out.extend_from_slice(b" chg=");
         show_changes(out, &self.before, &self.store);
         out.extend_from_slice(b" status=");
         leaf::get_sr(after).show(out);
@@ -125,21 +146,8 @@ impl Cases {
         Ok(())
     }
 
-    /// The words of the events; all behind them must be as they were.
-    fn events(&self, count: u32) -> Result<&[u32], String> {
-        let words = (count as usize).saturating_mul(3);
-        let Some((events, rest)) = self.log.split_at_checked(words) else {
-            return Err("more events than the log has room for".into());
-        };
-        if rest.iter().any(|&w| w != UNWRITTEN) {
-            return Err("the log was written behind its events".into());
-        }
-        Ok(events)
-    }
-
-    /// Reads an input: the call, if there is such a one here, and the record; bus, store and log are
-    /// laid ready.
-    pub(crate) fn read(&mut self, input: &str) -> Result<(Option<Call>, Record), String> {
+    /// Reads an input: the call and the record; bus, store, log and rows are laid ready.
+    pub(crate) fn read(&mut self, input: &str) -> Result<(Wanted, Record), String> {
         let mut pairs = [(0, ""); NAMES.len()];
         let (mut count, mut seen, mut next) = (0, 0u64, 0);
         for part in parts(input, b' ') {
@@ -156,13 +164,14 @@ impl Cases {
         }
         let pairs = &pairs[..count];
         let value_of = |place| pairs.iter().find(|p| p.0 == place).map(|p| p.1);
-        let wanted = read_call(value_of(CALL).ok_or("no call")?)?;
+        let wanted = read_wanted(value_of(CALL).ok_or("no call")?)?;
         let kind = decimal(value_of(KIND).ok_or("no kind")?)?;
-        self.bus.base = 0;
-        self.bus.windows.clear();
-        self.bus.responses = [u32::MAX; 8];
+        let bus = &mut self.lent.bus;
+        bus.base = 0;
+        bus.windows.clear();
+        bus.responses = [u32::MAX; 8];
         let record = Record::fresh(kind);
-        let (len, bus) = (STORE_LIMIT as u64, &mut self.bus);
+        let len = STORE_LIMIT as u64;
         let mut draft = Draft { record, len, fill: 0, patch: "-", log: 192, bus };
         for &(place, value) in pairs {
             let (name, set) = NAMES[place];
@@ -170,8 +179,7 @@ impl Cases {
         }
         let Draft { record, len, fill, patch, log, .. } = draft;
         self.lay_store(len, fill, patch).map_err(|e| format!("patch: {e}"))?;
-        self.log.clear();
-        self.log.resize(log.min(LOG_LIMIT) as usize, UNWRITTEN);
+        self.lent.lay(log.min(LOG_LIMIT), wanted.row_words()?);
         Ok((wanted, record))
     }
 
@@ -209,6 +217,72 @@ impl Cases {
         self.before.extend_from_slice(&self.store);
         Ok(())
     }
+}
+
+impl Lent {
+    /// Log and rows of so many words, none of them written.
+    fn lay(&mut self, log: u32, rows: u32) {
+        for (place, words) in [(&mut self.log, log), (&mut self.rows, rows)] {
+            place.clear();
+            place.resize(words as usize, UNWRITTEN);
+        }
+    }
+}
+
+impl Wanted {
+    /// Words to lend for rows. Of more than there is room for so many, where that answers the same: n rows
+    /// fit in, or not even in what the case has.
+    fn row_words(self) -> Result<u32, String> {
+        match self {
+            Wanted::Call(_) => Ok(0),
+            // For its one row, as the text has it.
+            Wanted::Return => Ok(4),
+            Wanted::Walk { n, words } => {
+                let needed = u64::from(n) * 4;
+                if needed > ROWS_LIMIT.into() && needed <= words.into() {
+                    return Err(format!("walk: more than {ROWS_LIMIT} words of rows"));
+                }
+                Ok(words.min(ROWS_LIMIT))
+            }
+        }
+    }
+
+    /// Hands it over the boundary.
+    fn ask(self, record: &mut Record, lent: &mut Lent, store: &mut [u8]) -> Said {
+        let Lent { bus, log, rows } = lent;
+        let number = |refused: Option<Refusal>| refused.map_or(0, Refusal::number);
+        match self {
+            Wanted::Call(call) => ask(record, bus, store, log, call),
+            Wanted::Return => {
+                let done = return_from(record, bus, store);
+                if let Ok(row) = done {
+                    rows.copy_from_slice(&<[u32; 4]>::from(row));
+                }
+                let rows = u32::from(done.is_ok());
+                Said { refused: number(done.err()), answer: 0, events: 0, rows }
+            }
+            Wanted::Walk { n, .. } => {
+                let done = walk(record, bus, store, n, rows);
+                Said {
+                    refused: number(done.refused),
+                    answer: done.count,
+                    events: 0,
+                    rows: done.count,
+                }
+            }
+        }
+    }
+}
+
+/// The words of so many items that were written; all behind them must be as they were.
+fn written(words: &[u32], count: u32, size: usize) -> Result<&[u32], String> {
+    let Some((items, rest)) = words.split_at_checked((count as usize).saturating_mul(size)) else {
+        return Err("more than there is room for".into());
+    };
+    if rest.iter().any(|&w| w != UNWRITTEN) {
+        return Err("words behind them were written".into());
+    }
+    Ok(items)
 }
 
 /// Room for long stores, zero and not touched, so that it costs addresses and no memory. Where there is
@@ -505,82 +579,85 @@ impl Arguments<'_> {
     }
 }
 
-/// A call; none for one that is not here yet.
-fn read_call(s: &str) -> Result<Option<Call>, String> {
+/// What a case asks for, with its arguments.
+fn read_wanted(s: &str) -> Result<Wanted, String> {
     let mut parts = s.split(':');
     let name = parts.next().unwrap();
-    let mut args = Arguments { name, parts };
-    let a = &mut args;
-    let call = match name {
-        "take_exception" => Some(Call::TakeException(a.next()?)),
-        "trap" => Some(Call::Trap(a.next()?)),
-        "take_group2_exception" => Some(Call::TakeGroup2Exception(a.next()?)),
-        "exception_chk" => Some(Call::ExceptionChk),
-        "exception_zero_divide" => Some(Call::ExceptionZeroDivide),
-        "exception_privilege" => Some(Call::ExceptionPrivilege),
-        "exception_trace" => Some(Call::ExceptionTrace),
-        "exception_address_error" => Some(Call::ExceptionAddressError {
+    let mut a = Arguments { name, parts };
+    let wanted = match name {
+        "return" => Wanted::Return,
+        "walk" => Wanted::Walk { n: a.next()?, words: a.next()? },
+        _ => Wanted::Call(read_call(&mut a)?),
+    };
+    match a.parts.next() {
+        None => Ok(wanted),
+        Some(_) => Err(format!("{name}: too many arguments")),
+    }
+}
+
+fn read_call(a: &mut Arguments) -> Result<Call, String> {
+    Ok(match a.name {
+        "take_exception" => Call::TakeException(a.next()?),
+        "trap" => Call::Trap(a.next()?),
+        "take_group2_exception" => Call::TakeGroup2Exception(a.next()?),
+        "exception_chk" => Call::ExceptionChk,
+        "exception_zero_divide" => Call::ExceptionZeroDivide,
+        "exception_privilege" => Call::ExceptionPrivilege,
+        "exception_trace" => Call::ExceptionTrace,
+        "exception_address_error" => Call::ExceptionAddressError {
             address: a.next()?,
             write: a.next()?,
             instruction: a.next()?,
-        }),
-        "exception_bus_error" => Some(Call::ExceptionBusError {
+        },
+        "exception_bus_error" => Call::ExceptionBusError {
             address: a.next()?,
             write: a.next()?,
             instruction: a.next()?,
             size: a.next()?,
             cause: a.next()?,
-        }),
-        "take_fp_unimp_060" => Some(Call::TakeFpUnimp060(a.next()?)),
-        "take_fp_disabled_060" => Some(Call::TakeFpDisabled060),
-        "take_aline_exception" => Some(Call::TakeAlineException),
-        "take_fline_exception" => Some(Call::TakeFlineException),
-        "take_trap_exception" => Some(Call::TakeTrapException(a.next()?)),
-        "take_bkpt_exception" => Some(Call::TakeBkptException),
-        "take_illegal_exception" => Some(Call::TakeIllegalException),
-        "trigger_address_error" => Some(Call::TriggerAddressError {
+        },
+        "take_fp_unimp_060" => Call::TakeFpUnimp060(a.next()?),
+        "take_fp_disabled_060" => Call::TakeFpDisabled060,
+        "take_aline_exception" => Call::TakeAlineException,
+        "take_fline_exception" => Call::TakeFlineException,
+        "take_trap_exception" => Call::TakeTrapException(a.next()?),
+        "take_bkpt_exception" => Call::TakeBkptException,
+        "take_illegal_exception" => Call::TakeIllegalException,
+        "trigger_address_error" => Call::TriggerAddressError {
             address: a.next()?,
             write: a.next()?,
             instruction: a.next()?,
-        }),
-        "trigger_bus_error" => Some(Call::TriggerBusError {
+        },
+        "trigger_bus_error" => Call::TriggerBusError {
             address: a.next()?,
             write: a.next()?,
             instruction: a.next()?,
             size: a.next()?,
-        }),
-        "check_trace" => Some(Call::CheckTrace),
-        "set_irq" => Some(Call::SetIrq(a.next()?)),
-        "check_interrupts" => Some(Call::CheckInterrupts),
-        "check_and_service_interrupts" => Some(Call::CheckAndServiceInterrupts),
-        "read_16" => Some(Call::Read16(a.next()?)),
-        "read_32" => Some(Call::Read32(a.next()?)),
-        "write_16" => Some(Call::Write16(a.next()?, a.next()?)),
-        "write_32" => Some(Call::Write32(a.next()?, a.next()?)),
-        "push_16" => Some(Call::Push16(a.next()?)),
-        "push_32" => Some(Call::Push32(a.next()?)),
-        "prefetch_first" => Some(Call::PrefetchFirst),
-        "prefetch_second" => Some(Call::PrefetchSecond),
-        "return" => None,
-        "walk" => {
-            let _: [u32; 2] = [a.next()?, a.next()?];
-            None
-        }
-        _ => return Err(format!("`{name}` is no call")),
-    };
-    match args.parts.next() {
-        None => Ok(call),
-        Some(_) => Err(format!("{name}: too many arguments")),
-    }
+        },
+        "check_trace" => Call::CheckTrace,
+        "set_irq" => Call::SetIrq(a.next()?),
+        "check_interrupts" => Call::CheckInterrupts,
+        "check_and_service_interrupts" => Call::CheckAndServiceInterrupts,
+        "read_16" => Call::Read16(a.next()?),
+        "read_32" => Call::Read32(a.next()?),
+        "write_16" => Call::Write16(a.next()?, a.next()?),
+        "write_32" => Call::Write32(a.next()?, a.next()?),
+        "push_16" => Call::Push16(a.next()?),
+        "push_32" => Call::Push32(a.next()?),
+        "prefetch_first" => Call::PrefetchFirst,
+        "prefetch_second" => Call::PrefetchSecond,
+        name => return Err(format!("`{name}` is no call")),
+    })
 }
 
-fn show_events(out: &mut Vec<u8>, words: &[u32]) {
+/// The words of items of so many, `-` for none.
+fn show_list(out: &mut Vec<u8>, words: &[u32], size: usize, between: u8) {
     if words.is_empty() {
         out.push(b'-');
     }
     for (i, &word) in words.iter().enumerate() {
         if i > 0 {
-            out.push(if i % 3 == 0 { b',' } else { b':' });
+            out.push(if i % size == 0 { b',' } else { between });
         }
         show_hex(out, word);
     }

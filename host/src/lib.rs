@@ -1,9 +1,10 @@
 //! Exception, fault, trace and interrupt entry of the M68000 family: a safe way to the proved code.
 //!
 //! The work is done by functions of a static library that is proved and compiled from Rattle. This
-//! crate has the types, the conversions and the one place where the library is called. [`call`]
-//! performs a call on a [`Record`] and a [`Bus`]; [`leaf`] has small functions on the record alone;
-//! [`cases`] answers test cases in text; [`measure`] makes one call over and over.
+//! crate has the types, the conversions and the places where the library is called. [`call`]
+//! performs a call on a [`Record`] and a [`Bus`]; [`return_from`] and [`walk`] read the frames that
+//! entries left; [`leaf`] has small functions on the record alone; [`cases`] answers test cases in
+//! text; [`measure`] makes one call over and over.
 //!
 //! ```
 //! use m68k_host::{Record, leaf};
@@ -24,7 +25,9 @@ pub mod leaf;
 pub mod measure;
 mod mirror;
 mod record;
+mod unwind;
 
 pub use bus::{Bus, Window};
 pub use call::{Answer, Call, Refusal, call};
 pub use record::{Cause, Record, Resume};
+pub use unwind::{Row, Walked, return_from, walk};

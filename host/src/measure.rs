@@ -5,7 +5,7 @@
 //! those of the first turn: an entry writes the same bytes and events every time.
 
 use crate::call::Said;
-use crate::cases::Cases;
+use crate::cases::{Cases, Lent, Wanted};
 use crate::{Record, mirror};
 use std::hint::black_box;
 
@@ -24,15 +24,19 @@ pub fn copies(line: &str, turns: u32) -> Result<(), String> {
 pub fn calls(line: &str, turns: u32) -> Result<String, String> {
     let mut cases = Cases::new();
     let (wanted, before) = cases.read(line)?;
-    let call = wanted.ok_or("not available")?.to_mirror();
-    let start = mirror::Core { cpu: before.to_mirror(), bus: cases.bus.to_mirror() };
+    let Wanted::Call(call) = wanted else {
+        return Err("a return or a walk is not measured".into());
+    };
+    let call = call.to_mirror();
+    let Lent { bus, log, .. } = &mut cases.lent;
+    let start = mirror::Core { cpu: before.to_mirror(), bus: bus.to_mirror() };
     for _ in 0..turns {
         let mut core = *black_box(&start);
         black_box(&mut core);
-        black_box(&exported(core, &mut cases.store, &mut cases.log, call));
+        black_box(&exported(core, &mut cases.store, log, call));
     }
-    let raw = exported(start, &mut cases.store, &mut cases.log, call);
-    let said = Said { refused: raw.refused, answer: raw.answer, events: raw.events };
+    let raw = exported(start, &mut cases.store, log, call);
+    let said = Said { refused: raw.refused, answer: raw.answer, events: raw.events, rows: 0 };
     let mut out = vec![];
     cases.show(&before, &Record::from_mirror(&raw.core.cpu), &said, &mut out)?;
     String::from_utf8(out).map_err(|e| e.to_string())

@@ -118,6 +118,30 @@ pub struct Core {
 
 #[repr(C)]
 #[derive(Clone, Copy, Debug, PartialEq, Eq)]
+pub struct Returned {
+    pub core: Core,
+    pub refused: u32,
+    pub row: Row,
+}
+
+#[repr(C)]
+#[derive(Clone, Copy, Debug, PartialEq, Eq)]
+pub struct Row {
+    pub format: u32,
+    pub status: u32,
+    pub address: u32,
+    pub offset: u32,
+}
+
+#[repr(C)]
+#[derive(Clone, Copy, Debug, PartialEq, Eq)]
+pub struct Walked {
+    pub refused: u32,
+    pub count: u32,
+}
+
+#[repr(C)]
+#[derive(Clone, Copy, Debug, PartialEq, Eq)]
 pub struct RawCall {
     pub number: u32,
     pub a: u32,
@@ -205,6 +229,18 @@ const _: () = assert!(offset_of!(Bus, events) == 104);
 const _: () = assert!(size_of::<Core>() == 472 && align_of::<Core>() == 4);
 const _: () = assert!(offset_of!(Core, cpu) == 0);
 const _: () = assert!(offset_of!(Core, bus) == 364);
+const _: () = assert!(size_of::<Returned>() == 492 && align_of::<Returned>() == 4);
+const _: () = assert!(offset_of!(Returned, core) == 0);
+const _: () = assert!(offset_of!(Returned, refused) == 472);
+const _: () = assert!(offset_of!(Returned, row) == 476);
+const _: () = assert!(size_of::<Row>() == 16 && align_of::<Row>() == 4);
+const _: () = assert!(offset_of!(Row, format) == 0);
+const _: () = assert!(offset_of!(Row, status) == 4);
+const _: () = assert!(offset_of!(Row, address) == 8);
+const _: () = assert!(offset_of!(Row, offset) == 12);
+const _: () = assert!(size_of::<Walked>() == 8 && align_of::<Walked>() == 4);
+const _: () = assert!(offset_of!(Walked, refused) == 0);
+const _: () = assert!(offset_of!(Walked, count) == 4);
 const _: () = assert!(size_of::<RawCall>() == 24 && align_of::<RawCall>() == 4);
 const _: () = assert!(offset_of!(RawCall, number) == 0);
 const _: () = assert!(offset_of!(RawCall, a) == 4);
@@ -227,6 +263,15 @@ unsafe extern "C" {
         log_len: usize,
         call: RawCall,
     ) -> RawAnswer;
+    pub fn m68k_return(m: Core, store: *const u8, store_len: usize) -> Returned;
+    pub fn m68k_walk(
+        m: Core,
+        store: *const u8,
+        store_len: usize,
+        n: u32,
+        rows: *mut u32,
+        rows_len: usize,
+    ) -> Walked;
     pub fn m68k_get_sr(c: Cpu) -> u32;
     pub fn m68k_set_sr_noint_nosp(c: Cpu, sr: u16) -> Cpu;
     pub fn m68k_put_back_sr(c: Cpu, sr: u16) -> Cpu;

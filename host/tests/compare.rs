@@ -43,6 +43,28 @@ fn every_part_of_an_answer_counts() {
     }
 }
 
+/// Every word of every row, of a return and of a walk that was ended by a number.
+#[test]
+fn every_row_counts() {
+    let frames = "kind=2 a7=8000 log=0 patch=8000:270000001000008020000000200000848000000030001000";
+    for (call, rows) in [("return", 1), ("walk:3:d", 2)] {
+        let input = format!("call={call} {frames}");
+        let right = answer(&input);
+        assert!(is_same(&input, &right));
+        let shown = right.split(' ').find_map(|part| part.strip_prefix("rows=")).unwrap();
+        let words: Vec<&str> = shown.split(['.', ',']).collect();
+        assert_eq!(words.len(), rows * 4, "{right}");
+        for at in 0..words.len() {
+            let mut other = words.clone();
+            other[at] = "77";
+            let list: Vec<String> = other.chunks(4).map(|row| row.join(".")).collect();
+            assert!(!is_same(&input, &right.replace(shown, &list.join(","))), "{right}");
+        }
+        assert!(!is_same(&input, &right.replace(shown, "-")));
+        assert!(!is_same(&input, &right.replace(shown, &format!("{shown},0.0.0.0"))));
+    }
+}
+
 #[test]
 fn the_kind_counts() {
     let right = answer(INPUT);

@@ -1,11 +1,13 @@
-// The C boundary: a call by number on a record and a bus by value and lent slices, and the leaf functions of the record, exported
-// for programs in other languages. The numbers are those of the case format. It uses `calls`, and what it exports is proved equal
-// to the public function there; programs in other languages and `replay` use it.
+// The C boundary: a call by number on a record and a bus by value and lent slices, return and walk, and the leaf functions of the
+// record, exported for programs in other languages. The numbers are those of the case format. It uses `calls` and `unwind`, and what it
+// exports is proved equal to the public functions there; programs in other languages and `replay` use it.
 use calls::Answer;
 use calls::Call;
 use calls::Performed;
 use cpu::Cpu;
 use memory::Core;
+use unwind::Returned;
+use unwind::returns::Walked;
 ghost use mathlib.Core.Path.{_≡_};
 ghost use mathlib.Core.Bool.{true, false};
 ghost use lib.Dec.{eqb};
@@ -14,6 +16,8 @@ ghost use Rattle.memory.specs.World.{world};
 ghost use Rattle.types.specs.Causes.{causeOf};
 ghost use Rattle.calls.specs.Calls.{bit, refusedBy, valueOf, countOf};
 ghost use Rattle.boundary.specs.Calls.{outcome, flag, decode, rawOf, rawCall};
+ghost use Rattle.unwind.specs.Returns.{walk};
+ghost use Rattle.unwind.specs.Unwind.{returnFrom, walkFrom};
 ghost use Rattle.status.specs.Status.{getSr, setSrNointNosp, putBackSr, setCcr};
 ghost use Rattle.status.specs.Banks.{spIndex, backupSp, restoreSp, setSFlag, setSmFlag, setSmFlagNosp};
 ghost use Rattle.cpu.specs.Clocks.{internalCycles, prefetchEnabled};
@@ -230,6 +234,22 @@ pub extern "C" fn m68k_call(m: Core, store: &mut [u8], log: &mut [u32], call: Ra
 {
     let d = decode(call);
     call_decoded(m, store, log, d)
+}
+
+// The return.
+#[no_mangle]
+pub extern "C" fn m68k_return(m: Core, store: &[u8]) -> Returned
+    ensures { λ r. ⌜ r ≡ returnFrom m (now (store .entry)) ⌝ }
+{
+    unwind::return_from(m, store)
+}
+
+// The walk of n into the lent rows.
+#[no_mangle]
+pub extern "C" fn m68k_walk(m: Core, store: &[u8], n: u32, rows: &mut [u32]) -> Walked
+    ensures { λ r. ⌜ walk (r .refused) (r .count) (now (rows .exit)) ≡ walkFrom m (now (store .entry)) n (now (rows .entry)) ⌝ }
+{
+    unwind::walk(m, store, n, rows)
 }
 
 #[no_mangle]

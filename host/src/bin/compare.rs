@@ -1,6 +1,6 @@
 //! Compares the proved code with recorded answers, or with those of the oracle as it makes them.
 
-use m68k_host::cases::{Cases, NOT_AVAILABLE};
+use m68k_host::cases::Cases;
 use std::collections::BTreeMap;
 use std::io::{BufRead, BufReader, Read};
 use std::path::PathBuf;
@@ -16,8 +16,8 @@ const USAGE: &str = "usage: compare --seed N --count M [--calls NAME,...] [--job
 Compares answers line by line and shows the first 10 differences. The cases are those of `oracle gen N M`
 (the program named by --oracle or ORACLE, else target/oracle/release/oracle of the repository), or the lines
 INPUT => OUTPUT of a file. More than 50,000 are made in parts of 50,000, J at a time (as many as there are
-processors): part K, from 0 on, has the seed N + K * 2^32. Calls that are not available are counted and not
-compared. Exit status 1: a difference; 2: not all could be compared.";
+processors): part K, from 0 on, has the seed N + K * 2^32. Exit status 1: a difference; 2: not all could be
+compared.";
 
 /// Differences that are shown.
 const SHOWN: u64 = 10;
@@ -134,9 +134,10 @@ struct Shared<'a> {
 #[derive(Default)]
 struct Tally {
     compared: u64,
+    /// By the name of the call.
+    calls: BTreeMap<String, u64>,
     /// By the number that the recorded answer has.
     refused: BTreeMap<String, u64>,
-    missing: BTreeMap<String, u64>,
     differing: BTreeMap<String, u64>,
 }
 
@@ -205,11 +206,8 @@ impl Shared<'_> {
         }
         let (input, expected) = line.split_once(" => ").unwrap_or((line, "(no answer recorded)"));
         cases.answer(input, found);
-        if found == NOT_AVAILABLE.as_bytes() {
-            count(&mut tally.missing, name, 1);
-            return;
-        }
         tally.compared += 1;
+        count(&mut tally.calls, name, 1);
         if let Some(number) = expected.strip_prefix("refused=").and_then(|e| e.split(' ').next())
             && number != "0"
         {
@@ -247,7 +245,7 @@ impl Shared<'_> {
     fn end(&self, of: &str) -> Result<u64, String> {
         let tally = self.tally.lock().map_err(|e| e.to_string())?;
         let lists = [
-            ("not available", &tally.missing),
+            ("compared calls", &tally.calls),
             ("compared refusals", &tally.refused),
             ("different", &tally.differing),
         ];
@@ -271,8 +269,8 @@ impl Tally {
     fn add(&mut self, other: Tally) {
         self.compared += other.compared;
         let lists = [
+            (&mut self.calls, other.calls),
             (&mut self.refused, other.refused),
-            (&mut self.missing, other.missing),
             (&mut self.differing, other.differing),
         ];
         for (list, others) in lists {
