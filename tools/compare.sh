@@ -1,9 +1,10 @@
 #!/usr/bin/env bash
-# compare.sh SOURCE SEED COUNT: builds the oracle from the Rust at SOURCE and the archive of the proved code, and compares them:
-# the leaf functions on random records, the examples, then COUNT generated cases, refused ones too. Any difference fails.
+# compare.sh SOURCE SEED COUNT [LISTS]: builds the oracle from the Rust at SOURCE and the archive of the proved code, and compares them:
+# the leaf functions on random records, the examples, then COUNT generated cases, refused ones too, and LISTS nests: lists of
+# entries, returns and handlers whose walk and returns are held to the book. Any difference fails.
 set -euo pipefail
 cd "$(dirname "${BASH_SOURCE[0]}")/.."
-source_of_rust=$(cd "$1" && pwd); seed=$2; count=$3
+source_of_rust=$(cd "$1" && pwd); seed=$2; count=$3; lists=${4:-0}
 unset M68K_DIAG_ADDRESS_ERROR || true
 oracle/build.sh test "$source_of_rust"
 rt staticlib boundary
@@ -11,3 +12,6 @@ python3 host/mirror.py --check
 host/build.sh test
 target/host/release/compare --file oracle/examples.txt
 target/host/release/compare --seed "$seed" --count "$count"
+if [ "$lists" -gt 0 ]; then
+  target/host/release/compare --seed "$seed" --nests "$lists"
+fi

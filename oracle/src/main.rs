@@ -66,6 +66,7 @@ fn nests(seed: u64, count: u64) -> Done {
     for number in 0..count {
         let cases =
             nest::list(&mut rng).map_err(|e| format!("list {number} of seed {seed}: {e}"))?;
+        writeln!(out, "# list").map_err(text)?;
         for (case, outcome) in &cases {
             writeln!(out, "{} => {}", format_case(case), format(case, outcome)).map_err(text)?;
         }

@@ -10,12 +10,13 @@ use std::sync::atomic::{AtomicBool, AtomicU64, Ordering::Relaxed};
 use std::thread;
 use std::time::{Duration, Instant};
 
-const USAGE: &str = "usage: compare --seed N --count M [--calls NAME,...] [--jobs J] [--oracle PROGRAM]
+const USAGE: &str = "usage: compare --seed N --count M|--nests L [--calls NAME,...] [--jobs J] [--oracle PROGRAM]
        compare --file FILE|- [--calls NAME,...]
 
 Compares answers line by line and shows the first 10 differences. The cases are those of `oracle gen N M`
-(the program named by --oracle or ORACLE, else target/oracle/release/oracle of the repository), or the lines
-INPUT => OUTPUT of a file. More than 50,000 are made in parts of 50,000, J at a time (as many as there are
+(the program named by --oracle or ORACLE, else target/oracle/release/oracle of the repository), those of
+`oracle nests N L` (L lists that meet the premises of rule 3, a case a step), or the lines INPUT => OUTPUT of
+a file. More than 50,000 cases, or 5,000 lists, are made in parts, J at a time (as many as there are
 processors): part K, from 0 on, has the seed N + K * 2^32. Exit status 1: a difference; 2: not all could be
 compared.";
 
@@ -23,6 +24,10 @@ compared.";
 const SHOWN: u64 = 10;
 /// Cases of one run of the oracle.
 const PART: u64 = 50_000;
+/// Lists of one run of the oracle.
+const LISTS: u64 = 5_000;
+/// What the oracle prints before each list.
+const LIST: &str = "# list";
 /// Between two lines that say how far it is.
 const PAUSE: Duration = Duration::from_secs(5);
 
@@ -30,6 +35,7 @@ const PAUSE: Duration = Duration::from_secs(5);
 struct Options {
     seed: Option<u64>,
     count: Option<u64>,
+    nests: bool,
     file: Option<String>,
     oracle: Option<PathBuf>,
     calls: Vec<String>,
@@ -44,6 +50,10 @@ fn options() -> Option<Options> {
         match name.as_str() {
             "--seed" => options.seed = Some(value.parse().ok()?),
             "--count" => options.count = Some(value.parse().ok()?),
+            "--nests" => {
+                options.nests = true;
+                options.count = Some(value.parse().ok()?);
+            }
             "--file" => options.file = Some(value),
             "--oracle" => options.oracle = Some(value.into()),
             "--calls" => options.calls = value.split(',').map(String::from).collect(),
@@ -93,18 +103,20 @@ fn run(options: &Options) -> Result<u64, String> {
     let (seed, count) = (options.seed.unwrap_or(0), options.count.unwrap_or(0));
     let program = options.oracle.clone().unwrap_or_else(oracle);
     let processors = thread::available_parallelism().map_or(1, |n| n.get() as u64);
-    let jobs = options.jobs.unwrap_or(processors).min(count.div_ceil(PART));
+    let (part_of, most) = if options.nests { ("nests", LISTS) } else { ("gen", PART) };
+    let jobs = options.jobs.unwrap_or(processors).min(count.div_ceil(most));
     let next = AtomicU64::new(0);
     let work = || {
         let mut cases = Cases::new();
         loop {
             let part = next.fetch_add(1, Relaxed);
-            let before = part.saturating_mul(PART);
+            let before = part.saturating_mul(most);
             if before >= count || shared.stop.load(Relaxed) {
                 return Ok(());
             }
             let seed = seed.wrapping_add(part << 32);
-            if let Err(reason) = shared.part(&mut cases, &program, seed, PART.min(count - before)) {
+            let made = shared.part(&mut cases, &program, part_of, seed, most.min(count - before));
+            if let Err(reason) = made {
                 shared.stop.store(true, Relaxed);
                 return Err(reason);
             }
@@ -134,6 +146,7 @@ struct Shared<'a> {
 #[derive(Default)]
 struct Tally {
     compared: u64,
+    lists: u64,
     /// By the name of the call.
     calls: BTreeMap<String, u64>,
     /// By the number that the recorded answer has.
@@ -155,34 +168,34 @@ impl Shared<'_> {
         }
     }
 
-    /// The cases of one run of the oracle.
+    /// The cases or lists of one run of the oracle.
     fn part(
         &self,
         cases: &mut Cases,
         program: &PathBuf,
+        what: &str,
         seed: u64,
         count: u64,
     ) -> Result<(), String> {
         let mut child = Command::new(program)
-            .args(["gen", &seed.to_string(), &count.to_string()])
+            .args([what, &seed.to_string(), &count.to_string()])
             .stdout(Stdio::piped())
             .spawn()
             .map_err(|e| format!("{}: {e}", program.display()))?;
         let output = child.stdout.take().ok_or("the oracle has no output")?;
-        let read = self.lines(cases, output)?;
+        let (read, lists) = self.lines(cases, output)?;
         let status = child.wait().map_err(|e| e.to_string())?;
-        if !status.success() || read != count {
-            return Err(format!(
-                "the oracle gave {read} of {count} cases of seed {seed} ({status})"
-            ));
+        let made = if what == "gen" { read } else { lists };
+        if !status.success() || made != count {
+            return Err(format!("`oracle {what}` gave {made} of {count}, seed {seed} ({status})"));
         }
         Ok(())
     }
 
-    /// The cases of an input; how many there are.
-    fn lines(&self, cases: &mut Cases, input: impl Read) -> Result<u64, String> {
+    /// The cases of an input; how many there are, and how many lists.
+    fn lines(&self, cases: &mut Cases, input: impl Read) -> Result<(u64, u64), String> {
         let mut input = BufReader::with_capacity(1 << 18, input);
-        let (mut tally, mut read) = (Tally::default(), 0u64);
+        let (mut tally, mut read, mut lists) = (Tally::default(), 0u64, 0u64);
         let (mut line, mut found) = (String::new(), vec![]);
         while input.read_line(&mut line).map_err(|e| e.to_string())? > 0 {
             let text = line.strip_suffix('\n').unwrap_or(&line);
@@ -193,10 +206,12 @@ impl Shared<'_> {
                     self.say();
                 }
             }
+            lists += u64::from(text.starts_with(LIST));
             line.clear();
         }
+        tally.lists = lists;
         self.tally.lock().map_err(|e| e.to_string())?.add(tally);
-        Ok(read)
+        Ok((read, lists))
     }
 
     fn one(&self, tally: &mut Tally, cases: &mut Cases, line: &str, found: &mut Vec<u8>) {
@@ -257,6 +272,9 @@ impl Shared<'_> {
         }
         println!("compare: {:.0} cases a second", self.rate());
         let (compared, differences) = (tally.compared, self.differences.load(Relaxed));
+        if tally.lists > 0 {
+            println!("compare: {} lists, each walk and return held to its book", tally.lists);
+        }
         println!("compare: {compared} cases, {differences} differences, {of}");
         if compared == 0 {
             return Err("no case was compared".into());
@@ -268,6 +286,7 @@ impl Shared<'_> {
 impl Tally {
     fn add(&mut self, other: Tally) {
         self.compared += other.compared;
+        self.lists += other.lists;
         let lists = [
             (&mut self.calls, other.calls),
             (&mut self.refused, other.refused),
