@@ -1,33 +1,29 @@
 -- The head of a frame, read back: status, address and format word, and that all else stays.
-use Prim.Native.Nat.{ℕ, zero, suc, _+_, _-_, _*_, _/_, _%_, _^_, _≤_, _<_}
+use Prim.Native.Nat.{ℕ, _+_, _-_, _*_, _%_, _≤_, _<_}
 use mathlib.Core.Path.{_≡_, refl, sym, ap, _∙_, subst}
-use mathlib.Core.Logic.{_⊎_, inl, inr}
+use mathlib.Core.Logic.{inl, inr}
 use mathlib.Core.Bool.{Bool, true, false, cond}
-use mathlib.Core.List.{List, [], _∷_}
-use mathlib.Core.Option.{Option, none, some}
+use mathlib.Core.List.{[], _∷_}
+use mathlib.Core.Option.{Option, some}
 use native.Mathlib.Omega.{arith}
 use borrow.Author.Tests.{ltb-true, ltb-false}
-use lib.Dec.{eqb, ltb}
-use lib.ListN.{length, getD}
+use lib.Dec.{ltb}
+use lib.ListN.{length}
 use Rattle.types.specs.Kinds.{pick, maskAddress}
-use Rattle.cpu.specs.declared.Cpu.{Cpu}
-use Rattle.cpu.specs.Fields.{kindOf, a7Of, minus32}
-use Rattle.memory.specs.declared.Core.{Core}
-use Rattle.memory.specs.declared.Bus.{Bus}
+use Rattle.cpu.specs.Fields.{kindOf, a7Of}
 use Rattle.memory.specs.Served.{servedOf}
 use Rattle.memory.specs.Runs.{Outside}
 use Rattle.memory.specs.World.{World, widthOf, served, readValue, cpuOf}
 use Rattle.memory.specs.AccessLaws.{kept}
-use Rattle.frames.specs.declared.Field.{Field}
 use Rattle.frames.specs.declared.Frame.{Frame}
 use Rattle.frames.specs.Frames.{fieldAt, isCounted}
 use Rattle.access.specs.Access.{raised, pushFrame}
 use Rattle.images.specs.Pushes.{calm, served-same}
-use Rattle.images.specs.Images.{Shape, Ready, Image, SameByte, frameBytes, newA7, bottom, at-offset, stacked-image}
+use Rattle.images.specs.Images.{Shape, Ready, Image, frameBytes, newA7, bottom, at-offset, stacked-image}
 use Rattle.forms.specs.Gist.{gist, gistCpu, a7-gist, framedBy, stacked-form, minus-below}
 use Rattle.forms.specs.Jumps.{value-gist}
 use Rattle.nest.specs.View.{Frame as NestFrame}
-use Rattle.nest.specs.View.{Store, Bytes, peek, opt, addr, span, short}
+use Rattle.nest.specs.View.{peek, addr, span, short}
 use Rattle.nest.specs.Nest.{Holds}
 use Rattle.nest.specs.Laws.{Pushed}
 use Rattle.nest.specs.Written.{wordAt, longAt, word-is, long-is, out-range}

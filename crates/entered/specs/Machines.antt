@@ -1,24 +1,22 @@
 -- The machine of the nest with the project's own calls, but for return and walk, which are parameters; and its law `entered`, whole:
 -- what the entry does, that no other byte changes, and that record and store left are accepted and inside the domain.
-use Prim.Native.Nat.{ℕ, zero, suc, _+_, _-_, _*_, _/_, _%_, _^_, _≤_, _<_}
+use Prim.Native.Nat.{ℕ, zero, suc, _+_, _-_, _/_, _%_, _<_}
 use mathlib.Core.Path.{_≡_, refl, sym, ap, _∙_, subst}
 use mathlib.Core.Logic.{_≢_, _⊎_, inl, inr}
 use mathlib.Core.Bool.{Bool, true, false, not, _||_}
-use mathlib.Core.List.{List, [], _∷_}
+use mathlib.Core.List.{List}
 use mathlib.Core.Option.{Option, none, some}
 use native.Mathlib.Omega.{arith}
 use borrow.Author.Tests.{eqb-true, ne-eqb}
 use lib.Dec.{eqb, ltb, leb}
-use lib.ListN.{length, getD}
+use lib.ListN.{length}
 use Rattle.types.specs.Kinds.{pick, either, both, isPrefetchKind}
 use Rattle.cpu.specs.declared.Cpu.{Cpu}
-use Rattle.cpu.specs.Fields.{kindOf, pcOf, ppcOf, a7Of, inException, halted, rewindPc}
-use Rattle.memory.specs.declared.Core.{Core}
+use Rattle.cpu.specs.Fields.{kindOf, inException, halted, rewindPc}
 use Rattle.memory.specs.declared.Bus.{Bus}
 use Rattle.memory.specs.ByteLaws.{AllBytes}
 use Rattle.memory.specs.World.{World, world, tried, putCpu, cpuOf, step}
 use Rattle.types.specs.Tables.{exceptionCycles}
-use Rattle.types.specs.Causes.{causeNumber}
 use Rattle.pending.specs.Interrupts.{pendingLevel, maskLevel, takesInterrupt}
 use Rattle.exceptions.specs.Exceptions.{entry, takeException, takeGroup2, trap, exceptionTrace, takeRewound, takeFpUnimp060, takeFpDisabled060}
 use Rattle.steps.specs.Steps.{beginEntry}
@@ -33,13 +31,13 @@ use Rattle.calls.specs.declared.Answer.the-variants.{Cycles, Flag, Value, Done,
 use Rattle.calls.specs.Calls.{Performed, answered, cycles, flag, ofEntry, ofService, run, restarted, begun, refusal, perform}
 use Rattle.images.specs.Pushes.{calm}
 use Rattle.forms.specs.Gist.{gist}
-use Rattle.forms.specs.Plans.{Plan, Clean, excPlan, rewoundPlan, group2Plan, tracePlan, fpUnimpPlan, fpDisabledPlan, addressPlan, busPlan, interruptPlan}
+use Rattle.forms.specs.Plans.{Plan, Clean, excPlan, rewoundPlan, group2Plan, tracePlan, fpUnimpPlan, fpDisabledPlan, interruptPlan}
 use Rattle.forms.specs.Tests.{cleanTest}
 use Rattle.forms.specs.Kept.{Good}
 use Rattle.forms.specs.Accepted.{accepted-s, accepted-m, accepted-kind, accepted-base, accepted-code, accepted-room, accepted-windows}
 use Rattle.forms.specs.Forms.{planOf, plan-lent, entry-clean, entry-good, entry-room, SameRoom}
 use Rattle.forms.specs.KindKept.{entry-kind}
-use Rattle.nest.specs.View.{Regs, Store, Stacked, one, two, framesOf, Bank, user, interrupt, master, View, setPtr, bank, setTop, withSM, view}
+use Rattle.nest.specs.View.{Stacked, one, two, framesOf, Bank, user, interrupt, master, View, setPtr, bank, setTop, withSM, view}
 use Rattle.nest.specs.Reading.{view-kind}
 use Rattle.nest.specs.Nest.{Machine, Entered, refused, untaken, taken, Returned, Walked, Sound, Apart, BelowTop, No68000Error, ServedThen}
 use Rattle.nest.specs.Laws.{Ranges, Entry}
@@ -48,7 +46,7 @@ use Rattle.entered.specs.Bytes.{memOf}
 use Rattle.entered.specs.Stacks.{stacks}
 use Rattle.entered.specs.Paper.{paper, outside, interrupts, paperTakes}
 use Rattle.entered.specs.PaperIs.{stacks-paper}
-use Rattle.entered.specs.Entered.{Narrow, errorCall, Inside, Law, nested, whole-of, kind-regs}
+use Rattle.entered.specs.Entered.{errorCall, Inside, Law, nested, whole-of, kind-regs}
 use Rattle.entered.specs.Numbers.{Left, entry-left}
 
 -- ---- the machine

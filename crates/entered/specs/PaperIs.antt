@@ -1,10 +1,10 @@
 -- The frames written out from the paper are those of the closed form over the engine's own definitions, wherever no number refuses the call.
-use Prim.Native.Nat.{ℕ, zero, suc, _+_, _-_, _*_, _/_, _%_, _≤_, _<_}
+use Prim.Native.Nat.{ℕ, zero, suc, _+_, _-_, _*_, _/_, _%_, _<_}
 use mathlib.Core.Path.{_≡_, refl, sym, ap, _∙_}
 use mathlib.Core.Bool.{Bool, true, false, cond, not, _&&_, _||_}
 use native.Mathlib.Omega.{arith}
-use borrow.Author.Tests.{eqb-true, eqb-false, ne-eqb, ltb-true}
-use lib.Dec.{eqb, ltb, leb}
+use borrow.Author.Tests.{eqb-true, eqb-false, ne-eqb}
+use lib.Dec.{eqb, leb}
 use lib.ListN.{getD, replicate}
 use Rattle.types.specs.Kinds.{pick, either, both, isPre68020, isEc020Plus, is040, is060}
 use Rattle.types.specs.Every.{at}
@@ -12,7 +12,6 @@ use Rattle.cpu.specs.declared.Cpu.{Cpu}
 use Rattle.cpu.specs.Fields.{kindOf, pcOf, ppcOf, rewindPc}
 use Rattle.status.specs.Status.{getSr, mIsSet}
 use Rattle.pending.specs.Interrupts.{pendingLevel}
-use Rattle.memory.specs.declared.Core.{Core}
 use Rattle.memory.specs.declared.Bus.{Bus}
 use Rattle.memory.specs.World.{World, responseOf, cpuOf}
 use Rattle.exceptions.specs.Frames.{formatWord, offsetWord}
@@ -23,11 +22,11 @@ use Rattle.calls.specs.Matters.{matterOf}
 use Rattle.calls.specs.Calls.{refusal}
 use Rattle.forms.specs.Plans.{interruptVector}
 use Rattle.forms.specs.Accepted.{accepted-vector}
-use Rattle.nest.specs.View.{Frame, Stacked, one, two, view, nonzero}
+use Rattle.nest.specs.View.{Frame, one, two, view, nonzero}
 use Rattle.entered.specs.Pointers.{regsOf, stacksOf}
 use Rattle.entered.specs.One.{stackTop}
 use Rattle.entered.specs.Stacks.{frameAt, shortAt, groupAt, addressAt, busAt, throwAt, interruptBoth, interruptAt, stacks}
-use Rattle.entered.specs.Paper.{made, wordFor, lengthFor, frameFor, errorFor, early, forty, groupFormat, addressFormat, busFormat, next, exceptionFor, groupFor, level, acknowledge, vectorFor, withSet, secondFor, interruptFor, paper}
+use Rattle.entered.specs.Paper.{made, wordFor, lengthFor, frameFor, errorFor, addressFormat, busFormat, next, exceptionFor, groupFor, level, vectorFor, withSet, secondFor, interruptFor, paper}
 
 made-is : (c : Cpu) (n a w : ℕ) → frameAt c n a w ≡ made c n a w
 unfolding stackTop stacksOf regsOf view

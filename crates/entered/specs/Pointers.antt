@@ -1,9 +1,9 @@
 -- The record as the nest sees it, and its stack pointers: to enter supervisor state, to leave the master stack, to lower A7.
-use Prim.Native.Nat.{ℕ, zero, suc, _+_, _*_, _/_, _%_, _^_, _<_}
+use Prim.Native.Nat.{ℕ, _/_, _%_}
 use mathlib.Core.Path.{_≡_, refl, sym, ap, _∙_}
 use mathlib.Core.Logic.{_⊎_, inl, inr}
 use mathlib.Core.Bool.{Bool, true, false, cond}
-use mathlib.Core.List.{List, [], _∷_}
+use mathlib.Core.List.{List}
 use native.Mathlib.Omega.{arith}
 use lib.Dec.{eqb}
 use lib.ListN.{length, getD, set, length-set}
@@ -13,7 +13,7 @@ use Rattle.cpu.specs.declared.Cpu.{Cpu}
 use Rattle.cpu.specs.Fields.{kindOf, pcOf, a7Of, inException, setA7}
 use Rattle.status.specs.Status.{getSr, clearTrace, clearM}
 use Rattle.status.specs.Banks.{spIndex, backupSp, restoreSp, putS, setSmFlagNosp, setSFlag, setSmFlag, enterSupervisor}
-use Rattle.nest.specs.View.{Regs, Bank, user, interrupt, master, bankOf, View, nonzero, view}
+use Rattle.nest.specs.View.{Regs, Bank, user, interrupt, master, bankOf, nonzero, view}
 use Rattle.nest.specs.Banks.{bankG, save, saved, loaded, select, withA7, withFlags}
 
 -- the fields that rule 3 names

@@ -1,5 +1,5 @@
 -- Rule 3 for the project's machine, from what is left: that a return and a walk meet their three laws.
-use Prim.Native.Nat.{ℕ, zero, suc, _+_, _*_, _≤_}
+use Prim.Native.Nat.{ℕ, _*_, _≤_}
 use mathlib.Core.Path.{_≡_, refl, sym, ap, _∙_, subst}
 use mathlib.Core.Bool.{Bool, true, false}
 use mathlib.Core.List.{List}
@@ -11,17 +11,16 @@ use lib.ListN.{length}
 use Rattle.types.specs.Kinds.{pick}
 use Rattle.cpu.specs.declared.Cpu.{Cpu}
 use Rattle.memory.specs.declared.Bus.{Bus}
-use Rattle.memory.specs.declared.Core.{Core}
 use Rattle.memory.specs.ByteLaws.{AllBytes}
 use Rattle.memory.specs.World.{World, cpuOf}
 use Rattle.refusals.specs.Refusals.{badStore, badWindows}
 use Rattle.images.specs.Pushes.{calm}
 use Rattle.calls.specs.declared.Call.{Call}
-use Rattle.calls.specs.Calls.{Performed, begun, refusal, perform}
+use Rattle.calls.specs.Calls.{begun, refusal, perform}
 use Rattle.forms.specs.Plans.{Plan}
 use Rattle.forms.specs.Forms.{planOf}
 use Rattle.nest.specs.View.{Row, Back, back, backs, peek, view}
-use Rattle.nest.specs.Nest.{Entered, refused, untaken, taken, Returned, returned, Walked, Rule3}
+use Rattle.nest.specs.Nest.{refused, untaken, Returned, returned, Walked, Rule3}
 use Rattle.nest.specs.Laws.{Return, Laws}
 use Rattle.nest.specs.Tale.{rule3}
 use Rattle.entered.specs.Pointers.{regsOf}

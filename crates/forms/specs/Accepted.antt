@@ -1,21 +1,16 @@
 -- What a call that no number refuses is known to be: flags, kind, vector, floating point.
-use Prim.Native.Nat.{ℕ, zero, suc, _+_, _%_, _^_, _≤_, _<_}
-use mathlib.Core.Path.{_≡_, refl, sym, ap, _∙_}
+use Prim.Native.Nat.{ℕ, _+_, _^_, _≤_, _<_}
+use mathlib.Core.Path.{_≡_, refl, sym, _∙_}
 use mathlib.Core.Logic.{_⊎_, inl, inr}
 use mathlib.Core.Bool.{Bool, true, false, not}
-use mathlib.Core.List.{List, [], _∷_}
 use native.Mathlib.Omega.{arith}
 use borrow.Author.Tests.{ltb-false, eqb-true}
 use lib.Dec.{eqb, ltb}
 use lib.ListN.{length, getD}
-use Rattle.types.specs.Kinds.{pick, either, both, is060}
-use Rattle.cpu.specs.declared.Cpu.{Cpu}
+use Rattle.types.specs.Kinds.{either, both, is060}
 use Rattle.cpu.specs.Fields.{kindOf}
-use Rattle.memory.specs.declared.Core.{Core}
-use Rattle.memory.specs.declared.Bus.{Bus}
 use Rattle.memory.specs.World.{World, cpuOf}
-use Rattle.refusals.specs.declared.Matter.{Matter}
-use Rattle.refusals.specs.Refusals.{badFlags, oddBase, badCode, badVector, badKind, testsOf, refusalOf, badStore, badWindows}
+use Rattle.refusals.specs.Refusals.{badFlags, oddBase, badCode, badVector, badKind, testsOf, badStore, badWindows}
 use Rattle.refusals.specs.Laws.{outcomes, refusal-place, place-none}
 use Rattle.calls.specs.declared.Call.{Call}
 use Rattle.calls.specs.Matters.{matterOf}

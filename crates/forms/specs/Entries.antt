@@ -1,32 +1,30 @@
 -- Each entry that is no interrupt leaves what its plan says, where nothing faults.
-use Prim.Native.Nat.{ℕ, zero, suc, _+_, _%_, _^_}
+use Prim.Native.Nat.{ℕ, _+_, _%_, _^_}
 use mathlib.Core.Path.{_≡_, refl, sym, ap, _∙_, subst}
 use mathlib.Core.Bool.{Bool, true, false}
-use mathlib.Core.List.{List, [], _∷_}
+use mathlib.Core.List.{[]}
 use lib.Dec.{eqb}
-use lib.ListN.{set, getD}
-use Rattle.types.specs.Kinds.{pick, either, isPre68020, is060}
+use Rattle.types.specs.Kinds.{pick, isPre68020}
 use Rattle.cpu.specs.declared.Cpu.{Cpu}
 use Rattle.cpu.specs.declared.Flow.{Flow}
 use Rattle.cpu.specs.Fields.{kindOf, pcOf, ppcOf, inException, setException, rewindPc, noteFpiar, leaveStop, clearFcOverride}
 use Rattle.cpu.specs.Clocks.{internalCycles, prefetchEnabled, setClocks, clocksOf}
 use Rattle.status.specs.Status.{getSr, compose, clearTrace}
 use Rattle.status.specs.Banks.{spIndex, backupSp, restoreSp, putS, setSFlag, enterSupervisor}
-use Rattle.memory.specs.declared.Core.{Core}
 use Rattle.memory.specs.World.{World, world, putCpu, cpuOf, withCpu, step}
 use Rattle.frames.specs.declared.Frame.{Frame}
 use Rattle.frames.specs.Frames.{addressFrame, busFrame}
-use Rattle.steps.specs.Steps.{enterBusError, stacksNext, stackedAddress, beginEntry, beginTrace}
+use Rattle.steps.specs.Steps.{enterBusError, stackedAddress, beginEntry, beginTrace}
 use Rattle.access.specs.Access.{Raise, raised, pushFrame, pushExceptionFrame68000, jumpVector, exceptionAddressError, exceptionBusError}
 use Rattle.exceptions.specs.Frames.{formatWord, offsetWord, shortFrame, longFrame, disabledFrame}
-use Rattle.exceptions.specs.Exceptions.{Entry, entry, supervised, stackShort, finished, taken, takeException, stackGroup2, takeGroup2, trap, exceptionTrace, takeRewound, stackUnimp, takeFpUnimp060, stackDisabled, takeFpDisabled060}
+use Rattle.exceptions.specs.Exceptions.{supervised, stackShort, finished, taken, takeException, stackGroup2, takeGroup2, exceptionTrace, takeRewound, stackUnimp, takeFpUnimp060, stackDisabled, takeFpDisabled060}
 use Rattle.images.specs.Pushes.{calm}
 use Rattle.images.specs.Images.{Ready}
 use Rattle.images.specs.Jumps.{Reachable}
 use Rattle.forms.specs.Gist.{gist, gistCpu, framedBy, stacked-form}
 use Rattle.forms.specs.Jumps.{jumped, jump-form, cycles-gist}
 use Rattle.forms.specs.Orders.{words6, short-form}
-use Rattle.forms.specs.Plans.{Push, Plan, turned, stackAll, planned, AllReady, Clean, same, single, shortOf, excPlan, rewoundPlan, group2Frame, group2Plan, tracePlan, fpUnimpPlan, fpDisabledPlan, addressPlan, busPlan}
+use Rattle.forms.specs.Plans.{turned, stackAll, planned, AllReady, Clean, same, single, shortOf, excPlan, rewoundPlan, group2Frame, group2Plan, tracePlan, fpUnimpPlan, fpDisabledPlan, addressPlan, busPlan}
 
 -- ---- a change of the record, seen through the gist
 

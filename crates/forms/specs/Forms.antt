@@ -4,33 +4,28 @@ use mathlib.Core.Path.{_≡_, refl, sym, ap, _∙_, subst}
 use mathlib.Core.Bool.{Bool, true, false}
 use mathlib.Core.Option.{Option, none, some}
 use native.Mathlib.Omega.{arith}
-use lib.Dec.{eqb}
-use lib.ListN.{length, getD}
+use lib.ListN.{length}
 use mathlib.Core.List.{List, [], _∷_}
 use Rattle.types.specs.Kinds.{pick}
 use Rattle.types.specs.Causes.{causeNumber}
 use Rattle.cpu.specs.declared.Cpu.{Cpu}
 use Rattle.cpu.specs.Fields.{inException, isFaulted, a7Of, kindOf, ppcOf, vbrOf, checksAlignment, hasFcOverride, fcOverrideOf}
 use Rattle.pending.specs.Interrupts.{takesInterrupt}
-use Rattle.memory.specs.declared.Core.{Core}
-use Rattle.memory.specs.declared.Bus.{Bus}
-use Rattle.memory.specs.World.{World, Attempt, tried, putCpu, cpuOf}
+use Rattle.memory.specs.World.{World, putCpu, cpuOf}
 use Rattle.refusals.specs.Refusals.{oddBase, badCode}
-use Rattle.access.specs.Access.{raised, exceptionBusError, exceptionAddressError}
-use Rattle.exceptions.specs.Exceptions.{Entry, takeException, takeGroup2, trap, exceptionTrace, takeRewound, takeFpUnimp060, takeFpDisabled060}
-use Rattle.interrupts.specs.Interrupts.{checkAndService}
+use Rattle.exceptions.specs.Exceptions.{trap}
 use Rattle.calls.specs.declared.Call.{Call}
 use Rattle.calls.specs.declared.Call.the-variants.{TakeException, Trap, TakeGroup2Exception, ExceptionChk, ExceptionZeroDivide, ExceptionPrivilege, ExceptionTrace, ExceptionAddressError, ExceptionBusError, TakeFpUnimp060, TakeFpDisabled060, TakeAlineException, TakeFlineException, TakeTrapException, TakeBkptException, TakeIllegalException, TriggerAddressError, TriggerBusError, CheckTrace, SetIrq, CheckInterrupts, CheckAndServiceInterrupts, Read16, Read32, Write16, Write32, Push16, Push32, PrefetchFirst, PrefetchSecond}
 use Rattle.frames.specs.declared.Frame.{Frame}
 use Rattle.calls.specs.Matters.{matterOf}
-use Rattle.calls.specs.Calls.{Performed, cycles, flag, ofEntry, ofService, run, restarted, begun, refusal, perform}
+use Rattle.calls.specs.Calls.{cycles, flag, ofEntry, ofService, run, restarted, begun, refusal, perform}
 use Rattle.images.specs.Pushes.{calm}
 use Rattle.forms.specs.Gist.{gist, gistCpu, framedBy}
 use Rattle.forms.specs.Jumps.{jumped}
 use Rattle.forms.specs.Kept.{Good, Steady, AllSteady, planned-good, steady-gist, steady-enter, steady-leave, steady-same, steady-exception, steady-rewound, steady-traced, steady-fpiar, steady-bus, steady-level, steady-clear, steady-end, steady-close}
 use Rattle.forms.specs.Tests.{framed-length, framed-bus, Whole, Safe, AllSafe, cleanTest, clean-tested, safe-same, safe-enter, safe-exception, safe-rewound, safe-traced, safe-fpiar, safe-bus, safe-level, safe-leave, safe-clear}
 use Rattle.forms.specs.Accepted.{accepted-store}
-use Rattle.forms.specs.Plans.{Push, Plan, turned, stackAll, planned, Clean, single, throwaways, settles, interruptBy, excPlan, rewoundPlan, group2Plan, tracePlan, fpUnimpPlan, fpDisabledPlan, addressPlan, busPlan, interruptPlan}
+use Rattle.forms.specs.Plans.{Push, Plan, turned, stackAll, planned, Clean, throwaways, settles, interruptBy, excPlan, rewoundPlan, group2Plan, tracePlan, fpUnimpPlan, fpDisabledPlan, addressPlan, busPlan, interruptPlan}
 use Rattle.forms.specs.Entries.{exc-form, rewound-form, group2-form, trace-form, fpUnimp-form, fpDisabled-form, address-form, bus-form}
 use Rattle.forms.specs.Interrupts.{interrupt-form}
 

@@ -1,28 +1,24 @@
 -- The gist of a world: all but the queue, the clocks, the fault fields, the log and the count of events. An access that nothing
 -- refuses does to it what its name says, and no trigger stands in what it does.
-use Prim.Native.Nat.{ℕ, zero, suc, _+_, _-_, _%_, _^_, _≤_, _<_}
-use mathlib.Core.Path.{_≡_, refl, sym, ap, _∙_, subst}
+use Prim.Native.Nat.{ℕ, zero, suc, _+_, _-_, _%_, _^_, _<_}
+use mathlib.Core.Path.{_≡_, refl, sym, ap, _∙_}
 use mathlib.Core.Bool.{Bool, true, false}
-use mathlib.Core.List.{List, [], _∷_}
+use mathlib.Core.List.{List, []}
 use native.Mathlib.Omega.{arith}
-use lib.Dec.{eqb, ltb}
-use lib.ListN.{length, getD, set, length-set}
+use lib.Dec.{eqb}
+use lib.ListN.{length, length-set}
 use lib.Seq.{getD-set-same, set-getD, set-set}
 use Rattle.types.specs.Kinds.{pick, isPre68020, maskAddress}
 use Rattle.cpu.specs.declared.Cpu.{Cpu}
-use Rattle.cpu.specs.declared.Queue.{Queue}
-use Rattle.cpu.specs.declared.Fault.{Fault}
-use Rattle.cpu.specs.declared.Resume.{Resume}
 use Rattle.cpu.specs.Fields.{kindOf, a7Of, addressOf, isFaulted, checksAlignment, setWdata, setA7, lowerA7, minus32}
 use Rattle.cpu.specs.Clocks.{hasClocks, clocksOf, setClocks}
-use Rattle.memory.specs.declared.Core.{Core}
 use Rattle.memory.specs.declared.Bus.{Bus}
 use Rattle.memory.specs.Log.{counted}
 use Rattle.memory.specs.Served.{servedOf, placeOf}
 use Rattle.memory.specs.World.{World, world, noted, stored, withCpu, putCpu, widthOf, served, written, flush, rawWrite, tryWrite, cpuOf}
 use Rattle.memory.specs.Bytes.{putWord, putLong}
 use Rattle.memory.specs.ByteLaws.{put, put-length}
-use Rattle.memory.specs.AccessLaws.{kept, write-store}
+use Rattle.memory.specs.AccessLaws.{kept}
 use Rattle.frames.specs.declared.Field.{Field}
 use Rattle.frames.specs.declared.Frame.{Frame}
 use Rattle.frames.specs.Frames.{fieldAt, isCounted, isRaw}

@@ -1,34 +1,30 @@
 -- The interrupt call, taken, leaves what its plan says, where nothing faults: one frame, two, and the two orders of the bus.
-use Prim.Native.Nat.{ℕ, zero, suc, _+_, _/_, _%_, _^_}
+use Prim.Native.Nat.{ℕ, _+_, _%_, _^_}
 use mathlib.Core.Path.{_≡_, refl, sym, ap, _∙_, subst}
 use mathlib.Core.Bool.{Bool, true, false}
-use mathlib.Core.List.{List, [], _∷_}
+use mathlib.Core.List.{[], _∷_}
 use lib.Dec.{eqb}
-use lib.ListN.{set, getD, length}
 use Rattle.types.specs.Kinds.{pick, isEc020Plus, is060}
 use Rattle.cpu.specs.declared.Cpu.{Cpu}
-use Rattle.cpu.specs.declared.Flow.{Flow}
 use Rattle.cpu.specs.Fields.{kindOf, pcOf, a7Of, setA7, lowerA7, clearStopped}
 use Rattle.cpu.specs.Clocks.{internalCycles}
 use Rattle.status.specs.Status.{getSr, clearTrace, clearM, mIsSet, setIntMask}
 use Rattle.status.specs.Banks.{spIndex, backupSp, restoreSp, putS, setSFlag, setSmFlagNosp, setSmFlag, enterSupervisor}
 use Rattle.pending.specs.Interrupts.{pendingLevel, takesInterrupt, clearLevel, chargeInterrupt, charged}
-use Rattle.memory.specs.declared.Core.{Core}
 use Rattle.memory.specs.Log.{counted}
-use Rattle.memory.specs.World.{World, world, Attempt, reply, tried, noted, stored, putCpu, flush, responseOf, acknowledged, cpuOf, withCpu, step}
+use Rattle.memory.specs.World.{World, Attempt, noted, stored, putCpu, flush, responseOf, acknowledged, cpuOf, withCpu, step}
 use Rattle.frames.specs.declared.Frame.{Frame}
 use Rattle.frames.specs.Frames.{fieldAt}
-use Rattle.access.specs.Access.{Raise, raised, writeAt, pushFrame, jumpVector}
+use Rattle.access.specs.Access.{raised, writeAt, pushFrame, jumpVector}
 use Rattle.exceptions.specs.Frames.{formatWord, offsetWord, shortFrame}
 use Rattle.steps.specs.Steps.{iackVector, enterLevel, withS, closeInterrupt}
 use Rattle.interrupts.specs.Interrupts.{vectorFrom, acknowledgeLevel, syncedAcknowledge, rest68000, from68000, writes68010, rest68010, restOther, firstFrame, throwaway, secondFrame, ended, dispatched, serviceInterrupt, serviced, checkAndService, pushInterrupt68000, pushInterrupt68010, pushInterruptOther}
 use Rattle.images.specs.Pushes.{calm}
 use Rattle.images.specs.Images.{Ready, newA7, frameBytes}
-use Rattle.images.specs.Jumps.{Reachable}
 use Rattle.forms.specs.Gist.{gist, gistCpu, flush-gist, at7, framedBy, lower-form, stacked-form}
 use Rattle.forms.specs.Jumps.{jumped, jump-form, cycles-gist}
 use Rattle.forms.specs.Orders.{words6, words8, q6, first6, three-form, four-form, lowered-a7}
-use Rattle.forms.specs.Plans.{Push, Plan, turned, stackAll, planned, AllReady, Clean, same, interruptVector, interruptFrame, throwaways, settles, interruptBy, interruptPlan}
+use Rattle.forms.specs.Plans.{turned, stackAll, planned, AllReady, Clean, same, interruptVector, interruptFrame, throwaways, settles, interruptBy, interruptPlan}
 use Rattle.forms.specs.Entries.{Seen, turn-form, seen-same}
 
 -- ---- the acknowledge

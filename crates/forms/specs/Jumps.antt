@@ -1,23 +1,19 @@
 -- The jump to a vector whose reads nothing refuses: loop mode ends, PC is the handler's address, and nothing else of the gist changes.
-use Prim.Native.Nat.{ℕ, zero, suc, _+_, _*_, _%_, _^_, _<_}
+use Prim.Native.Nat.{ℕ, _+_, _%_, _^_}
 use mathlib.Core.Path.{_≡_, refl, sym, ap, _∙_}
 use mathlib.Core.Bool.{Bool, true, false}
-use mathlib.Core.List.{List, []}
 use lib.Dec.{eqb}
-use lib.ListN.{length}
-use Rattle.types.specs.Kinds.{pick, isPre68020, isPrefetchKind, maskAddress}
-use Rattle.cpu.specs.declared.Cpu.{Cpu}
-use Rattle.cpu.specs.Fields.{kindOf, pcOf, vbrOf, addressOf, isFaulted, checksAlignment, setPc, startVector, oddPc}
+use Rattle.types.specs.Kinds.{pick}
+use Rattle.cpu.specs.Fields.{pcOf, vbrOf, addressOf, isFaulted, checksAlignment, setPc, startVector, oddPc}
 use Rattle.cpu.specs.Clocks.{prefetchEnabled, oneFetched, internalCycles, setClocks, clocksOf, clearPrefetch, firstWord, secondWord}
-use Rattle.memory.specs.declared.Core.{Core}
 use Rattle.memory.specs.Log.{counted}
-use Rattle.memory.specs.Served.{servedOf, placeOf}
-use Rattle.memory.specs.World.{World, world, Attempt, reply, noted, putCpu, widthOf, served, fetched, readValue, flush, release, rawRead, tryRead, cpuOf, withCpu, step}
+use Rattle.memory.specs.Served.{placeOf}
+use Rattle.memory.specs.World.{World, Attempt, reply, noted, putCpu, widthOf, served, fetched, readValue, flush, release, rawRead, tryRead, cpuOf, withCpu, step}
 use Rattle.steps.specs.Steps.{refusesOdd, vectorAddress}
 use Rattle.access.specs.Access.{Raise, readOr, prefetchRead, keptFirst, firstFrom, prefetchFirst, keptSecond, secondFrom, prefetchSecond, checkedRead, readAt, vectorRead, refill, jumpTo, jumpVector}
-use Rattle.images.specs.Pushes.{calm, served-calm}
+use Rattle.images.specs.Pushes.{calm}
 use Rattle.images.specs.Jumps.{vectorPlace, handler, Reachable}
-use Rattle.forms.specs.Gist.{gist, gistCpu, gist-gist, served-gist, flush-gist, address-gist, faulted-gist}
+use Rattle.forms.specs.Gist.{gist, gistCpu, served-gist, flush-gist, address-gist, faulted-gist}
 
 -- ---- reads
 

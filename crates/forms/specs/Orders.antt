@@ -1,32 +1,28 @@
 -- The frames that are written word by word in the order of the bus, A7 lowered first: kind 1 (address low, status, address high) and
 -- the interrupt of kind 2 (the same, then the format word). What they leave is the frame of these words.
-use Prim.Native.Nat.{ℕ, zero, suc, _+_, _-_, _*_, _/_, _%_, _^_, _≤_, _<_}
+use Prim.Native.Nat.{ℕ, _+_, _-_, _/_, _%_, _^_, _≤_, _<_}
 use mathlib.Core.Path.{_≡_, refl, sym, ap, _∙_}
-use mathlib.Core.Bool.{Bool, true, false}
-use mathlib.Core.Logic.{inl, inr}
+use mathlib.Core.Bool.{Bool, false}
+use mathlib.Core.Logic.{inr}
 use mathlib.Core.List.{List, [], _∷_}
 use native.Mathlib.Omega.{arith}
 use borrow.Author.Tests.{le-ltb}
-use lib.Dec.{eqb, ltb}
-use lib.ListN.{length, getD, set, length-set}
+use lib.Dec.{eqb}
+use lib.ListN.{length}
 use Rattle.types.specs.Kinds.{pick, isPre68020, maskAddress}
-use Rattle.cpu.specs.declared.Cpu.{Cpu}
 use Rattle.cpu.specs.Fields.{kindOf, a7Of, addressOf, isFaulted, checksAlignment, setA7, lowerA7, minus32}
-use Rattle.memory.specs.declared.Core.{Core}
 use Rattle.memory.specs.declared.Bus.{Bus}
 use Rattle.memory.specs.Served.{servedOf, placeOf}
-use Rattle.memory.specs.Runs.{Apart}
-use Rattle.memory.specs.World.{World, world, stored, putCpu, widthOf, served, cpuOf, withCpu}
+use Rattle.memory.specs.World.{World, stored, putCpu, widthOf, served, cpuOf, withCpu}
 use Rattle.memory.specs.ByteLaws.{put, put-length, put-comm}
 use Rattle.memory.specs.AccessLaws.{kept}
-use Rattle.memory.specs.ServedLaws.{Clear, served-means}
-use Rattle.frames.specs.declared.Field.{Field}
+use Rattle.memory.specs.ServedLaws.{served-means}
 use Rattle.frames.specs.declared.Frame.{Frame}
 use Rattle.frames.specs.Frames.{word, framed, fieldAt, isCounted, isRaw}
 use Rattle.steps.specs.Steps.{refusesOdd}
 use Rattle.access.specs.Access.{Raise, writeAt, shortWrites, pushExceptionFrame68000}
 use Rattle.images.specs.Pushes.{laidField}
-use Rattle.images.specs.Images.{Sound, Shape, Ready, Allowed, frameBytes, fieldAddress, laid, newA7, bottom, at-offset}
+use Rattle.images.specs.Images.{Shape, Ready, frameBytes, fieldAddress, laid, newA7, bottom, at-offset}
 use Rattle.forms.specs.Gist.{gist, wroteAt, at7, a7-gist, a7-at7, guard-form, lower-form, framedBy, minus-below}
 
 -- status and address by words: 6 bytes, and with a format word 8

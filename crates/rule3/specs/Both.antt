@@ -1,6 +1,6 @@
 -- The bridge the other way: a frame that `unwind` takes, and a return that it accepts, is one of the nest. So 11, 12 and 13 refuse exactly
 -- where the nest's return is refused.
-use Prim.Native.Nat.{ℕ, zero, suc, _+_, _-_, _*_, _/_, _%_, _^_, _≤_, _<_}
+use Prim.Native.Nat.{ℕ, zero, suc, _+_, _-_, _/_, _%_, _<_}
 use mathlib.Core.Path.{_≡_, refl, sym, ap, _∙_, subst}
 use mathlib.Core.Bool.{Bool, true, false, cond, _&&_}
 use mathlib.Core.List.{List}
@@ -18,14 +18,14 @@ use Rattle.unwind.specs.declared.frames.Frame.{Frame}
 use Rattle.unwind.specs.Frames.{Sight, sight, byteServed, byteOf, allServed, wordOf, longOf, headOf, refusedFrame, takenFrame, sizedFrame, formatFrame, oddPointer, frameOf}
 use Rattle.unwind.specs.Returns.{inUser, takeFrame, refusedBack, doneBack, secondBack, firstBack, back}
 use Rattle.unwind.specs.Straight.{all-each}
-use Rattle.nest.specs.View.{Bytes, peek, addr, aligned, odd, frameLen, View, top, opt, word, long, served, Taken, settle, sized, fullFrame, shortFrame, frame, nonzero, view, second, last}
+use Rattle.nest.specs.View.{Bytes, peek, addr, aligned, odd, frameLen, View, top, opt, word, long, Taken, settle, sized, frame, nonzero, view, second}
 use Rattle.nest.specs.View.{Back as NestBack, back as nestBack}
 use Rattle.nest.specs.Reading.{view-kind, view-a7, view-s}
 use Rattle.entered.specs.Pointers.{regsOf, Fit}
 use Rattle.entered.specs.Entered.{kind-regs}
 use Rattle.entered.specs.Bytes.{memOf}
 use Rattle.rule3.specs.Seen.{seen, served-is, table-is, odd-is, frameIs}
-use Rattle.rule3.specs.Taken.{here, there, take-kind, take-fit}
+use Rattle.rule3.specs.Taken.{here, there, take-kind}
 
 module _ (k : ℕ) (bus : Bus) (store : List ℕ) where
   abbrev v : Sight

@@ -1,7 +1,4 @@
 -- One name for all that a worked nest computes through: to unfold it is to unfold what its line names.
-use Prim.Native.Nat.{ℕ}
-use mathlib.Core.Bool.{Bool}
-use mathlib.Core.List.{List}
 use Rattle.types.specs.Kinds.{statusMask}
 use Rattle.types.specs.Tables.{formatLength, takesFormat, frameLength}
 use Rattle.cpu.specs.declared.Cpu.{Cpu}
@@ -9,8 +6,9 @@ use Rattle.cpu.specs.Fields.{rewindPc, leaveStop, noteFpiar}
 use Rattle.status.specs.Status.{putBackSr}
 use Rattle.frames.specs.Frames.{frame8, frame68000, addressFrame}
 use Rattle.access.specs.Access.{exceptionAddressError}
+use Rattle.steps.specs.Steps.{beginTrace}
 use Rattle.exceptions.specs.Frames.{disabledFrame}
-use Rattle.exceptions.specs.Exceptions.{takeRewound, beginTrace, exceptionTrace, stackUnimp, takeFpUnimp060, stackDisabled, takeFpDisabled060}
+use Rattle.exceptions.specs.Exceptions.{takeRewound, exceptionTrace, stackUnimp, takeFpUnimp060, stackDisabled, takeFpDisabled060}
 use Rattle.images.specs.Pushes.{calm, laidField}
 use Rattle.images.specs.Images.{fieldAddress}
 use Rattle.images.specs.Images.{laid as laidFrame}
@@ -23,7 +21,7 @@ use Rattle.unwind.specs.Frames.{byteAddress, byteServed, byteOf, allServed, wor
 use Rattle.unwind.specs.Returns.{inUser, raiseA7, swapSr, takeFrame, rowOf, refusedBack, doneBack, secondBack, firstBack, back, trailOf, putRow, putRows, laid, walkOf}
 use Rattle.unwind.specs.Unwind.{refusal, returned, returnFrom, shortRows, walkFrom}
 use Rattle.nest.specs.View.{inWindows, inStore, peek, addr, srMask, under, sBit, mBit, view, served}
-use Rattle.nest.specs.Nest.{Returned, Walked, restored, Along, Always, AtTaken, HandlersKeep, HandlersLeave}
+use Rattle.nest.specs.Nest.{Returned, restored, Along, Always, AtTaken, HandlersKeep, HandlersLeave}
 use Rattle.entered.specs.Pointers.{regsOf}
 use Rattle.entered.specs.Bytes.{windowsOf, memOf}
 use Rattle.entered.specs.Paper.{paper, paperTakes}

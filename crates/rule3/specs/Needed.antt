@@ -1,27 +1,25 @@
 -- EACH PREMISE IS NEEDED: for each a short list of steps that keeps all the others and of which rule 3 would say something false. The other
 -- premises are shown by the test of `Checked` with the clause left out, the falsehood by computing the walk and the returns.
-use Prim.Native.Nat.{ℕ, zero, suc, _+_, _*_, _<_, _≤_}
-use mathlib.Core.Path.{_≡_, refl, sym, ap, _∙_, subst}
-use mathlib.Core.Bool.{Bool, true, false, _&&_}
+use Prim.Native.Nat.{ℕ, _<_}
+use mathlib.Core.Path.{_≡_, refl, sym, _∙_}
+use mathlib.Core.Bool.{true, false}
 use mathlib.Core.List.{List, [], _∷_}
-use mathlib.Core.Option.{Option, none, some}
+use mathlib.Core.Option.{some}
 use native.Mathlib.Omega.{arith}
-use borrow.Author.Tests.{eq-eqb, ltb-true}
-use lib.Dec.{eqb, ltb}
+use borrow.Author.Tests.{ltb-true}
+use lib.Dec.{ltb}
 use lib.IntN.{ℤ}
 use lib.ListN.{set, replicate}
-use Rattle.types.specs.declared.FaultCause.the-variants.{Absent}
 use Rattle.cpu.specs.declared.Cpu.{Cpu}
-use Rattle.cpu.specs.Groups.{withFlow, withRunMode, withT0Flag, withSFlag, withMFlag, withMmuFcOverride}
+use Rattle.cpu.specs.Groups.{withFlow}
+use Rattle.cpu.specs.Setters.{withRunMode, withT0Flag, withSFlag, withMFlag, withMmuFcOverride}
 use Rattle.memory.specs.declared.Bus.{Bus}
-use Rattle.calls.specs.declared.Call.{Call}
-use Rattle.calls.specs.declared.Call.the-variants.{Trap, ExceptionChk, ExceptionAddressError, ExceptionBusError, CheckAndServiceInterrupts}
+use Rattle.calls.specs.declared.Call.the-variants.{Trap, ExceptionChk, ExceptionAddressError}
 use Rattle.instances.specs.Start.{laid}
-use Rattle.nest.specs.View.{Row}
-use Rattle.nest.specs.Nest.{Step, entry, return, handlers, State, end, depth, rows, restoredBy, restored, Values, Walked, Told}
+use Rattle.nest.specs.Nest.{Step, return, handlers, end, depth, Told}
 use Rattle.entered.specs.Machines.{Room}
-use Rattle.rule3.specs.Rule3.{Real, walk}
-use Rattle.rule3.specs.Checked.{Engine, machineOf, real, Clause, sound, clean, served, noError, apart, keep, leave, PremisesBut, testBut, tested-but}
+use Rattle.rule3.specs.Rule3.{Real}
+use Rattle.rule3.specs.Checked.{real, Clause, sound, clean, served, noError, apart, keep, leave, PremisesBut, testBut, tested-but}
 use Rattle.rule3.specs.Tells.{toldTest, told-tested}
 use Rattle.rule3.specs.Nests.{bus, room, start, call, busError, tick}
 use Rattle.rule3.specs.Computed.{nested}

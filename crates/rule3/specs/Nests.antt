@@ -1,18 +1,16 @@
 -- WORKED NESTS: lists of steps on kinds 0, 1, 2, 4, 8, 10 and 11 that meet the premises of rule 3, each shown by one test that computes;
 -- what the book then holds, computed; and that rule 3 speaks of each. Every format is among them, a two-frame interrupt, a user state with
 -- M set, a return, a refused call, a call that is not taken, and a pair of lists for part (b).
-use Prim.Native.Nat.{ℕ, _+_, _*_, _<_, _≤_}
-use mathlib.Core.Path.{_≡_, refl, ap, _∙_}
-use mathlib.Core.Logic.{_↔_}
-use mathlib.Core.Bool.{Bool, true, false}
+use Prim.Native.Nat.{ℕ}
+use mathlib.Core.Path.{_≡_, refl}
+use mathlib.Core.Bool.{true, false}
 use mathlib.Core.List.{List, [], _∷_}
-use native.Mathlib.Omega.{arith}
 use borrow.Author.Tests.{ltb-true}
 use lib.Dec.{ltb}
 use lib.ListN.{set, replicate}
-use Rattle.types.specs.declared.FaultCause.the-variants.{Absent, PageFault}
+use Rattle.types.specs.declared.FaultCause.the-variants.{Absent}
 use Rattle.cpu.specs.declared.Cpu.{Cpu}
-use Rattle.cpu.specs.Groups.{withSp}
+use Rattle.cpu.specs.Setters.{withSp}
 use Rattle.cpu.specs.Fields.{setA7, setPc}
 use Rattle.cpu.specs.Fresh.{freshCpu}
 use Rattle.status.specs.Status.{putBackSr}
@@ -21,8 +19,8 @@ use Rattle.memory.specs.declared.Bus.{Bus}
 use Rattle.calls.specs.declared.Call.{Call}
 use Rattle.calls.specs.declared.Call.the-variants.{TakeException, Trap, ExceptionChk, ExceptionZeroDivide, ExceptionTrace, ExceptionAddressError, ExceptionBusError, TakeFpUnimp060, TakeFpDisabled060, TakeIllegalException, CheckAndServiceInterrupts}
 use Rattle.nest.specs.View.{Row}
-use Rattle.nest.specs.Nest.{Step, entry, return, handlers, State, end, depth, rows, restoredBy, restored, Values, Told, Alike, SameTale}
-use Rattle.entered.specs.Machines.{direct, Direct, Room}
+use Rattle.nest.specs.Nest.{Step, entry, return, handlers, end, depth, rows, restoredBy, Values, Told, SameTale}
+use Rattle.entered.specs.Machines.{direct, Room}
 use Rattle.rule3.specs.Rule3.{Real, rule3}
 use Rattle.rule3.specs.Checked.{real, premisesTest, premises-tested}
 use Rattle.rule3.specs.Computed.{nested}

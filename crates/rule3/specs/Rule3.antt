@@ -1,9 +1,9 @@
 -- RULE 3 of the project's calls: every direct entry of `perform`, and the return and the walk that the public contracts of `unwind` cite.
-use Prim.Native.Nat.{ℕ, zero, suc, _+_, _*_, _≤_, _<_}
+use Prim.Native.Nat.{ℕ, zero, suc, _*_, _≤_, _<_}
 use mathlib.Core.Path.{_≡_, refl, sym, ap, _∙_, subst}
 use mathlib.Core.Logic.{_⊎_, inl, inr}
 use mathlib.Core.Bool.{Bool, true, false, not}
-use mathlib.Core.List.{List, [], _∷_}
+use mathlib.Core.List.{List, _∷_}
 use mathlib.Core.Option.{Option, none, some}
 use native.Mathlib.Omega.{arith}
 use borrow.Author.Tests.{eqb-true, le-ltb, ltb-false}
@@ -12,18 +12,14 @@ use lib.ListN.{length, getD, replicate, length-replicate}
 use Rattle.types.specs.Kinds.{pick, either, both, isPrefetchKind}
 use Rattle.cpu.specs.declared.Cpu.{Cpu}
 use Rattle.cpu.specs.Fields.{kindOf, pcOf}
-use Rattle.status.specs.Status.{getSr}
-use Rattle.memory.specs.declared.Bus.{Bus}
 use Rattle.memory.specs.declared.Core.{Core}
-use Rattle.memory.specs.ByteLaws.{AllBytes}
 use Rattle.memory.specs.World.{putCpu}
 use Rattle.refusals.specs.Refusals.{badFlags, badCycles, shortLog, badVector, badKind, testsOf, firstOf, refusalOf}
 use Rattle.refusals.specs.Laws.{outcomes, refusal-place, place-none}
 use Rattle.forms.specs.Accepted.{either-false}
-use Rattle.unwind.specs.declared.returns.Back.{Back}
 use Rattle.unwind.specs.Frames.{Sight, sight}
-use Rattle.unwind.specs.Returns.{back, refusedBack, trail, trailOf}
-use Rattle.unwind.specs.Unwind.{ofStore, refusal, sightOf, shortRows, walkFrom, returnFrom}
+use Rattle.unwind.specs.Returns.{back, refusedBack, trailOf}
+use Rattle.unwind.specs.Unwind.{ofStore, refusal, shortRows, walkFrom, returnFrom}
 use Rattle.unwind.specs.Unwind.{returned as answer}
 use Rattle.unwind.specs.declared.Returned.{Returned as Answer}
 use Rattle.nest.specs.View.{Row, View, view, peek, under, opt}
@@ -33,11 +29,11 @@ use Rattle.nest.specs.Laws.{Return}
 use Rattle.entered.specs.Pointers.{regsOf, Fit}
 use Rattle.entered.specs.Bytes.{memOf}
 use Rattle.entered.specs.Machines.{Room, Passes, InsideRoom, machine}
-use Rattle.entered.specs.Entered.{Inside, kind-regs}
+use Rattle.entered.specs.Entered.{kind-regs}
 use Rattle.entered.specs.Rule3.{nest}
 use Rattle.entered.specs.Flags.{masked, status-regs}
-use Rattle.rule3.specs.Taken.{rowHere, Gives, back-gives, back-inside, back-kind}
-use Rattle.rule3.specs.Rows.{told, tale, walk-tells, rowsHere, numbered}
+use Rattle.rule3.specs.Taken.{Gives, back-gives, back-inside, back-kind}
+use Rattle.rule3.specs.Rows.{told, tale, walk-tells, rowsHere}
 
 -- ---- the machine
 

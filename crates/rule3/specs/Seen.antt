@@ -1,7 +1,7 @@
 -- A frame as `unwind` sees it (`Sight`, `frameOf`) and as the nest does (`View`, `frame`): where the nest reads one, so does `unwind`.
 use Prim.Native.Nat.{ℕ, zero, suc, _+_, _-_, _*_, _/_, _%_, _^_, _≤_, _<_}
-use mathlib.Core.Path.{_≡_, refl, sym, ap, _∙_, subst}
-use mathlib.Core.Logic.{_⊎_, inl, inr}
+use mathlib.Core.Path.{_≡_, refl, sym, ap, _∙_}
+use mathlib.Core.Logic.{inl, inr}
 use mathlib.Core.Bool.{Bool, true, false, cond, not, _&&_, _||_}
 use mathlib.Core.List.{List, [], _∷_}
 use mathlib.Core.Option.{Option, none, some}
@@ -20,7 +20,7 @@ use Rattle.memory.specs.ServedLaws.{Byte, start, size}
 use Rattle.unwind.specs.declared.frames.Frame.{Frame}
 use Rattle.unwind.specs.Frames.{Sight, sight, byteAddress, byteServed, byteOf, allServed, wordOf, longOf, headOf, refusedFrame, takenFrame, sizedFrame, formatFrame, oddPointer, frameOf}
 use Rattle.unwind.specs.Straight.{one-byte, byte-one}
-use Rattle.nest.specs.View.{Bytes, peek, inStore, inWindows, addr, span, aligned, odd, short, lengths, frameLen, View, top, opt, isSome, word, long, served, Taken, settle, sized, fullFrame, shortFrame, frame}
+use Rattle.nest.specs.View.{Bytes, peek, inStore, inWindows, addr, aligned, odd, lengths, frameLen, View, top, opt, isSome, word, long, served, Taken, settle, sized, fullFrame, shortFrame, frame}
 use Rattle.entered.specs.Bytes.{memOf, windowsOf, byte-peek}
 
 no : {A : Type 0} → false ≡ true → A

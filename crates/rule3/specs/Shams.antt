@@ -2,18 +2,18 @@
 -- hold; the list that shows it meets every premise.
 use Prim.Native.Nat.{ℕ, zero, suc, _+_, _-_}
 use mathlib.Core.Path.{_≡_, refl, sym, _∙_}
-use mathlib.Core.Bool.{Bool, true, false, cond, not, _&&_}
+use mathlib.Core.Bool.{true, false, cond, not, _&&_}
 use mathlib.Core.List.{List, [], _∷_}
 use native.Mathlib.Omega.{arith}
 use borrow.Author.Tests.{ltb-true}
 use lib.Dec.{eqb, ltb}
 use lib.ListN.{getD, set}
 use Rattle.cpu.specs.declared.Cpu.{Cpu}
-use Rattle.cpu.specs.Groups.{withMFlag}
+use Rattle.cpu.specs.Setters.{withMFlag}
 use Rattle.cpu.specs.Fields.{kindOf, a7Of, setA7}
 use Rattle.calls.specs.declared.Call.the-variants.{Trap, CheckAndServiceInterrupts}
-use Rattle.nest.specs.Nest.{Step, entry, end, depth, Entered, refused, untaken, taken, Returned, denied, returned, Walked, Rule3}
-use Rattle.entered.specs.Machines.{Direct, Room}
+use Rattle.nest.specs.Nest.{Step, entry, end, depth, Entered, refused, untaken, taken, Returned, denied, returned, Rule3}
+use Rattle.entered.specs.Machines.{Room}
 use Rattle.rule3.specs.Checked.{Engine, machineOf, real, premisesTest, premises-tested}
 use Rattle.rule3.specs.Tells.{toldTest, told-tested}
 use Rattle.rule3.specs.Nests.{room, start}

@@ -1,24 +1,22 @@
 -- THE STATEMENT ITSELF: that its domain is what the types give, that refusals and moving stores are inside it, and that "its accesses are
 -- served and raise no address error" is neither too strong nor too weak. Each by a lemma or by computing.
-use Prim.Native.Nat.{ℕ, zero, suc, _+_, _<_}
+use Prim.Native.Nat.{ℕ, _<_}
 use mathlib.Core.Path.{_≡_, refl}
 use mathlib.Core.Bool.{Bool, true, false}
-use mathlib.Core.List.{List, [], _∷_}
+use mathlib.Core.List.{[], _∷_}
 use lib.IntN.{negsuc}
 use lib.ListN.{length, getD, set, replicate}
 use Rattle.cpu.specs.declared.Cpu.{Cpu}
-use Rattle.cpu.specs.Groups.{withSFlag, withMmuFcOverride}
+use Rattle.cpu.specs.Setters.{withSFlag, withMmuFcOverride}
 use Rattle.cpu.specs.Fields.{pcOf, ppcOf, a7Of, setPc}
-use Rattle.memory.specs.declared.Bus.{Bus}
-use Rattle.calls.specs.declared.Call.{Call}
 use Rattle.calls.specs.declared.Call.the-variants.{TakeException, Trap, ExceptionChk, TakeFpUnimp060, CheckAndServiceInterrupts}
 use Rattle.calls.specs.Calls.{begun, refusal}
 use Rattle.forms.specs.Forms.{planOf}
 use Rattle.instances.specs.Start.{laid}
-use Rattle.nest.specs.Nest.{Step, handlers, return, end, Told}
+use Rattle.nest.specs.Nest.{handlers, end, Told}
 use Rattle.entered.specs.Machines.{Room, InsideRoom, worldOf}
 use Rattle.rule3.specs.Rule3.{Real}
-use Rattle.rule3.specs.Checked.{real, insideTest, cleanBy}
+use Rattle.rule3.specs.Checked.{insideTest, cleanBy}
 use Rattle.rule3.specs.Nests.{bus, room, start, call, tick, tells}
 use Rattle.rule3.specs.Needed.{withBase, withCycles, trapped, windows}
 use Rattle.rule3.specs.Computed.{nested}

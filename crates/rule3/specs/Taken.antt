@@ -1,14 +1,13 @@
 -- A return on the record, as `unwind` has it (`takeFrame`, `back`), and as the nest sees it (`settle`, `back`); and what it leaves.
-use Prim.Native.Nat.{ℕ, zero, suc, _+_, _-_, _*_, _/_, _%_, _^_, _≤_, _<_}
+use Prim.Native.Nat.{ℕ, _+_, _-_, _/_, _%_, _^_, _<_}
 use mathlib.Core.Path.{_≡_, refl, sym, ap, _∙_, subst}
 use mathlib.Core.Logic.{_⊎_, inl, inr}
 use mathlib.Core.Bool.{Bool, true, false, cond}
-use mathlib.Core.List.{List, [], _∷_}
+use mathlib.Core.List.{List}
 use mathlib.Core.Option.{Option, none, some}
 use native.Mathlib.Omega.{arith}
-use borrow.Author.Tests.{eqb-true}
 use lib.Dec.{eqb}
-use lib.ListN.{length, getD, set, length-set}
+use lib.ListN.{getD, length-set}
 use lib.Seq.{getD-set-same}
 use Rattle.types.specs.Kinds.{pick, maskStatus, isPrefetchKind}
 use Rattle.types.specs.Tables.{frameLength}
@@ -17,7 +16,7 @@ use Rattle.cpu.specs.Fields.{kindOf, pcOf, ppcOf, vbrOf, a7Of, checksAlignment,
 use Rattle.cpu.specs.Clocks.{clearPrefetch}
 use Rattle.status.specs.Status.{getSr, decompose, sOf, mOf, putBackSr}
 use Rattle.status.specs.Banks.{spIndex, backupSp, restoreSp}
-use Rattle.refusals.specs.Refusals.{badFlags, oddBase, badCode}
+use Rattle.refusals.specs.Refusals.{oddBase, badCode}
 use Rattle.memory.specs.declared.Bus.{Bus}
 use Rattle.memory.specs.ByteLaws.{AllBytes}
 use Rattle.unwind.specs.declared.frames.Frame.{Frame}
@@ -33,7 +32,7 @@ use Rattle.nest.specs.Banks.{bankG, save, loaded, select, withA7, withFlags, vi
 use Rattle.nest.specs.Settled.{frame-settled}
 use Rattle.entered.specs.Pointers.{regsOf, stacksOf, view-of, Fit, backup-stacks, restore-stacks, backup-fit, restore-fit, top-of, move-stacks, move-fit}
 use Rattle.entered.specs.Bytes.{memOf}
-use Rattle.entered.specs.Machines.{Room, Passes, InsideRoom, flags-accepted}
+use Rattle.entered.specs.Machines.{Room, Passes, flags-accepted}
 use Rattle.entered.specs.Entered.{Inside, kind-regs}
 use Rattle.entered.specs.Flags.{masked, flag-s, flag-m, bit-flag}
 use Rattle.forms.specs.Tests.{set-small}

@@ -9,7 +9,7 @@ use native.Mathlib.Omega.{arith}
 use borrow.Author.Tests.{eq-eqb}
 use lib.Dec.{eqb}
 use Rattle.nest.specs.View.{Row}
-use Rattle.nest.specs.Nest.{Machine, State, depth, rows, restoredBy, restored, Values, Walked, Told}
+use Rattle.nest.specs.Nest.{Machine, State, depth, rows, restoredBy, restored, Values, Told}
 use Rattle.rule3.specs.Checked.{Engine, machineOf}
 
 abbrev sameRow : Row → Row → Bool

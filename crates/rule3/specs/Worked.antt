@@ -1,36 +1,24 @@
 -- A nest of two ticks on the 68010, computed: an interrupt of level 2, and inside its handler one of level 4. The premises of rule 3 hold of
 -- it, and the rows and values that rule 3 gives are these. The store has 512 bytes from 0, with the handlers' addresses 0x120 at vector 26
 -- (0x68) and 0x140 at vector 28 (0x70).
-use Prim.Native.Nat.{ℕ, zero, suc, _+_, _*_, _%_, _<_, _≤_}
+use Prim.Native.Nat.{ℕ, _*_, _<_, _≤_}
 use mathlib.Core.Path.{_≡_, refl, sym, ap, _∙_, subst}
-use mathlib.Core.Bool.{Bool, true, false, _&&_}
+use mathlib.Core.Bool.{true}
 use mathlib.Core.List.{List, [], _∷_}
 use mathlib.Core.Option.{Option, none, some}
 use native.Mathlib.Omega.{arith}
-use borrow.Author.Tests.{eqb-true, ltb-true}
-use lib.Dec.{eqb, ltb}
-use lib.ListN.{length, getD, set, replicate}
-use Rattle.types.specs.Every.{every, at, both-left, both-right}
+use lib.ListN.{set, replicate}
 use Rattle.cpu.specs.declared.Cpu.{Cpu}
 use Rattle.cpu.specs.Fields.{setA7, setPc}
 use Rattle.cpu.specs.Fresh.{freshCpu}
 use Rattle.status.specs.Status.{setSrNointNosp}
 use Rattle.pending.specs.Interrupts.{setIrq}
 use Rattle.memory.specs.declared.Bus.{Bus}
-use Rattle.memory.specs.ByteLaws.{AllBytes}
 use Rattle.calls.specs.declared.Call.the-variants.{CheckAndServiceInterrupts}
-use Rattle.calls.specs.Calls.{begun}
-use Rattle.forms.specs.Gist.{gist}
-use Rattle.forms.specs.Plans.{Plan, interruptPlan}
-use Rattle.forms.specs.Tests.{cleanTest}
-use Rattle.forms.specs.Forms.{planOf, is-some}
 use Rattle.instances.specs.Start.{laid}
-use Rattle.nest.specs.View.{Row, Bytes, Frame, addr, peek, view}
-use Rattle.nest.specs.Nest.{Step, entry, return, handlers, State, begin, end, exec, bytesOf, kindOf, live, Apart, BelowTop, AllServed, Walked, rows, Values, restored, restoredBy, depth, Holds, here, there, Sound, Along, Always, AtTaken, StartsSound, ServedThen, ServedLater, No68000Error, LiveApart, LiveBelowTop, HandlersKeep, HandlersLeave, Premises, Told}
-use Rattle.nest.specs.Checks.{served-test, below-test, apart-test}
-use Rattle.entered.specs.Pointers.{regsOf}
-use Rattle.entered.specs.Entered.{Inside}
-use Rattle.entered.specs.Machines.{direct, Direct, Room, worldOf, Passes, InsideRoom, CleanCall}
+use Rattle.nest.specs.View.{Row}
+use Rattle.nest.specs.Nest.{Step, entry, handlers, State, end, rows, Values, restored, restoredBy, depth, Premises, Told}
+use Rattle.entered.specs.Machines.{Direct, Room}
 use Rattle.rule3.specs.Rule3.{Real, walk, rule3}
 use Rattle.rule3.specs.Checked.{real, premisesTest, premises-tested}
 use Rattle.rule3.specs.Computed.{nested}
