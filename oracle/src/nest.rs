@@ -32,6 +32,8 @@ struct Nest {
     record: Record,
     base: u32,
     bytes: Vec<u8>,
+    /// Offset of the vectors, which grows and falls as handlers move the base.
+    lead: u32,
     win: Vec<(u32, u32)>,
     ack: [u32; 8],
     book: Vec<Line>,
@@ -41,6 +43,7 @@ struct Nest {
 /// The cases of one list with their answers, or what went against rule 3.
 pub fn list(rng: &mut Rng) -> Result<Vec<(Case, Outcome)>, String> {
     let mut nest = start(rng);
+    nest.unfit(rng)?;
     let deep = rng.below(200) == 0;
     let steps = if deep { 120 } else { 2 + rng.below(9) };
     for _ in 0..steps {
@@ -78,6 +81,7 @@ fn start(rng: &mut Rng) -> Nest {
         record,
         base,
         bytes: vec![0; size as usize],
+        lead: 0,
         win: vec![],
         ack: [u32::MAX; 8],
         book: vec![],
@@ -101,7 +105,7 @@ impl Nest {
 
     /// Where a handler lies: in the store, so that its prefetch is served; sometimes odd, and nothing is prefetched.
     fn handler(&self, rng: &mut Rng) -> u32 {
-        let at = self.base.wrapping_add(2 * rng.below(VECTORS / 2));
+        let at = self.base.wrapping_add(self.lead + 2 * rng.below(VECTORS / 2));
         if rng.percent(10) { at | 1 } else { at }
     }
 
@@ -299,12 +303,15 @@ impl Nest {
         Some(([if k == 1 { 0 } else { format }, status, address, offset], vec![under]))
     }
 
-    /// A return while one is open: it must give back what the latest line of the book holds.
+    /// A return. While one is open it must give back what the latest line of the book holds; else it may do anything.
     fn give_back(&mut self) -> Result<(), String> {
-        let Some(line) = self.book.last() else { return Ok(()) };
-        let (row, a7) = (line.row, line.a7);
         let case = self.case(Call::Return, 0);
         let out = run(&case);
+        let Some(line) = self.book.last() else {
+            self.adopt(case, out);
+            return Ok(());
+        };
+        let (row, a7) = (line.row, line.a7);
         let gives = (u32::from(out.status), out.record.pc, out.record.dar[15]);
         if out.refused != 0 || out.rows != [row] || gives != (row[1], row[2], a7) {
             return Err(format!(
@@ -317,9 +324,61 @@ impl Nest {
         Ok(())
     }
 
+    /// A start that a number refuses, with none open: calls change nothing until handlers leave it fit.
+    fn unfit(&mut self, rng: &mut Rng) -> Result<(), String> {
+        let kept = (self.record.clone(), self.base, self.win.clone());
+        let number = match rng.below(50) {
+            0 => {
+                self.record.s_flag = rng.pick(&[1, 2, 3, 5, u32::MAX]);
+                1
+            }
+            1 if matches!(self.kind, 1 | 2 | 10) => {
+                self.record.vbr |= 1;
+                2
+            }
+            2 => {
+                self.record.mmu_fc_override = Some(8);
+                4
+            }
+            3 => {
+                self.base = u32::MAX;
+                5
+            }
+            4 => {
+                self.win = vec![(1, 0); 9];
+                6
+            }
+            5 => {
+                self.win = vec![(u32::MAX, 2)];
+                6
+            }
+            _ => return Ok(()),
+        };
+        let call = direct(rng, self.kind, true);
+        self.expect(call, 192, number)?;
+        self.expect(Call::Return, 0, number)?;
+        (self.record, self.base, self.win) = kept;
+        Ok(())
+    }
+
+    /// A call that this number refuses, with nothing changed.
+    fn expect(&mut self, call: Call, log: u32, number: u8) -> Result<(), String> {
+        let case = self.case(call, log);
+        let out = run(&case);
+        if out.refused != number || out.record != self.record || !out.changes.is_empty() {
+            return Err(format!("{call:?} is refused by {}, not {number}", out.refused));
+        }
+        self.cases.push((case, out));
+        Ok(())
+    }
+
     /// A call that a number refuses: nothing changes.
     fn refused(&mut self, rng: &mut Rng) -> Result<(), String> {
         let depth = self.book.len() as u32;
+        if rng.below(6) == 0 {
+            self.record.cycles_remaining = i32::MIN + rng.below(46) as i32;
+            return self.expect(Call::CheckAndServiceInterrupts, 192, 3);
+        }
         let case = match rng.below(5) {
             0 => self.case(Call::TakeException(256 + rng.below(1000)), 192),
             1 => self.case(Call::TakeGroup2Exception(u32::MAX), 192),
@@ -344,32 +403,57 @@ impl Nest {
         // A stale copy of the pointer in use is no pointer.
         let bank = self.bank();
         self.record.sp[bank] = rng.word() & !1;
+        self.move_base(rng);
         let live: Vec<Frame> = self.book.iter().flat_map(|line| line.frames.clone()).collect();
-        let (base, kind) = (self.base, self.kind);
+        let (base, kind, first) = (self.base, self.kind, self.lead + VECTORS);
         let inside = |at: u32| {
             let a = base.wrapping_add(at) & address_mask(kind);
             live.iter()
                 .any(|f| (0..f.length).any(|i| f.at.wrapping_add(i) & address_mask(kind) == a))
         };
         for _ in 0..rng.below(4) {
-            let at = VECTORS + rng.below(self.bytes.len() as u32 - VECTORS);
+            let at = first + rng.below(self.bytes.len() as u32 - first);
             if !inside(at) {
                 self.bytes[at as usize] = rng.word() as u8;
             }
         }
         self.win = vec![];
         if rng.percent(30) {
-            let at = VECTORS + rng.below(self.bytes.len() as u32 - VECTORS - 8);
+            let at = first + rng.below(self.bytes.len() as u32 - first - 8);
             if !(at..at + 4).any(inside) {
                 self.win.push((base.wrapping_add(at), 4));
             }
             self.win.push((rng.word() >> 8, 0));
         }
         // A new handler for one vector, unless a frame lies on it.
-        let (at, handler) = (4 * rng.below(VECTORS / 4), self.handler(rng));
+        let (at, handler) = (self.lead + 4 * rng.below(VECTORS / 4), self.handler(rng));
         if !(at..at + 4).any(inside) {
             self.put(at, &handler.to_be_bytes());
         }
+    }
+
+    /// 32 bytes more or less in front of the store; what lies behind them keeps its addresses.
+    fn move_base(&mut self, rng: &mut Rng) {
+        match rng.below(6) {
+            0 if self.base >= 32 && self.bytes.len() < 8192 => {
+                self.base -= 32;
+                self.lead += 32;
+                self.bytes.splice(0..0, [0x5A; 32]);
+            }
+            1 if self.lead >= 32 && !self.lies_in_front() => {
+                self.base += 32;
+                self.lead -= 32;
+                self.bytes.drain(0..32);
+            }
+            _ => {}
+        }
+    }
+
+    /// A live frame has one of the store's first 32 bytes.
+    fn lies_in_front(&self) -> bool {
+        let front = |a: u32| a.wrapping_sub(self.base) < 32;
+        let frames = self.book.iter().flat_map(|line| &line.frames);
+        frames.into_iter().any(|f| (0..f.length).any(|i| front(self.masked(f.at.wrapping_add(i)))))
     }
 
     /// The walk of the depth, in a buffer just large enough or larger, then as many returns.
