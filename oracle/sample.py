@@ -1,11 +1,11 @@
 #!/usr/bin/env python3
-"""sample.py SEED ACCEPTED REFUSED OUT [ORACLE]: recorded answers of the oracle, for crates/replay.
+"""sample.py SEED ACCEPTED REFUSED RETURNS REFUSED_RETURNS OUT [ORACLE]: recorded answers of the oracle, for crates/replay.
 
-Takes the examples beside it (examples.txt) but returns and walks, then cases of `oracle gen SEED ..` whose store has at most 512 bytes
-and whose log has at most 192 words, asks `oracle run` for each answer, and writes them to OUT (crates/replay/data/sample.bin), with how
-it was done in README.txt beside it: of the generated ones so many that are accepted, spread evenly over the calls and the kinds, then
-so many that are refused, spread over the numbers, then the calls and the kinds. Some of the answers stand in spoiled.bin beside it too,
-with one thing wrong each. tools/sample.sh has the seed and the counts.
+Takes the examples beside it (examples.txt), then cases of `oracle gen SEED ..` whose store has at most 512 bytes, whose log has at most
+192 words and whose rows have at most 32, asks `oracle run` for each answer, and writes them to OUT (crates/replay/data/sample.bin), with
+how it was done in README.txt beside it: of the generated calls so many that are accepted, spread evenly over the calls and the kinds, then
+so many that are refused, spread over the numbers, then the calls and the kinds; then of the returns and walks so many of each in the same
+way. Some of the answers stand in spoiled.bin beside it too, with one thing wrong each. tools/sample.sh has the seed and the counts.
 ORACLE is the binary, by default target/oracle/release/oracle. The same seed, counts and oracle give the same bytes.
 
 A case is two bytes of length (high byte first) and so many bytes: numbers of one to five bytes. A byte below 251 is the number;
@@ -15,12 +15,14 @@ A case is two bytes of length (high byte first) and so many bytes: numbers of on
   words      pairs: the words that the call changed, its answer and number of events among them
   bytes      pairs: the bytes of the store that the call changed
   log        the words of the events, three each
-Pairs are a count, and for each how far on its place is from the one before (the first: from 0) and its value; the log is a count and
-its words. The words' places are those below and in crates/recorded/src/record.rt. Every fourth case starts with a count of events in
-its bus, as an earlier call would leave it: an accepted call does not mind it, a refused one leaves it.
+  rows       the words of the rows, four each; of a return its one row, four words of 0 where it was refused
+Pairs are a count, and for each how far on its place is from the one before (the first: from 0) and its value; log and rows are a count
+and its words. The words' places are those below and in crates/recorded/src/record.rt. Every fourth case starts with a count of events in
+its bus, as an earlier call would leave it: an accepted call does not mind it, a refused one leaves it, returns and walks leave it too.
 """
 import collections
 import hashlib
+import itertools
 import os
 import subprocess
 import sys
@@ -31,6 +33,7 @@ ROOT = os.path.dirname(HERE)
 STORE = 65536
 SMALL = 512
 LOG = 192
+ROWS = 32
 CASE = 4096
 
 # The numbers of crates/boundary: those of the list of calls in the text format.
@@ -39,6 +42,9 @@ CALLS = ['take_exception', 'trap', 'take_group2_exception', 'exception_chk', 'ex
          'take_aline_exception', 'take_fline_exception', 'take_trap_exception', 'take_bkpt_exception', 'take_illegal_exception',
          'trigger_address_error', 'trigger_bus_error', 'check_trace', 'set_irq', 'check_interrupts', 'check_and_service_interrupts',
          'read_16', 'read_32', 'write_16', 'write_32', 'push_16', 'push_32', 'prefetch_first', 'prefetch_second']
+# Return and walk are functions of their own there; the numbers are the replay's.
+RETURNS = {'return': 200, 'walk': 201}
+NUMBERS = {**{name: i + 1 for i, name in enumerate(CALLS)}, **RETURNS}
 
 # Fields of the record: name, place, and how many words.
 PLAIN = [('dar', 0, 16), ('dar_save', 16, 16), ('sp', 32, 8), ('ppc', 40, 1), ('pc', 41, 1), ('vbr', 42, 1), ('ir', 43, 1),
@@ -51,7 +57,7 @@ PLAIN = [('dar', 0, 16), ('dar_save', 16, 16), ('sp', 32, 8), ('ppc', 40, 1), ('
 OPTIONS = [('instruction_exception_vector', 69, 1), ('last_exception_vector', 71, 1), ('mmu_fc_override', 74, 1),
            ('fault_resume', 77, 18)]
 KIND, CYCLES = 45, 51
-# What an answer may say; the status follows from the flags, and there are no rows.
+# What an answer may say; the status follows from the flags.
 ANSWERED = {'refused', 'ans', 'nev', 'ev', 'rows', 'chg', 'status', 'kind', 'cycles_remaining'} | {x[0] for x in PLAIN + OPTIONS}
 BASE, WINDOWS, STARTS, LENGTHS, RESPONSES, EVENTS, LENGTH, FILL = 96, 97, 98, 106, 114, 122, 123, 124
 # What the call says: its refusal, answer and number of events. EVENTS above is the count that the bus holds.
@@ -105,7 +111,7 @@ def start_words(f):
     words[LENGTH] = int(f['len'])
     words[FILL] = int(f['fill'], 16)
     call = f['call'].split(':')
-    words[NUMBER] = CALLS.index(call[0]) + 1
+    words[NUMBER] = NUMBERS[call[0]]
     for i, x in enumerate(call[1:]):
         words[ARGUMENTS + i] = int(x, 16)
     words[LACKING] = LOG - int(f['log'])
@@ -156,8 +162,24 @@ def pairs(old, new):
     return number(count) + out
 
 
-# A case and its answer: the words, the filling, the store with the patches; the words and the store after the call, the log's words.
-Case = collections.namedtuple('Case', 'words filled store after changed log')
+# A case and its answer: the words, the filling, the store with the patches; the words and the store after the call, the words of log
+# and rows.
+Case = collections.namedtuple('Case', 'words filled store after changed log rows')
+
+
+def name_of(f):
+    return f['call'].split(':')[0]
+
+
+def row_words(f, o):
+    """The words of the rows that an answer has; of a refused return those of none."""
+    rows = [int(x, 16) for r in items(o['rows']) for x in r.split('.')]
+    if name_of(f) == 'return' and not rows:
+        rows = [0] * 4
+    count = {'return': 1, 'walk': int(o['ans'])}.get(name_of(f), 0)
+    if len(rows) != 4 * count or len(rows) > ROWS:
+        raise SystemExit('sample.py: %d row words of %d rows' % (len(rows), count))
+    return rows
 
 
 def case_of(f, o, held):
@@ -174,7 +196,7 @@ def case_of(f, o, held):
     after[KIND] = int(o.get('kind', f['kind']))
     after[SAID_EVENTS] = int(o['nev'])
     after[REFUSED] = int(o['refused'])
-    if after[REFUSED] == 0:
+    if after[REFUSED] == 0 and name_of(f) not in RETURNS:
         after[EVENTS] = after[SAID_EVENTS]
     after[ANSWER] = int(o['ans']) % 2**32
     changed = bytearray(store)
@@ -182,13 +204,13 @@ def case_of(f, o, held):
     log = [int(x, 16) for e in items(o['ev']) for x in e.split(':')]
     if len(log) != 3 * after[SAID_EVENTS] or len(log) > LOG:
         raise SystemExit('sample.py: %d log words of %d events' % (len(log), after[SAID_EVENTS]))
-    return Case(words, filled, store, after, changed, log)
+    return Case(words, filled, store, after, changed, log, row_words(f, o))
 
 
 def encode(case):
     out = pairs([0] * WORDS, case.words) + pairs(case.filled, case.store) + pairs(case.words, case.after)
-    out += pairs(case.store, case.changed) + number(len(case.log)) + b''.join(number(x) for x in case.log)
-    return out
+    out += pairs(case.store, case.changed)
+    return out + b''.join(number(len(words)) + b''.join(map(number, words)) for words in (case.log, case.rows))
 
 
 def framed(data):
@@ -197,41 +219,71 @@ def framed(data):
     return len(data).to_bytes(2, 'big') + data
 
 
-def spoiled(cases):
-    """Answers with one thing wrong each, for which the replay must say that they differ: every word of a case; words of the log, one
-    that lacks, one behind the events, the last one; bytes of the store, the last that is lent and the last of all among them; a case
-    that ends a byte early or late."""
-    # The places of the store are those of its 65,536 bytes, and a log has room behind its events.
-    cases = (c for c in cases if c.after[REFUSED] == 0 and 3 <= len(c.log) < LOG and len(c.store) > 0)
+def other(values, at):
+    """The values with another one at a place, which may be counted from the end."""
+    at %= len(values)
+    return values[:at] + type(values)([values[at] ^ 1]) + values[at + 1:]
 
-    def other(values, at):
-        return values[:at] + type(values)([values[at] ^ 1]) + values[at + 1:]
 
-    for at in range(WORDS):
+def unwritten(case, first, end):
+    """The words that a log or the rows have from a place on before the call."""
+    return [0xA5000000 + case.words[FILL] % 256 * 0x10000 + i for i in range(first, end)]
+
+
+def spoiled_words(cases, field, most):
+    """Answers whose log or rows are wrong: a word of them, the last one that lacks, one more, the last word of the buffer."""
+    for at in (0, 1, 2, 3, -1):
         c = next(cases)
-        yield encode(c._replace(after=other(c.after, at)))
-    for at in (0, 1, 2, -1):
-        c = next(cases)
-        yield encode(c._replace(log=other(c.log, at % len(c.log))))
+        yield c._replace(**{field: other(getattr(c, field), at)})
     c = next(cases)
-    yield encode(c._replace(log=c.log[:-1]))
+    yield c._replace(**{field: getattr(c, field)[:-1]})
     c = next(cases)
-    yield encode(c._replace(log=c.log + [0]))
+    yield c._replace(**{field: getattr(c, field) + [0]})
     c = next(cases)
-    unwritten = [0xA5000000 + c.words[FILL] % 256 * 0x10000 + i for i in range(len(c.log), LOG)]
-    yield encode(c._replace(log=c.log + other(unwritten, -1 % len(unwritten))))
+    words = getattr(c, field)
+    yield c._replace(**{field: words + other(unwritten(c, len(words), most), -1)})
+
+
+def spoiled_store(cases):
+    """Answers whose store is wrong: the first byte, the last that is lent, the last of all."""
     for at in (0, -1):
         c = next(cases)
-        yield encode(c._replace(changed=other(c.changed, at % len(c.changed))))
+        yield c._replace(changed=other(c.changed, at))
     c = next(cases)
     rest = bytearray(fill_byte(i, c.words[FILL]) for i in range(len(c.store), STORE))
-    yield encode(c._replace(store=c.store + rest, changed=c.changed + other(rest, -1 % len(rest)), filled=c.filled + rest))
-    yield encode(next(cases))[:-1]
-    yield encode(next(cases)) + b'\0'
+    yield c._replace(store=c.store + rest, changed=c.changed + other(rest, -1), filled=c.filled + rest)
+
+
+def spoiled(cases):
+    """Answers with one thing wrong each, for which the replay must say that they differ: of accepted calls every word of a case, log and
+    store, a case that ends a byte early or late; of returns and walks, accepted or refused, some words, rows and store."""
+    def some(names, refused):
+        """Generated cases whose store has a byte, and whose log or rows have something and room behind it, over and over."""
+        numbers = {NUMBERS[name] for name in names}
+        return itertools.cycle([c for c in cases if c.words[NUMBER] in numbers and (c.after[REFUSED] != 0) == refused
+                                and 0 < len(c.store) <= SMALL and (3 < len(c.log) < LOG or 4 <= len(c.rows) < ROWS)])
+
+    calls = some(CALLS, False)
+    for at in range(WORDS):
+        c = next(calls)
+        yield encode(c._replace(after=other(c.after, at)))
+    yield from map(encode, spoiled_words(calls, 'log', LOG))
+    yield from map(encode, spoiled_store(calls))
+    yield encode(next(calls))[:-1]
+    yield encode(next(calls)) + b'\0'
+    for name in RETURNS:
+        for refused in (False, True):
+            back = some([name], refused)
+            for at in (15, 36, 41, 54, KIND, EVENTS, REFUSED, ANSWER, SAID_EVENTS):
+                c = next(back)
+                yield encode(c._replace(after=other(c.after, at)))
+            yield from map(encode, spoiled_words(back, 'rows', ROWS))
+            yield from map(encode, spoiled_store(back))
 
 
 def wanted(f, most):
-    return f['call'].split(':')[0] in CALLS and int(f['len']) <= most and int(f['log']) <= LOG
+    rows = int(f['call'].split(':')[2], 16) if name_of(f) == 'walk' else 0
+    return int(f['len']) <= most and int(f['log']) <= LOG and rows <= ROWS
 
 
 BANKS = {'a7': ('dar', 15), 'a7_save': ('dar_save', 15), 'usp': ('sp', 0), 'isp': ('sp', 4), 'msp': ('sp', 6)}
@@ -278,7 +330,7 @@ def spread(cells):
     for (call, kind), cases in cells.items():
         by_call[call][kind] = cases
     lists = []
-    for call in sorted(by_call, key=CALLS.index):
+    for call in sorted(by_call, key=NUMBERS.get):
         kinds = sorted(by_call[call])
         first = len(lists) % len(kinds)
         lists.append(list(turns([by_call[call][kind] for kind in kinds[first:] + kinds[:first]])))
@@ -291,28 +343,33 @@ def take(name, count, cases):
     return cases[:count]
 
 
+def choose(cells, accepted, refused):
+    """So many cases of each sort, of cells by number, then by call and kind."""
+    first = cells[0]
+    chosen = take('accepted', accepted, list(turns([first[k] for k in sorted(first, key=lambda k: (NUMBERS[k[0]], k[1]))])))
+    return chosen + take('refused', refused, list(turns([spread(cells[number]) for number in sorted(cells) if number])))
+
+
 def run(oracle, words, text=None):
     env = {k: v for k, v in os.environ.items() if k != 'M68K_DIAG_ADDRESS_ERROR'}
     return subprocess.run([oracle] + words, input=text, capture_output=True, text=True, check=True, env=env).stdout.splitlines()
 
 
 def main():
-    if len(sys.argv) not in (5, 6):
-        raise SystemExit('usage: sample.py SEED ACCEPTED REFUSED OUT [ORACLE]')
-    seed, accepted, refused, out = sys.argv[1], int(sys.argv[2]), int(sys.argv[3]), sys.argv[4]
-    oracle = sys.argv[5] if len(sys.argv) == 6 else os.path.join(ROOT, 'target/oracle/release/oracle')
-    made = (accepted + refused) * 60
-    cells = collections.defaultdict(lambda: collections.defaultdict(list))
+    if len(sys.argv) not in (7, 8):
+        raise SystemExit('usage: sample.py SEED ACCEPTED REFUSED RETURNS REFUSED_RETURNS OUT [ORACLE]')
+    seed, counts_of, out = sys.argv[1], [int(n) for n in sys.argv[2:6]], sys.argv[6]
+    oracle = sys.argv[7] if len(sys.argv) == 8 else os.path.join(ROOT, 'target/oracle/release/oracle')
+    made = (counts_of[0] + counts_of[1]) * 60
+    # Calls, and returns and walks.
+    cells = [collections.defaultdict(lambda: collections.defaultdict(list)) for _ in range(2)]
     for line in run(oracle, ['gen', seed, str(made)]):
         given, answer = line.split(' => ')
         f = fields(given)
         if wanted(f, SMALL):
-            cells[int(fields(answer)['refused'])][(f['call'].split(':')[0], int(f['kind']))].append(given)
-    first = cells.pop(0)
-    chosen = take('accepted', accepted, list(turns([first[k] for k in sorted(first, key=lambda k: (CALLS.index(k[0]), k[1]))])))
-    chosen += take('refused', refused, list(turns([spread(cells[number]) for number in sorted(cells)])))
+            cells[name_of(f) in RETURNS][int(fields(answer)['refused'])][(name_of(f), int(f['kind']))].append(given)
     shown = examples()
-    chosen = shown + chosen
+    chosen = shown + choose(cells[0], *counts_of[:2]) + choose(cells[1], *counts_of[2:])
     answers = run(oracle, ['run'], '\n'.join(chosen) + '\n')
     data, cases = bytearray(), []
     counts = collections.defaultdict(collections.Counter)
@@ -321,35 +378,38 @@ def main():
         cases.append(case_of(f, o, 0 if i % 4 else 1 + i % 300))
         data += framed(encode(cases[-1]))
         answered = 'refused' if int(o['refused']) else 'accepted'
-        counts['call'][(CALLS.index(f['call'].split(':')[0]), answered)] += 1
+        counts['call'][(name_of(f), answered)] += 1
         counts['kind'][(int(f['kind']), answered)] += 1
-        counts['number'][int(o['refused'])] += 1
+        counts['number'][(int(o['refused']), name_of(f) in RETURNS)] += 1
     with open(out, 'wb') as file:
         file.write(data)
-    wrong = [framed(case) for case in spoiled(iter(cases))]
+    wrong = [framed(case) for case in spoiled(cases)]
     with open(os.path.join(os.path.dirname(os.path.abspath(out)), 'spoiled.bin'), 'wb') as file:
         file.write(b''.join(wrong))
     with open(os.path.join(HERE, 'LIFTED.txt'), 'rb') as file:
         lifted = hashlib.sha256(file.read()).hexdigest()
+    refused = sum(n for (number_of, _), n in counts['number'].items() if number_of)
     lines = ['sample.bin: %d recorded answers of the oracle, %d of them refusals, %d bytes. The format is at the head of oracle/sample.py.'
-             % (len(chosen), sum(counts['number'].values()) - counts['number'][0], len(data)),
-             'Made by: tools/sample.sh (oracle/sample.py %s %d %d)' % (seed, accepted, refused),
-             'from the %d examples of oracle/examples.txt that are no return and no walk, and the cases of `oracle gen %s %d` with a store of'
-             % (len(shown), seed, made),
-             'at most %d bytes and a log of at most %d words, answered by `oracle run`.' % (SMALL, LOG),
+             % (len(chosen), refused, len(data)),
+             'Made by: tools/sample.sh (oracle/sample.py %s %s)' % (seed, ' '.join(map(str, counts_of))),
+             'from %d examples of oracle/examples.txt and the cases of `oracle gen %s %d` with a store of' % (len(shown), seed, made),
+             'at most %d bytes, a log of at most %d words and rows of at most %d, answered by `oracle run`.' % (SMALL, LOG, ROWS),
              'SHA-256 of sample.bin: ' + hashlib.sha256(data).hexdigest(),
              'spoiled.bin: %d of these answers with one thing wrong each, on which the replay must find as many differences.' % len(wrong),
              'SHA-256 of spoiled.bin: ' + hashlib.sha256(b''.join(wrong)).hexdigest(),
              'SHA-256 of oracle/LIFTED.txt (what the oracle runs): ' + lifted,
              '', 'Cases by call, accepted and refused:']
-    lines += ['  %-30s %5d %5d' % (c, counts['call'][(i, 'accepted')], counts['call'][(i, 'refused')]) for i, c in enumerate(CALLS)]
+    lines += ['  %-30s %5d %5d' % (c, counts['call'][(c, 'accepted')], counts['call'][(c, 'refused')]) for c in NUMBERS]
     lines += ['Cases by kind, accepted and refused:']
     kinds = sorted({kind for kind, _ in counts['kind']})
     lines += ['  %-30d %5d %5d' % (k, counts['kind'][(k, 'accepted')], counts['kind'][(k, 'refused')]) for k in kinds]
-    lines += ['Cases by refusal, 0 for none:'] + ['  %-30d %5d' % (n, counts['number'][n]) for n in sorted(counts['number'])]
+    lines += ['Cases by refusal, 0 for none: calls; returns and walks:']
+    lines += ['  %-30d %5d %5d' % (n, counts['number'][(n, False)], counts['number'][(n, True)])
+              for n in sorted({n for n, _ in counts['number']})]
     with open(os.path.join(os.path.dirname(os.path.abspath(out)), 'README.txt'), 'w') as file:
         file.write('\n'.join(lines) + '\n')
-    print('%d examples, %d accepted, %d refused, %d bytes; cells filled: %d' % (len(shown), accepted, refused, len(data), len(first)))
+    print('%d examples, %d calls, %d returns and walks, %d bytes; cells filled: %d and %d'
+          % (len(shown), sum(counts_of[:2]), sum(counts_of[2:]), len(data), len(cells[0][0]), len(cells[1][0])))
 
 
 if __name__ == '__main__':

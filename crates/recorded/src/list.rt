@@ -164,7 +164,7 @@ pub fn bytes(b: &[u8], at: usize, s: &mut [u8; 0x10000]) -> usize {
 }
 
 // A count, then so many words, from the first place on.
-pub fn row(b: &[u8], at: usize, w: &mut [u32; 192]) -> usize {
+pub fn row(b: &[u8], at: usize, w: &mut [u32]) -> usize {
     let n = number(b, at);
     let count = n.value;
     let mut p = n.next;
@@ -195,16 +195,17 @@ pub fn fill(s: &mut [u8; 0x10000], fill: u32) {
     }
 }
 
-// The word that a log has at a place before the call.
+// The word that a log or the rows have at a place before the call.
 fn unwritten(i: u32, fill: u32) -> u32
     ensures { λ r. ⌜ 0 < r ⌝ }
 {
     0xA5000000 + fill % 256 * 0x10000 + i % 0x10000
 }
 
-pub fn fill_log(w: &mut [u32; 192], fill: u32) {
+// So many words that no call has written.
+pub fn fill_words(w: &mut [u32], count: u32, fill: u32) {
     let mut i: u32 = 0;
-    while i < 192 {
+    while i < count {
         set_word(w, i, unwritten(i, fill));
         i += 1;
     }

@@ -1,11 +1,12 @@
-// Replays recorded answers of the oracle (tools/sample.sh makes data/sample.bin): each case is a call on the proved code, and its
-// answer, the number of events, each event word, the whole record and the whole store must be those that the oracle gave, and the
-// log behind the events as it was. It uses `boundary`, `recorded` for the form of a case and `same` for the verdict; nothing uses it.
+// Replays recorded answers of the oracle (tools/sample.sh makes data/sample.bin): each case is a call, a return or a walk on the proved
+// code, and its answer, the number of events, each event word, each word of a row, the whole record and the whole store must be those
+// that the oracle gave, and log and rows behind them as they were. It uses `boundary`, `recorded` for the form of a case and `same` for the verdict; nothing uses it.
 use boundary::RawAnswer;
 use boundary::RawCall;
 use memory::Core;
 use recorded::list;
 use recorded::record;
+use unwind::returns::Row;
 
 fn call_of(w: [u32; 136]) -> RawCall {
     RawCall {
@@ -18,13 +19,18 @@ fn call_of(w: [u32; 136]) -> RawCall {
     }
 }
 
-fn not_run(m: Core) -> RawAnswer {
+fn answered(m: Core, refused: u32, answer: u32) -> RawAnswer {
     RawAnswer {
         core: m,
-        refused: 98,
-        answer: 0,
+        refused: refused,
+        answer: answer,
         events: 0,
     }
+}
+
+// 98 is the number of no refusal.
+fn not_run(m: Core) -> RawAnswer {
+    answered(m, 98, 0)
 }
 
 // The call on the first n bytes of the store and the first k words of the log.
@@ -34,6 +40,37 @@ fn call(w: [u32; 136], store: &mut [u8], log: &mut [u32], n: usize, k: usize) ->
     if n <= store.len() {
         if k <= log.len() {
             return boundary::m68k_call(m, &mut store[0..n], &mut log[0..k], c);
+        }
+    }
+    not_run(m)
+}
+
+// The row of a return, the first of the rows; all 0 where it was refused.
+fn put_row(rows: &mut [u32; 32], r: Row) {
+    rows[0] = r.format;
+    rows[1] = r.status;
+    rows[2] = r.address;
+    rows[3] = r.offset;
+}
+
+// The return on the first n bytes of the store.
+fn return_case(w: [u32; 136], store: &[u8], n: usize, rows: &mut [u32; 32]) -> RawAnswer {
+    let m = record::core_of(w);
+    if n <= store.len() {
+        let r = boundary::m68k_return(m, &store[0..n]);
+        put_row(rows, r.row);
+        return answered(r.core, r.refused, 0);
+    }
+    not_run(m)
+}
+
+// The walk on the first n bytes of the store, into the first k words of the rows. It is given a copy of the record and gives none back.
+fn walk_case(w: [u32; 136], store: &[u8], n: usize, rows: &mut [u32], k: usize) -> RawAnswer {
+    let m = record::core_of(w);
+    if n <= store.len() {
+        if k <= rows.len() {
+            let r = boundary::m68k_walk(m, &store[0..n], w[129], &mut rows[0..k]);
+            return answered(m, r.refused, r.count);
         }
     }
     not_run(m)
@@ -51,9 +88,21 @@ fn words(x: u32) -> usize {
     193
 }
 
-// The call of a case.
-fn call_case(w: [u32; 136], store: &mut [u8; 0x10000], log: &mut [u32; 192]) -> RawAnswer {
-    call(w, store, log, size(w[123]), words(w[134]))
+// The call of a case: 200 is the return, 201 the walk.
+fn call_case(
+    w: [u32; 136],
+    store: &mut [u8; 0x10000],
+    log: &mut [u32; 192],
+    rows: &mut [u32; 32],
+) -> RawAnswer {
+    let n = size(w[123]);
+    if w[128] == 200 {
+        return return_case(w, store, n, rows);
+    }
+    if w[128] == 201 {
+        return walk_case(w, store, n, rows, size(w[130]));
+    }
+    call(w, store, log, n, words(w[134]))
 }
 
 // The core and the answer that a call left, laid over the words of its case.
@@ -64,29 +113,35 @@ fn put_answer(w: &mut [u32; 136], r: RawAnswer, cycles: u32) {
     w[127] = r.events;
 }
 
-// Whether the call leaves what was recorded. The log that is lent holds words other than 0, on which the events come to lie.
+// Whether the call leaves what was recorded. Log and rows that are lent hold words other than 0, on which events and rows come to lie.
 fn is_same(b: &[u8]) -> bool {
     let mut w = [0u32; 136];
     let mut store = [0u8; 0x10000];
     let mut log = [0u32; 192];
+    let mut rows = [0u32; 32];
     let p = list::words(b, 0, &mut w);
     list::fill(&mut store, w[124]);
-    list::fill_log(&mut log, w[124]);
+    list::fill_words(&mut log, 192, w[124]);
+    list::fill_words(&mut rows, 32, w[124]);
     let q = list::bytes(b, p, &mut store);
     let mut want = w;
     let mut want_store = store;
     let mut want_log = log;
+    let mut want_rows = rows;
     let x = list::words(b, q, &mut want);
     let y = list::bytes(b, x, &mut want_store);
     let z = list::row(b, y, &mut want_log);
-    let r = call_case(w, &mut store, &mut log);
+    let end = list::row(b, z, &mut want_rows);
+    let r = call_case(w, &mut store, &mut log, &mut rows);
     put_answer(&mut w, r, want[51]);
     same::same_case(
-        z == b.len(),
+        end == b.len(),
         &w,
         &want,
         &log,
         &want_log,
+        &rows,
+        &want_rows,
         &store,
         &want_store,
     )

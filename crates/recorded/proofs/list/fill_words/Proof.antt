@@ -1,17 +1,19 @@
--- `recorded::list::fill_log` is safe and ends: the measure is the places that are left. Assumes nothing.
+-- `recorded::list::fill_words` is safe and ends: the list stays as long as it is, and the measure is the places that are left. Assumes nothing.
 use Prim.Native.Nat.{_-_}
+use mathlib.Core.Path.{_≡_, refl, _∙_}
+use lib.ListN.{length}
 use borrow.Author.Needs.{needs}
-use Rattle.recorded.proofs.list.fill_log.Statement.{statement}
-use Rattle.recorded.proofs.list.fill_log.Tie as tie
+use Rattle.recorded.proofs.list.fill_words.Statement.{statement}
+use Rattle.recorded.proofs.list.fill_words.Tie as tie
 
 abbrev Inv-loop : tie.InvT-loop
-Inv-loop s₀ fill i₀ s i = Unit
+Inv-loop w₀ count fill i₀ w i = length w ≡ length w₀
 
 abbrev μ-loop : tie.MeasureT-loop
-μ-loop s₀ fill i₀ s i = 192 - i
+μ-loop w₀ count fill i₀ w i = count - i
 
 loop-holds : tie.Need-loop-holds Inv-loop μ-loop
-loop-holds c = search needs
+loop-holds c = refl
 
 unwritten-requires : tie.Need-unwritten-requires Inv-loop μ-loop
 unwritten-requires c κs = search needs
@@ -26,13 +28,16 @@ loop-less : tie.Need-loop-less Inv-loop μ-loop
 loop-less c = search needs
 
 loop-again : tie.Need-loop-again Inv-loop μ-loop
-loop-again c = search needs
+loop-again c = c .before .before .set-word .kept .0 ∙ c .before .before .before .before .before .before .loop .inv
+
+same-length : tie.Need-same-length Inv-loop μ-loop
+same-length c = c .before .loop .inv
 
 returns : tie.Need-returns Inv-loop μ-loop
 returns c = search needs
 
-pub fill-log-spec : {M : Type 1} → statement M
-fill-log-spec =
+pub fill-words-spec : {M : Type 1} → statement M
+fill-words-spec =
     tie.close
     (tie.spec
     Inv-loop
@@ -43,4 +48,5 @@ fill-log-spec =
     add-i
     loop-less
     loop-again
+    same-length
     returns)
