@@ -1,11 +1,11 @@
 #!/usr/bin/env python3
-"""sample.py SEED ACCEPTED REFUSED RETURNS REFUSED_RETURNS OUT [ORACLE]: recorded answers of the oracle, for crates/replay.
+"""sample.py SEED ACCEPTED REFUSED RETURNS REFUSED_RETURNS LISTS OUT [ORACLE]: recorded answers of the oracle, for crates/replay.
 
 Takes the examples beside it (examples.txt), then cases of `oracle gen SEED ..` whose store has at most 512 bytes, whose log has at most
 192 words and whose rows have at most 32, asks `oracle run` for each answer, and writes them to OUT (crates/replay/data/sample.bin), with
 how it was done in README.txt beside it: of the generated calls so many that are accepted, spread evenly over the calls and the kinds, then
 so many that are refused, spread over the numbers, then the calls and the kinds; then of the returns and walks so many of each in the same
-way. Some of the answers stand in spoiled.bin beside it too, with one thing wrong each. tools/sample.sh has the seed and the counts.
+way; then so many whole lists of `oracle nests SEED ..` whose walks fit, a case a step. Some of the answers stand in spoiled.bin beside it too, with one thing wrong each. tools/sample.sh has the seed and the counts.
 ORACLE is the binary, by default target/oracle/release/oracle. The same seed, counts and oracle give the same bytes.
 
 A case is two bytes of length (high byte first) and so many bytes: numbers of one to five bytes. A byte below 251 is the number;
@@ -355,11 +355,23 @@ def run(oracle, words, text=None):
     return subprocess.run([oracle] + words, input=text, capture_output=True, text=True, check=True, env=env).stdout.splitlines()
 
 
+def nests(oracle, seed, count):
+    """The cases of so many lists, each list whole and in its order."""
+    lists = []
+    for line in run(oracle, ['nests', seed, str(2 * count)]):
+        if line.startswith('#'):
+            lists.append([])
+        else:
+            lists[-1].append(line.split(' => ')[0])
+    fit = [one for one in lists if all(wanted(fields(given), STORE) for given in one)]
+    return [given for one in take('lists', count, fit) for given in one]
+
+
 def main():
-    if len(sys.argv) not in (7, 8):
-        raise SystemExit('usage: sample.py SEED ACCEPTED REFUSED RETURNS REFUSED_RETURNS OUT [ORACLE]')
-    seed, counts_of, out = sys.argv[1], [int(n) for n in sys.argv[2:6]], sys.argv[6]
-    oracle = sys.argv[7] if len(sys.argv) == 8 else os.path.join(ROOT, 'target/oracle/release/oracle')
+    if len(sys.argv) not in (8, 9):
+        raise SystemExit('usage: sample.py SEED ACCEPTED REFUSED RETURNS REFUSED_RETURNS LISTS OUT [ORACLE]')
+    seed, counts_of, out = sys.argv[1], [int(n) for n in sys.argv[2:7]], sys.argv[7]
+    oracle = sys.argv[8] if len(sys.argv) == 9 else os.path.join(ROOT, 'target/oracle/release/oracle')
     made = (counts_of[0] + counts_of[1]) * 60
     # Calls, and returns and walks.
     cells = [collections.defaultdict(lambda: collections.defaultdict(list)) for _ in range(2)]
@@ -369,7 +381,8 @@ def main():
         if wanted(f, SMALL):
             cells[name_of(f) in RETURNS][int(fields(answer)['refused'])][(name_of(f), int(f['kind']))].append(given)
     shown = examples()
-    chosen = shown + choose(cells[0], *counts_of[:2]) + choose(cells[1], *counts_of[2:])
+    nested = nests(oracle, seed, counts_of[4])
+    chosen = shown + choose(cells[0], *counts_of[:2]) + choose(cells[1], *counts_of[2:4]) + nested
     answers = run(oracle, ['run'], '\n'.join(chosen) + '\n')
     data, cases = bytearray(), []
     counts = collections.defaultdict(collections.Counter)
@@ -393,7 +406,8 @@ def main():
              % (len(chosen), refused, len(data)),
              'Made by: tools/sample.sh (oracle/sample.py %s %s)' % (seed, ' '.join(map(str, counts_of))),
              'from %d examples of oracle/examples.txt and the cases of `oracle gen %s %d` with a store of' % (len(shown), seed, made),
-             'at most %d bytes, a log of at most %d words and rows of at most %d, answered by `oracle run`.' % (SMALL, LOG, ROWS),
+             'at most %d bytes, a log of at most %d words and rows of at most %d, answered by `oracle run`;' % (SMALL, LOG, ROWS),
+             'the last %d are %d whole lists of `oracle nests %s %d`.' % (len(nested), counts_of[4], seed, 2 * counts_of[4]),
              'SHA-256 of sample.bin: ' + hashlib.sha256(data).hexdigest(),
              'spoiled.bin: %d of these answers with one thing wrong each, on which the replay must find as many differences.' % len(wrong),
              'SHA-256 of spoiled.bin: ' + hashlib.sha256(b''.join(wrong)).hexdigest(),
@@ -408,8 +422,8 @@ def main():
               for n in sorted({n for n, _ in counts['number']})]
     with open(os.path.join(os.path.dirname(os.path.abspath(out)), 'README.txt'), 'w') as file:
         file.write('\n'.join(lines) + '\n')
-    print('%d examples, %d calls, %d returns and walks, %d bytes; cells filled: %d and %d'
-          % (len(shown), sum(counts_of[:2]), sum(counts_of[2:]), len(data), len(cells[0][0]), len(cells[1][0])))
+    print('%d examples, %d calls, %d returns and walks, %d of lists, %d bytes; cells filled: %d and %d'
+          % (len(shown), sum(counts_of[:2]), sum(counts_of[2:4]), len(nested), len(data), len(cells[0][0]), len(cells[1][0])))
 
 
 if __name__ == '__main__':
