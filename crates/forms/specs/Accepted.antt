@@ -10,7 +10,7 @@ use lib.ListN.{length, getD}
 use Rattle.types.specs.Kinds.{either, both, is060}
 use Rattle.cpu.specs.Fields.{kindOf}
 use Rattle.memory.specs.World.{World, cpuOf}
-use Rattle.refusals.specs.Refusals.{badFlags, oddBase, badCode, badVector, badKind, testsOf, badStore, badWindows}
+use Rattle.refusals.specs.Refusals.{badFlags, oddBase, badCode, badVector, badKind, testsOf, badStore, badWindows, shortLog}
 use Rattle.refusals.specs.Laws.{outcomes, refusal-place, place-none}
 use Rattle.calls.specs.declared.Call.{Call}
 use Rattle.calls.specs.Matters.{matterOf}
@@ -31,6 +31,11 @@ either-true false b e = inr e
 pub either-false : (a b : Bool) → either a b ≡ false → (a ≡ false) × (b ≡ false)
 either-false true b e = none e
 either-false false b e = (refl, e)
+
+-- a test of what is lent, where it is lent
+lent-fails : (a b : Bool) → a ≡ true → both a b ≡ false → b ≡ false
+lent-fails true b e f = f
+lent-fails false b e f = none (sym e)
 
 value-of : (n a b : ℕ) → (eqb n a ≡ true) ⊎ (eqb n b ≡ true) → (n ≡ a) ⊎ (n ≡ b)
 value-of n a b (inl e) = inl (eqb-true n a e)
@@ -79,11 +84,12 @@ module _ (w : World) (c : Call) (r : refusal w c ≡ 0) where
   -- number 5
   pub accepted-store : matterOf c .store ≡ true → length (w .store) ≤ 0x10000
   unfolding outcomes testsOf badStore
-  accepted-store e = omega (arith, ltb-false 0x10000 (length (w .store)) (either-false (ltb 0x10000 (length (w .store))) (ltb (2 ^ 32) (w .core .bus .base + length (w .store))) (go (matterOf c .store) _ e (tests 4)) .0))
-    where
-      go : (a b : Bool) → a ≡ true → both a b ≡ false → b ≡ false
-      go true b x y = y
-      go false b x y = none (sym x)
+  accepted-store e = omega (arith, ltb-false 0x10000 (length (w .store)) (either-false (ltb 0x10000 (length (w .store))) (ltb (2 ^ 32) (w .core .bus .base + length (w .store))) (lent-fails (matterOf c .store) _ e (tests 4)) .0))
+
+  -- number 7
+  pub accepted-log : matterOf c .log ≡ true → 192 ≤ length (w .log)
+  unfolding outcomes testsOf shortLog
+  accepted-log e = omega (arith, ltb-false (length (w .log)) 192 (lent-fails (matterOf c .log) _ e (tests 6)))
 
   -- numbers 2, 4, 5 and 6
   pub accepted-base : oddBase (cpuOf w) ≡ false

@@ -49,19 +49,19 @@ pub seen-exception : Seen (λ d. enterSupervisor (setException d true))
 unfolding gistCpu enterSupervisor clearTrace setSFlag restoreSp putS backupSp spIndex setException
 seen-exception c = refl
 
-seen-rewound : Seen (λ d. enterSupervisor (setException (rewindPc d) true))
+pub seen-rewound : Seen (λ d. enterSupervisor (setException (rewindPc d) true))
 unfolding gistCpu enterSupervisor clearTrace setSFlag restoreSp putS backupSp spIndex setException rewindPc
 seen-rewound c = refl
 
-seen-trace : Seen (λ d. enterSupervisor (leaveStop d))
+pub seen-trace : Seen (λ d. enterSupervisor (leaveStop d))
 unfolding gistCpu enterSupervisor clearTrace setSFlag restoreSp putS backupSp spIndex leaveStop
 seen-trace c = refl
 
-seen-fpiar : Seen (λ d. enterSupervisor (noteFpiar d))
+pub seen-fpiar : Seen (λ d. enterSupervisor (noteFpiar d))
 unfolding gistCpu enterSupervisor clearTrace setSFlag restoreSp putS backupSp spIndex noteFpiar
 seen-fpiar c = refl
 
-seen-bus : Seen enterBusError
+pub seen-bus : Seen enterBusError
 unfolding gistCpu enterBusError clearFcOverride enterSupervisor clearTrace setSFlag restoreSp putS backupSp spIndex
 seen-bus c = refl
 
@@ -84,7 +84,7 @@ single-form t y x turn close f v e s r =
     (jump-form t y (turned (framedBy (turned x turn) f) same) v (stays y ∙ turn-form y (framedBy (turned x turn) f) same seen-same e) r)
 
 -- status, address and format word by the kind's own writes
-short-stack : (w y : World) (pc fw sr k : ℕ) → gist (supervised w) ≡ y → getSr (cpuOf w) ≡ sr → kindOf (cpuOf w) ≡ k → Ready y (shortOf k sr pc fw) → gist (stackShort w pc fw) ≡ framedBy y (shortOf k sr pc fw)
+pub short-stack : (w y : World) (pc fw sr k : ℕ) → gist (supervised w) ≡ y → getSr (cpuOf w) ≡ sr → kindOf (cpuOf w) ≡ k → Ready y (shortOf k sr pc fw) → gist (stackShort w pc fw) ≡ framedBy y (shortOf k sr pc fw)
 unfolding stackShort shortOf
 short-stack w y pc fw sr k e d c h = rw (d, c) (go (eqb k 1) h)
   where
@@ -98,7 +98,7 @@ pub record Alike (c d : Cpu) : Type 0 where
   pub flow : c .flow ≡ d .flow
   pub flags : c .flags ≡ d .flags
 
-begun-alike : (c : Cpu) (n : ℕ) → Alike (internalCycles c n) c
+pub begun-alike : (c : Cpu) (n : ℕ) → Alike (internalCycles c n) c
 unfolding internalCycles setClocks
 begun-alike c n = go (prefetchEnabled c)
   where
@@ -106,12 +106,12 @@ begun-alike c n = go (prefetchEnabled c)
     go true = record { flow = refl; flags = refl }
     go false = record { flow = refl; flags = refl }
 
-alike-status : (c d : Cpu) → Alike c d → getSr c ≡ getSr d
+pub alike-status : (c d : Cpu) → Alike c d → getSr c ≡ getSr d
 unfolding getSr
 alike-status c d a = ap compose (a .flags)
 
 module _ (c d : Cpu) (a : Alike c d) where
-  alike-kind : kindOf c ≡ kindOf d
+  pub alike-kind : kindOf c ≡ kindOf d
   unfolding kindOf
   alike-kind = ap (λ (f : Flow). f .«cpu_type») (a .flow)
 
@@ -123,7 +123,7 @@ module _ (c d : Cpu) (a : Alike c d) where
   unfolding ppcOf
   alike-ppc = ap (λ (f : Flow). f .ppc) (a .flow)
 
-  alike-stacked : (v : ℕ) → stackedAddress c v ≡ stackedAddress d v
+  pub alike-stacked : (v : ℕ) → stackedAddress c v ≡ stackedAddress d v
   unfolding stackedAddress
   alike-stacked v = rw (alike-pc, alike-ppc)
 
@@ -131,19 +131,19 @@ module _ (c d : Cpu) (a : Alike c d) where
 
 -- a record to which an entry's flag was set
 module _ (c : Cpu) where
-  marked-status : getSr (setException c true) ≡ getSr c
+  pub marked-status : getSr (setException c true) ≡ getSr c
   unfolding getSr setException
   marked-status = refl
 
-  marked-kind : kindOf (setException c true) ≡ kindOf c
+  pub marked-kind : kindOf (setException c true) ≡ kindOf c
   unfolding kindOf setException
   marked-kind = refl
 
-  marked-stacked : (v : ℕ) → stackedAddress (setException c true) v ≡ stackedAddress c v
+  pub marked-stacked : (v : ℕ) → stackedAddress (setException c true) v ≡ stackedAddress c v
   unfolding stackedAddress pcOf ppcOf setException
   marked-stacked v = refl
 
-begin-gist : (w : World) → gist (supervised (step beginEntry w)) ≡ gist (withCpu w (enterSupervisor (setException (cpuOf w) true)))
+pub begin-gist : (w : World) → gist (supervised (step beginEntry w)) ≡ gist (withCpu w (enterSupervisor (setException (cpuOf w) true)))
 unfolding beginEntry putCpu
 begin-gist w =
     turn-form (step beginEntry w) (gist (withCpu w (setException (cpuOf w) true))) enterSupervisor seen-supervisor (cycles-gist (withCpu w (setException (cpuOf w) true)) 4)
@@ -181,7 +181,7 @@ module _ (c : Cpu) where
   unfolding kindOf rewindPc
   rewound-kind = refl
 
-  rewound-inside : inException (rewindPc c) ≡ inException c
+  pub rewound-inside : inException (rewindPc c) ≡ inException c
   unfolding inException rewindPc
   rewound-inside = refl
 
@@ -193,10 +193,10 @@ rewound-form w x v e i h =
 
 -- ---- group 2
 
-abbrev framed2 : Cpu → ℕ → Frame
+abbrev pub framed2 : Cpu → ℕ → Frame
 framed2 c v = group2Frame (kindOf c) (getSr c) (pcOf c) (ppcOf c) v
 
-group2-stack : (w y : World) (v : ℕ) → gist (supervised w) ≡ y → Ready y (framed2 (cpuOf w) v) → gist (stackGroup2 w v) ≡ framedBy y (framed2 (cpuOf w) v)
+pub group2-stack : (w y : World) (v : ℕ) → gist (supervised w) ≡ y → Ready y (framed2 (cpuOf w) v) → gist (stackGroup2 w v) ≡ framedBy y (framed2 (cpuOf w) v)
 unfolding stackGroup2 group2Frame
 group2-stack w y v e h = go (isPre68020 (kindOf (cpuOf w))) h
   where
@@ -246,7 +246,7 @@ module _ (c : Cpu) where
   unfolding ppcOf leaveStop
   stop-ppc = refl
 
-  trace-frame : (v : ℕ) → framed2 (beginTrace c) v ≡ framed2 c v
+  pub trace-frame : (v : ℕ) → framed2 (beginTrace c) v ≡ framed2 c v
   unfolding beginTrace
   trace-frame v =
       let a : Alike (internalCycles (leaveStop c) 4) (leaveStop c) = begun-alike (leaveStop c) 4 in
@@ -255,7 +255,7 @@ module _ (c : Cpu) where
       ∙ ap (λ (k : ℕ). group2Frame (kindOf c) (getSr c) k (ppcOf (internalCycles (leaveStop c) 4)) v) (alike-pc _ _ a ∙ stop-pc)
       ∙ ap (λ (k : ℕ). group2Frame (kindOf c) (getSr c) (pcOf c) k v) (alike-ppc _ _ a ∙ stop-ppc)
 
-trace-gist : (w : World) → gist (supervised (step beginTrace w)) ≡ gist (withCpu w (enterSupervisor (leaveStop (cpuOf w))))
+pub trace-gist : (w : World) → gist (supervised (step beginTrace w)) ≡ gist (withCpu w (enterSupervisor (leaveStop (cpuOf w))))
 unfolding beginTrace putCpu
 trace-gist w =
     turn-form (step beginTrace w) (gist (step leaveStop w)) enterSupervisor seen-supervisor (cycles-gist (step leaveStop w) 4)

@@ -241,11 +241,11 @@ plan-lent w (Push32 v) p e = no-plan p e
 plan-lent w PrefetchFirst p e = no-plan p e
 plan-lent w PrefetchSecond p e = no-plan p e
 
-gist-whole : (w : World) → Whole (cpuOf w) → Whole (cpuOf (gist w))
+pub gist-whole : (w : World) → Whole (cpuOf w) → Whole (cpuOf (gist w))
 unfolding gist gistCpu isFaulted a7Of
 gist-whole w h = record { running = h .running; registers = h .registers; pointers = h .pointers; a7 = h .a7; saved = h .saved }
 
-gist-length : (w : World) → length (gist w .store) ≡ length (w .store)
+pub gist-length : (w : World) → length (gist w .store) ≡ length (w .store)
 unfolding gist
 gist-length w = refl
 

@@ -56,7 +56,7 @@ pub record Framed (a : Attempt) (y : World) (f : Frame) (v : ℕ) : Type 0 where
   pub after : gist (a .after) ≡ framedBy y f
   pub value : a .value ≡ v
 
-abbrev vectorAt : World → ℕ → ℕ
+abbrev pub vectorAt : World → ℕ → ℕ
 vectorAt y level = iackVector (responseOf (y .core .bus) level) level
 
 -- A7 lowered once, on kind 1 and on kind 2
@@ -123,7 +123,7 @@ first-other w y pc sr level e h =
       value = a .value;
     }
 
-first-form : (w y : World) (k pc sr level v : ℕ) → gist w ≡ y → kindOf (cpuOf w) ≡ k → vectorAt y level ≡ v → Ready y (interruptFrame k sr pc v) → Framed (firstFrame w pc sr level) y (interruptFrame k sr pc v) v
+pub first-form : (w y : World) (k pc sr level v : ℕ) → gist w ≡ y → kindOf (cpuOf w) ≡ k → vectorAt y level ≡ v → Ready y (interruptFrame k sr pc v) → Framed (firstFrame w pc sr level) y (interruptFrame k sr pc v) v
 unfolding firstFrame interruptFrame
 first-form w y k pc sr level v e d g h = rw d (go (eqb k 1) (eqb k 2) h)
   where
@@ -138,7 +138,7 @@ first-form w y k pc sr level v e d g h = rw d (go (eqb k 1) (eqb k 2) h)
 
 -- ---- the second frame, or M cleared
 
-seen-throw : Seen (λ d. setSmFlag d 4)
+pub seen-throw : Seen (λ d. setSmFlag d 4)
 unfolding gistCpu setSmFlag restoreSp setSmFlagNosp backupSp spIndex
 seen-throw c = refl
 
@@ -146,7 +146,7 @@ seen-clear : Seen clearM
 unfolding gistCpu clearM
 seen-clear c = refl
 
-seen-level : (level : ℕ) → Seen (λ d. enterLevel d level)
+pub seen-level : (level : ℕ) → Seen (λ d. enterLevel d level)
 unfolding gistCpu enterLevel setIntMask enterSupervisor clearTrace setSFlag restoreSp putS backupSp spIndex
 seen-level level c = refl
 
@@ -158,7 +158,7 @@ stays : (y : World) → gist y ≡ gist (withCpu y (cpuOf y))
 unfolding putCpu
 stays y = refl
 
-still-form : (w x : World) → gist w ≡ x → gist w ≡ turned x same
+pub still-form : (w x : World) → gist w ≡ x → gist w ≡ turned x same
 still-form w x e = stays w ∙ turn-form w x same seen-same e
 
 throw-form : (w y : World) (pc sr v : ℕ) → gist w ≡ y → AllReady y (record { turn = λ d. setSmFlag d 4; frame = shortFrame (withS sr) pc (formatWord 1 v) } ∷ [])
@@ -170,7 +170,7 @@ throw-form w y pc sr v e r =
     still-form (pushFrame raised (step turn w) f) (framedBy (turned y turn) f)
     (stacked-form raised (step turn w) (turned y turn) f (turn-form w y turn seen-throw e) (r .0 .sound) (r .0 .allowed))
 
-second-form : (w y : World) (pc sr v : ℕ) (m master six : Bool) → gist w ≡ y → mIsSet (cpuOf w) ≡ m → isEc020Plus (kindOf (cpuOf w)) ≡ master → is060 (kindOf (cpuOf w)) ≡ six
+pub second-form : (w y : World) (pc sr v : ℕ) (m master six : Bool) → gist w ≡ y → mIsSet (cpuOf w) ≡ m → isEc020Plus (kindOf (cpuOf w)) ≡ master → is060 (kindOf (cpuOf w)) ≡ six
     → AllReady y (throwaways m master sr pc v) → gist (secondFrame w pc sr v) ≡ turned (stackAll y (throwaways m master sr pc v)) (settles m master six)
 unfolding secondFrame throwaway throwaways settles stackAll
 second-form w y pc sr v m master six e a b c h = rw (a, b, c) (go m master six h)
@@ -190,32 +190,32 @@ module _ (x : World) (level : ℕ) (f : Frame) where
   abbrev begun : World
   begun = turned x (λ d. enterLevel d level)
 
-  begun-m : mIsSet (cpuOf (framedBy begun f)) ≡ mIsSet (cpuOf x)
+  pub begun-m : mIsSet (cpuOf (framedBy begun f)) ≡ mIsSet (cpuOf x)
   unfolding framedBy setA7 putCpu stored turned gist gistCpu enterLevel setIntMask enterSupervisor clearTrace setSFlag restoreSp putS backupSp mIsSet
   begun-m = refl
 
-  begun-kind : kindOf (cpuOf (framedBy begun f)) ≡ kindOf (cpuOf x)
+  pub begun-kind : kindOf (cpuOf (framedBy begun f)) ≡ kindOf (cpuOf x)
   unfolding framedBy setA7 putCpu stored turned gist gistCpu enterLevel setIntMask enterSupervisor clearTrace setSFlag restoreSp putS backupSp kindOf
   begun-kind = refl
 
-  begun-vector : vectorAt begun level ≡ vectorAt x level
+  pub begun-vector : vectorAt begun level ≡ vectorAt x level
   unfolding putCpu turned gist calm responseOf
   begun-vector = refl
 
 module _ (w : World) where
-  gist-m : mIsSet (cpuOf w) ≡ mIsSet (cpuOf (gist w))
+  pub gist-m : mIsSet (cpuOf w) ≡ mIsSet (cpuOf (gist w))
   unfolding gist gistCpu mIsSet
   gist-m = refl
 
-  gist-kind : kindOf (cpuOf w) ≡ kindOf (cpuOf (gist w))
+  pub gist-kind : kindOf (cpuOf w) ≡ kindOf (cpuOf (gist w))
   unfolding gist gistCpu kindOf
   gist-kind = refl
 
-  gist-vector : (level : ℕ) → vectorAt w level ≡ vectorAt (gist w) level
+  pub gist-vector : (level : ℕ) → vectorAt w level ≡ vectorAt (gist w) level
   unfolding gist calm responseOf
   gist-vector level = refl
 
-  entered-kind : (level : ℕ) → kindOf (cpuOf (withCpu w (enterLevel (cpuOf w) level))) ≡ kindOf (cpuOf w)
+  pub entered-kind : (level : ℕ) → kindOf (cpuOf (withCpu w (enterLevel (cpuOf w) level))) ≡ kindOf (cpuOf w)
   unfolding putCpu enterLevel setIntMask enterSupervisor clearTrace setSFlag restoreSp putS backupSp kindOf
   entered-kind level = refl
 

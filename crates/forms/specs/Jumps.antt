@@ -174,7 +174,7 @@ start-gist : (w : World) (v : ℕ) → gist (withCpu (release w) (startVector (c
 unfolding release noted startVector putCpu gist gistCpu calm counted
 start-gist w v = refl
 
-vector-gist : (w : World) (v : ℕ) → vectorAddress (cpuOf (release w)) v ≡ vectorAddress (cpuOf (gist w)) v
+pub vector-gist : (w : World) (v : ℕ) → vectorAddress (cpuOf (release w)) v ≡ vectorAddress (cpuOf (gist w)) v
 unfolding release noted gist gistCpu vectorAddress vbrOf
 vector-gist w v = refl
 
@@ -207,42 +207,50 @@ module _ (x : World) (v : ℕ) where
   unfolding putCpu readValue fetched served
   start-value a g = value-gist (withCpu x (startVector (cpuOf x) v)) a g
 
-  jumped-enabled : prefetchEnabled (cpuOf (jumped x v)) ≡ prefetchEnabled (cpuOf x)
+  pub jumped-enabled : prefetchEnabled (cpuOf (jumped x v)) ≡ prefetchEnabled (cpuOf x)
   unfolding jumped setPc startVector putCpu gist gistCpu prefetchEnabled
   jumped-enabled = refl
 
-  jumped-pc : pcOf (cpuOf (jumped x v)) ≡ handler x v
+  pub jumped-pc : pcOf (cpuOf (jumped x v)) ≡ handler x v
   unfolding jumped setPc startVector putCpu gist gistCpu pcOf
   jumped-pc = refl
 
-  jumped-odd : oddPc (cpuOf (jumped x v)) ≡ eqb (handler x v % 2) 1
+  pub jumped-odd : oddPc (cpuOf (jumped x v)) ≡ eqb (handler x v % 2) 1
   unfolding jumped setPc startVector putCpu gist gistCpu oddPc pcOf
   jumped-odd = refl
 
-  jumped-address : (a : ℕ) → addressOf (cpuOf (jumped x v)) a ≡ addressOf (cpuOf x) a
+  pub jumped-address : (a : ℕ) → addressOf (cpuOf (jumped x v)) a ≡ addressOf (cpuOf x) a
   unfolding jumped setPc startVector putCpu gist gistCpu addressOf
   jumped-address a = refl
 
-  jumped-served : (a : ℕ) (g : Bool) → served (jumped x v) a g ≡ served x a g
+  pub jumped-served : (a : ℕ) (g : Bool) → served (jumped x v) a g ≡ served x a g
   unfolding jumped putCpu served
   jumped-served a g = served-gist (withCpu x (setPc (startVector (cpuOf x) v) (handler x v))) a g
 
--- the jump to a vector whose reads are served, whatever a fault would raise
-pub jump-form : (t : Raise) (w x : World) (v : ℕ) → gist w ≡ x → Reachable x v → gist (jumpVector t w v) ≡ jumped x v
-unfolding jumpVector jumpTo vectorRead jumped
-jump-form t w x v e h =
+-- where the jump has read its vector and PC is what was read
+abbrev pub landed : Raise → World → ℕ → World
+landed t w v = withCpu (vectorRead t (release w) v .after) (setPc (cpuOf (vectorRead t (release w) v .after)) (vectorRead t (release w) v .value))
+
+pub land-form : (t : Raise) (w x : World) (v : ℕ) → gist w ≡ x → isFaulted (cpuOf x) ≡ false → refusesOdd (cpuOf x) (vectorPlace x v) ≡ false → served x (vectorPlace x v) true ≡ true → gist (landed t w v) ≡ jumped x v
+unfolding vectorRead jumped
+land-form t w x v e h o u =
     let y : World = withCpu (release w) (startVector (cpuOf (release w)) v) in
     let s : World = starting x v in
     let f : gist y ≡ s = start-gist w v ∙ ap (λ (z : World). starting z v) e in
     let p : ℕ = vectorPlace x v in
     let a : ℕ = vectorAddress (cpuOf (release w)) v in
     let m : addressOf (cpuOf s) a ≡ p = start-address x v a ∙ ap (λ (q : ℕ). addressOf (cpuOf x) q) (vector-gist w v ∙ ap (λ (z : World). vectorAddress (cpuOf z) v) e) in
-    let r = read-form t y s a p true f (start-faulted x v ∙ h .running) m (start-odd x v p ∙ h .even) (start-served x v p true ∙ h .serves) in
+    let r = read-form t y s a p true f (start-faulted x v ∙ h) m (start-odd x v p ∙ o) (start-served x v p true ∙ u) in
     let z : World = readAt t y a true .after in
-    let d : gist (withCpu z (setPc (cpuOf z) (readAt t y a true .value))) ≡ jumped x v = land-gist z (readAt t y a true .value)
+    land-gist z (readAt t y a true .value)
     ∙ ap (λ (u : World). gist (withCpu u (setPc (cpuOf u) (readAt t y a true .value)))) (r .0)
     ∙ ap (λ (q : ℕ). gist (withCpu s (setPc (cpuOf s) q))) (r .1 ∙ start-value x v p true)
-    ∙ land-start x v (handler x v) in
-    refill-form t (withCpu z (setPc (cpuOf z) (readAt t y a true .value))) (jumped x v) d
+    ∙ land-start x v (handler x v)
+
+-- the jump to a vector whose reads are served, whatever a fault would raise
+pub jump-form : (t : Raise) (w x : World) (v : ℕ) → gist w ≡ x → Reachable x v → gist (jumpVector t w v) ≡ jumped x v
+unfolding jumpVector jumpTo
+jump-form t w x v e h =
+    refill-form t (landed t w v) (jumped x v) (land-form t w x v e (h .running) (h .even) (h .serves))
     (λ n o. jumped-served x v _ false ∙ ap (λ (q : ℕ). served x q false) (jumped-address x v (pcOf (cpuOf (jumped x v))) ∙ ap (λ (q : ℕ). addressOf (cpuOf x) q) (jumped-pc x v)) ∙ h .first (sym (jumped-enabled x v) ∙ n) (sym (jumped-odd x v) ∙ o))
     (λ n o. jumped-served x v _ false ∙ ap (λ (q : ℕ). served x q false) (jumped-address x v ((pcOf (cpuOf (jumped x v)) + 2) % 2 ^ 32) ∙ ap (λ (q : ℕ). addressOf (cpuOf x) ((q + 2) % 2 ^ 32)) (jumped-pc x v)) ∙ h .second (sym (jumped-enabled x v) ∙ n) (sym (jumped-odd x v) ∙ o))
