@@ -35,20 +35,20 @@ unfolding writeAt checkedWrite wrote
 write-32-way m s l a v s1 l1 r h0 = cc
 
 pub push-16-way : (m : Core) (s l : List ℕ) (v : ℕ) (r : Field) (s1 l1 : List ℕ) (r1 : Core) → r ≡ word v → world r1 s1 l1 ≡ pushField (trigger 2) (world m s l) r → world r1 s1 l1 ≡ pushField raised (world m s l) (word v)
-unfolding pushField stackField
+unfolding pushField stackField a7Of
 push-16-way m s l v r s1 l1 r1 h0 h1 = cc
 
 pub push-32-way : (m : Core) (s l : List ℕ) (v : ℕ) (r : Field) (s1 l1 : List ℕ) (r1 : Core) → r ≡ long v → world r1 s1 l1 ≡ pushField (trigger 2) (world m s l) r → world r1 s1 l1 ≡ pushField raised (world m s l) (long v)
-unfolding pushField stackField
+unfolding pushField stackField a7Of
 push-32-way m s l v r s1 l1 r1 h0 h1 = cc
 
-pub push-frame-way : (m : Core) (s l : List ℕ) (f : Frame) (n : ℕ) (s1 l1 : List ℕ) (r : Core) → n ≡ f .count → world r s1 l1 ≡ pushFields (trigger 2) (world m s l) f n → world r s1 l1 ≡ pushFrame raised (world m s l) f
+pub push-frame-way : (m : Core) (s l : List ℕ) (f : Frame) (s1 l1 : List ℕ) (r : Core) → world r s1 l1 ≡ pushFields (trigger 2) (world m s l) f (f .count) → world r s1 l1 ≡ pushFrame raised (world m s l) f
 unfolding pushFrame
-push-frame-way m s l f n s1 l1 r h0 h1 = cc
+push-frame-way m s l f s1 l1 r h0 = cc
 
-pub push-exception-frame-68000-way : (m : Core) (s l : List ℕ) (pc sr : ℕ) (r : Cpu) (r1 : Core) (n n1 : ℕ) (s1 l1 : List ℕ) (r2 : Core) (s2 l2 : List ℕ) (r3 : Core) (n2 : ℕ) (s3 l3 : List ℕ) (r4 : Core) → r ≡ lowerA7 (m .cpu) 6 → r1 ≡ putCpu m r → n ≡ a7Of (r1 .cpu) → n1 ≡ (n + 4) % 2 ^ 32 → world r2 s1 l1 ≡ writeAt (trigger 2) (world r1 s l) n1 false (pc % 65536) → world r3 s2 l2 ≡ writeAt (trigger 2) (world r2 s1 l1) n false sr → n2 ≡ (n + 2) % 2 ^ 32 → world r4 s3 l3 ≡ writeAt (trigger 2) (world r3 s2 l2) n2 false (pc / 65536) → world r4 s3 l3 ≡ pushExceptionFrame68000 raised (world m s l) pc sr
-unfolding pushExceptionFrame68000 shortWrites
-push-exception-frame-68000-way m s l pc sr r r1 n n1 s1 l1 r2 s2 l2 r3 n2 s3 l3 r4 h0 h1 h2 h3 h4 h5 h6 h7 = cc
+pub push-exception-frame-68000-way : (m : Core) (s l : List ℕ) (pc sr : ℕ) (r : Cpu) (r1 : Core) (n : ℕ) (s1 l1 : List ℕ) (r2 : Core) (s2 l2 : List ℕ) (r3 : Core) (n1 : ℕ) (s3 l3 : List ℕ) (r4 : Core) → r ≡ lowerA7 (m .cpu) 6 → r1 ≡ putCpu m r → n ≡ ((getD (r1 .cpu .regs .dar) 15 0) + 4) % 2 ^ 32 → world r2 s1 l1 ≡ writeAt (trigger 2) (world r1 s l) n false (pc % 65536) → world r3 s2 l2 ≡ writeAt (trigger 2) (world r2 s1 l1) (getD (r1 .cpu .regs .dar) 15 0) false sr → n1 ≡ ((getD (r1 .cpu .regs .dar) 15 0) + 2) % 2 ^ 32 → world r4 s3 l3 ≡ writeAt (trigger 2) (world r3 s2 l2) n1 false (pc / 65536) → world r4 s3 l3 ≡ pushExceptionFrame68000 raised (world m s l) pc sr
+unfolding pushExceptionFrame68000 a7Of shortWrites
+push-exception-frame-68000-way m s l pc sr r r1 n s1 l1 r2 s2 l2 r3 n1 s3 l3 r4 h0 h1 h2 h3 h4 h5 h6 = cc
 
 pub jump-vector-way : (m : Core) (s l : List ℕ) (vector : ℕ) (s1 l1 : List ℕ) (r : Core) → world r s1 l1 ≡ jumpVector (trigger 2) (world m s l) vector → world r s1 l1 ≡ jumpVector raised (world m s l) vector
 unfolding jumpVector jumpTo vectorRead refill

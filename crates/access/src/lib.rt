@@ -62,8 +62,7 @@ pub fn push_32(m: Core, store: &mut [u8], log: &mut [u32], v: u32) -> Core
 pub fn push_frame(m: Core, store: &mut [u8], log: &mut [u32], f: Frame) -> Core
     ensures { λ r. ⌜ world r (now (store .exit)) (now (log .exit)) ≡ pushFrame raised (world m (now (store .entry)) (now (log .entry))) f ⌝ }
 {
-    let n = frames::count(f);
-    ring::push_fields(m, store, log, 2, f, n)
+    ring::push_fields(m, store, log, 2, f, f.count)
 }
 
 // The frame of the 68000: A7 lowered once, then PC low, the status and PC high.
@@ -77,7 +76,8 @@ pub fn push_exception_frame_68000(
     ensures { λ r. ⌜ world r (now (store .exit)) (now (log .exit)) ≡ pushExceptionFrame68000 raised (world m (now (store .entry)) (now (log .entry))) pc sr ⌝ }
 {
     let a = memory::with_cpu(m, cpu::fields::lower_a7(m.cpu, 6));
-    let sp = cpu::fields::a7(a.cpu);
+    let regs = a.cpu.regs;
+    let sp = regs.dar[15];
     let high = pc / 0x10000;
     let low = pc % 0x10000;
     let b = ring::write_at(a, store, log, 2, steps::plus(sp, 4), false, low);

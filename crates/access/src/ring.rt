@@ -1,5 +1,6 @@
 // The functions that call each other, by the Rust's names; each says in its contract the definition of the same name. Only the two
 // triggers lower `levels`. A read and a write are of a word or a long: `read_16`, `read_32`, `write_16`, `write_32` of the crate's root.
+// While the record is faulted, `run_mode` 1, nothing is read, written or raised.
 use frames::Field;
 use frames::Frame;
 use memory::Core;
@@ -21,16 +22,16 @@ pub fn trigger_bus_error(
 ) -> Core
     ensures { λ r. ⌜ world r (now (store .exit)) (now (log .exit)) ≡ trigger levels (world m (now (store .entry)) (now (log .entry))) (busError address write instruction size) ⌝ }
 {
-    if cpu::fields::faulted(m.cpu) {
+    if m.cpu.flow.run_mode == 1 {
         return m;
     }
-    if cpu::fields::in_exception(m.cpu) {
+    if m.cpu.flow.exception_processing {
         return memory::with_cpu(m, cpu::fields::halt(m.cpu));
     }
     if levels == 0 {
         return memory::with_cpu(m, cpu::fields::halt(m.cpu));
     }
-    let cause = cpu::fields::pending_fault_cause(m.cpu);
+    let cause = m.cpu.fault.pending_fault_cause;
     let a = memory::with_cpu(m, steps::begin_bus(m.cpu));
     let b = exception_bus_error(
         a,
@@ -57,7 +58,7 @@ pub fn trigger_address_error(
 ) -> Core
     ensures { λ r. ⌜ world r (now (store .exit)) (now (log .exit)) ≡ trigger levels (world m (now (store .entry)) (now (log .entry))) (addressError address write instruction) ⌝ }
 {
-    if cpu::fields::faulted(m.cpu) {
+    if m.cpu.flow.run_mode == 1 {
         return m;
     }
     if levels == 0 {
@@ -134,7 +135,8 @@ pub fn push_field(m: Core, store: &mut [u8], log: &mut [u32], levels: u8, f: Fie
     if f.mode == 2 {
         return a;
     }
-    let at = cpu::fields::a7(a.cpu);
+    let regs = a.cpu.regs;
+    let at = regs.dar[15];
     if f.mode == 1 {
         let p = cpu::fields::address(a.cpu, at);
         return memory::raw_write(a, store, log, p, f.long, f.value);
@@ -154,7 +156,7 @@ pub fn write_at(
 ) -> Core
     ensures { λ r. ⌜ world r (now (store .exit)) (now (log .exit)) ≡ writeAt (trigger levels) (world m (now (store .entry)) (now (log .entry))) address long value ⌝ }
 {
-    if cpu::fields::faulted(m.cpu) {
+    if m.cpu.flow.run_mode == 1 {
         return m;
     }
     let a = memory::flush_sync(m, store, log);
@@ -183,7 +185,7 @@ pub fn read_at(
 ) -> Reply
     ensures { λ r. ⌜ reply (world (r .core) (now (store .exit)) (now (log .exit))) (r .ok) (r .value) ≡ readAt (trigger levels) (world m (now (store .entry)) (now (log .entry))) address long ⌝ }
 {
-    if cpu::fields::faulted(m.cpu) {
+    if m.cpu.flow.run_mode == 1 {
         return Reply {
             core: m,
             ok: false,
@@ -251,11 +253,10 @@ pub fn prefetch_first(m: Core, store: &mut [u8], log: &mut [u32], levels: u8) ->
 {
     if cpu::clocks::prefetch_enabled(m.cpu) {
         let a = memory::with_cpu(m, cpu::clocks::clear_prefetch(m.cpu));
-        if cpu::fields::odd_pc(a.cpu) {
+        if a.cpu.flow.pc % 2 == 1 {
             return a;
         }
-        let p = cpu::fields::pc(a.cpu);
-        let r = prefetch_read(a, store, log, levels, p);
+        let r = prefetch_read(a, store, log, levels, a.cpu.flow.pc);
         let d = r.core;
         if r.ok {
             return memory::with_cpu(d, cpu::clocks::first_word(d.cpu, steps::low_word(r.value)));
@@ -269,14 +270,14 @@ pub fn prefetch_second(m: Core, store: &mut [u8], log: &mut [u32], levels: u8) -
     ensures { λ r. ⌜ world r (now (store .exit)) (now (log .exit)) ≡ prefetchSecond (trigger levels) (world m (now (store .entry)) (now (log .entry))) ⌝ }
 {
     if cpu::clocks::prefetch_enabled(m.cpu) {
-        if cpu::clocks::one_fetched(m.cpu) {
-            if cpu::fields::odd_pc(m.cpu) {
+        if m.cpu.queue.prefetch_count == 1 {
+            if m.cpu.flow.pc % 2 == 1 {
                 return m;
             }
-            if cpu::fields::faulted(m.cpu) {
+            if m.cpu.flow.run_mode == 1 {
                 return m;
             }
-            let p = std::num::wrapping_add_u32(cpu::fields::pc(m.cpu), 2);
+            let p = std::num::wrapping_add_u32(m.cpu.flow.pc, 2);
             let r = prefetch_read(m, store, log, levels, p);
             let d = r.core;
             if r.ok {

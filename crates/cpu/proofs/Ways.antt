@@ -6,6 +6,6 @@ use mathlib.Core.Bool.{Bool, true}
 use Rattle.cpu.specs.declared.Cpu.{Cpu}
 use Rattle.cpu.specs.Clocks.{prefetchEnabled, clocksOf, setClocks, internalCycles}
 
-pub cycles-added : (c r : Cpu) (t : Bool) (p q n : ℕ) → t ≡ prefetchEnabled c → t ≡ true → p ≡ clocksOf c → q ≡ (p + n) % 2 ^ 32 → r ≡ setClocks c q → r ≡ internalCycles c n
-unfolding internalCycles
-cycles-added c r t p q n h0 h1 h2 h3 h4 = cc
+pub cycles-added : (c r : Cpu) (t : Bool) (n : ℕ) → t ≡ prefetchEnabled c → t ≡ true → r ≡ setClocks c ((c .queue .«pending_sync_clocks» + n) % 2 ^ 32) → r ≡ internalCycles c n
+unfolding internalCycles clocksOf
+cycles-added c r t n h0 h1 h2 = cc

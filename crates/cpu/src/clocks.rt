@@ -1,35 +1,17 @@
 // Clocks that wait to be reported, and the prefetch queue.
 use crate::Cpu;
 ghost use mathlib.Core.Path.{_≡_};
-ghost use Rattle.cpu.specs.Clocks.{hasClocks, clocksOf, oneFetched, prefetchEnabled, internalCycles, setClocks, clearPrefetch, firstWord, secondWord};
-
-// whether clocks wait to be reported
-pub fn has_clocks(c: Cpu) -> bool
-    ensures { λ r. ⌜ r ≡ hasClocks c ⌝ }
-{
-    0 < c.queue.pending_sync_clocks
-}
-
-// the clocks that wait to be reported
-pub fn pending_clocks(c: Cpu) -> u32
-    ensures { λ r. ⌜ r ≡ clocksOf c ⌝ }
-{
-    c.queue.pending_sync_clocks
-}
-
-// whether just the first word is queued
-pub fn one_fetched(c: Cpu) -> bool
-    ensures { λ r. ⌜ r ≡ oneFetched c ⌝ }
-{
-    c.queue.prefetch_count == 1
-}
+ghost use Rattle.cpu.specs.Clocks.{prefetchEnabled, internalCycles, setClocks, clearPrefetch, firstWord, secondWord};
 
 // `prefetch_enabled`: the kinds with a queue, while the bus is precise.
 pub fn prefetch_enabled(c: Cpu) -> bool
     ensures { λ r. ⌜ r ≡ prefetchEnabled c ⌝ }
 {
     if c.queue.precise_bus {
-        return types::is_prefetch_kind(c.flow.cpu_type);
+        if c.flow.cpu_type == types::M68000 {
+            return true;
+        }
+        return c.flow.cpu_type == types::M68010;
     }
     false
 }
@@ -39,8 +21,8 @@ pub fn internal_cycles(c: Cpu, n: u32) -> Cpu
     ensures { λ r. ⌜ r ≡ internalCycles c n ⌝ }
 {
     if prefetch_enabled(c) {
-        let total = std::num::wrapping_add_u32(pending_clocks(c), n);
-        return set_clocks(c, total);
+        let total = c.queue.pending_sync_clocks as u64 + n as u64;
+        return set_clocks(c, (total % 0x100000000) as u32);
     }
     c
 }

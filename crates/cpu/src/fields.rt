@@ -3,7 +3,7 @@ use crate::Cpu;
 use crate::OptionalCode;
 use crate::OptionalVector;
 ghost use mathlib.Core.Path.{_≡_};
-ghost use Rattle.cpu.specs.Fields.{kindOf, pcOf, ppcOf, vbrOf, irOf, a7Of, addressOf, isFaulted, inException, checksAlignment, wdataOf, causeNumberOf, hasFcOverride, fcOverrideOf, setA7, setPc, rewindPc, noteFpiar, halted, setException, clearStopped, leaveStop, restoreRegisters, setWdata, clearCause, clearFcOverride, startVector, lowerA7, minus32, oddPc};
+ghost use Rattle.cpu.specs.Fields.{kindOf, ppcOf, irOf, a7Of, addressOf, wdataOf, hasFcOverride, fcOverrideOf, setA7, setPc, rewindPc, noteFpiar, halted, setException, clearStopped, leaveStop, restoreRegisters, setWdata, clearCause, clearFcOverride, startVector, lowerA7, minus32};
 
 // the kind of processor
 pub fn kind(c: Cpu) -> u8
@@ -12,25 +12,11 @@ pub fn kind(c: Cpu) -> u8
     c.flow.cpu_type
 }
 
-// the program counter
-pub fn pc(c: Cpu) -> u32
-    ensures { λ r. ⌜ r ≡ pcOf c ⌝ }
-{
-    c.flow.pc
-}
-
 // the address of the instruction that runs
 pub fn ppc(c: Cpu) -> u32
     ensures { λ r. ⌜ r ≡ ppcOf c ⌝ }
 {
     c.flow.ppc
-}
-
-// the vector base
-pub fn vbr(c: Cpu) -> u32
-    ensures { λ r. ⌜ r ≡ vbrOf c ⌝ }
-{
-    c.flow.vbr
 }
 
 // the instruction register
@@ -48,34 +34,14 @@ pub fn a7(c: Cpu) -> u32
     regs.dar[15]
 }
 
-// `address`: under the address mask of the kind
+// `address`: under the address mask of the kind, 24 bits on kinds 0, 1, 2
 pub fn address(c: Cpu, a: u32) -> u32
     ensures { λ r. ⌜ r ≡ addressOf c a ⌝ }
 {
-    let k = c.flow.cpu_type;
-    types::mask_address(k, a)
-}
-
-// `faulted`: an access or an entry of this instruction has raised a fault
-pub fn faulted(c: Cpu) -> bool
-    ensures { λ r. ⌜ r ≡ isFaulted c ⌝ }
-{
-    c.flow.run_mode == 1
-}
-
-// whether an entry that halts on a second fault is under way
-pub fn in_exception(c: Cpu) -> bool
-    ensures { λ r. ⌜ r ≡ inException c ⌝ }
-{
-    c.flow.exception_processing
-}
-
-// whether odd guarded accesses raise an address error: kinds 1, 2, 10
-pub fn aligned_kind(c: Cpu) -> bool
-    ensures { λ r. ⌜ r ≡ checksAlignment c ⌝ }
-{
-    let k = c.flow.cpu_type;
-    types::is_pre_68020(k)
+    if c.flow.cpu_type < 3 {
+        return a % 0x1000000;
+    }
+    a
 }
 
 // the data of the write last tried
@@ -83,13 +49,6 @@ pub fn pending_fault_wdata(c: Cpu) -> u32
     ensures { λ r. ⌜ r ≡ wdataOf c ⌝ }
 {
     c.fault.pending_fault_wdata
-}
-
-// the number of the cause that waits for the next bus error
-pub fn pending_fault_cause(c: Cpu) -> u8
-    ensures { λ r. ⌜ r ≡ causeNumberOf c ⌝ }
-{
-    c.fault.pending_fault_cause
 }
 
 // whether a function code stands in for that of the state
@@ -281,12 +240,6 @@ pub fn lower_a7(c: Cpu, n: u32) -> Cpu
 pub fn minus(a: u32, n: u32) -> u32
     ensures { λ r. ⌜ r ≡ minus32 a n ⌝ }
 {
-    std::num::wrapping_sub_u32(a, n)
-}
-
-// Whether the program counter is odd.
-pub fn odd_pc(c: Cpu) -> bool
-    ensures { λ r. ⌜ r ≡ oddPc c ⌝ }
-{
-    pc(c) % 2 == 1
+    let far = a as u64 + 0x100000000 - n as u64;
+    (far % 0x100000000) as u32
 }

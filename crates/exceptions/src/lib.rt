@@ -21,7 +21,7 @@ pub fn stack_short(m: Core, store: &mut [u8], log: &mut [u32], pc: u32, format: 
 {
     let sr = status::get_sr(m.cpu);
     let a = memory::with_cpu(m, status::banks::enter_supervisor(m.cpu));
-    let k = cpu::fields::kind(m.cpu);
+    let k = m.cpu.flow.cpu_type;
     if k == types::M68000 {
         return access::push_exception_frame_68000(a, store, log, pc, sr);
     }
@@ -44,7 +44,7 @@ fn stack_and_jump(m: Core, store: &mut [u8], log: &mut [u32], vector: u32) -> Co
 pub fn take_exception(m: Core, store: &mut [u8], log: &mut [u32], vector: u32) -> Entered
     ensures { λ r. ⌜ entry (world (r .core) (now (store .exit)) (now (log .exit))) (r .cycles) ≡ takeException (world m (now (store .entry)) (now (log .entry))) vector ⌝ }
 {
-    if cpu::fields::in_exception(m.cpu) {
+    if m.cpu.flow.exception_processing {
         let h = memory::with_cpu(m, cpu::fields::halt(m.cpu));
         return Entered { core: h, cycles: 0 };
     }
@@ -58,8 +58,8 @@ pub fn take_exception(m: Core, store: &mut [u8], log: &mut [u32], vector: u32) -
 fn stack_group2(m: Core, store: &mut [u8], log: &mut [u32], vector: u32) -> Core
     ensures { λ r. ⌜ world r (now (store .exit)) (now (log .exit)) ≡ stackGroup2 (world m (now (store .entry)) (now (log .entry))) vector ⌝ }
 {
-    let pc = cpu::fields::pc(m.cpu);
-    let k = cpu::fields::kind(m.cpu);
+    let pc = m.cpu.flow.pc;
+    let k = m.cpu.flow.cpu_type;
     if types::is_pre_68020(k) {
         let format = formats::offset_word(vector);
         return stack_short(m, store, log, pc, format as u32);
@@ -67,7 +67,7 @@ fn stack_group2(m: Core, store: &mut [u8], log: &mut [u32], vector: u32) -> Core
     let a = memory::with_cpu(m, status::banks::enter_supervisor(m.cpu));
     let sr = status::get_sr(m.cpu);
     let format = formats::format_word(2, vector);
-    let f = formats::long_frame(sr as u32, pc, format, cpu::fields::ppc(m.cpu));
+    let f = formats::long_frame(sr as u32, pc, format, m.cpu.flow.ppc);
     access::push_frame(a, store, log, f)
 }
 
@@ -166,7 +166,7 @@ fn stack_unimp(m: Core, store: &mut [u8], log: &mut [u32], ea: u32) -> Core
 {
     let a = memory::with_cpu(m, status::banks::enter_supervisor(m.cpu));
     let sr = status::get_sr(m.cpu);
-    let pc = cpu::fields::pc(m.cpu);
+    let pc = m.cpu.flow.pc;
     let format = formats::format_word(2, types::LINE_1111);
     let f = formats::long_frame(sr as u32, pc, format, ea);
     access::push_frame(a, store, log, f)
@@ -189,7 +189,7 @@ fn stack_disabled(m: Core, store: &mut [u8], log: &mut [u32]) -> Core
 {
     let a = memory::with_cpu(m, status::banks::enter_supervisor(m.cpu));
     let sr = status::get_sr(m.cpu);
-    let ppc = cpu::fields::ppc(m.cpu);
+    let ppc = m.cpu.flow.ppc;
     let format = formats::format_word(4, types::LINE_1111);
     let f = formats::disabled_frame(sr as u32, ppc, format, 0, ppc);
     access::push_frame(a, store, log, f)

@@ -54,41 +54,41 @@ pub push-interrupt-other-way : (m : Core) (s l : List ℕ) (pc sr level : ℕ) (
 unfolding pushInterruptOther restOther
 push-interrupt-other-way m s l pc sr level s1 l1 r n r1 s2 l2 r2 h0 h1 h2 h3 = cc
 
-pub first-frame-way : (m : Core) (s l : List ℕ) (pc sr level n : ℕ) (s1 l1 : List ℕ) (r : Stacked) → n ≡ kindOf (m .cpu) → n ≡ 1 → reply (world (r .core) s1 l1) true (r .vector) ≡ pushInterrupt68000 (world m s l) pc sr level → reply (world (r .core) s1 l1) true (r .vector) ≡ firstFrame (world m s l) pc sr level
-unfolding firstFrame
-first-frame-way m s l pc sr level n s1 l1 r h0 h1 h2 = cc (eq-eqb _ _ h1)
+pub first-frame-way : (m : Core) (s l : List ℕ) (pc sr level : ℕ) (s1 l1 : List ℕ) (r : Stacked) → m .cpu .flow .«cpu_type» ≡ 1 → reply (world (r .core) s1 l1) true (r .vector) ≡ pushInterrupt68000 (world m s l) pc sr level → reply (world (r .core) s1 l1) true (r .vector) ≡ firstFrame (world m s l) pc sr level
+unfolding firstFrame kindOf
+first-frame-way m s l pc sr level s1 l1 r h0 h1 = cc (eq-eqb _ _ h0)
 
-pub first-frame-way-2 : (m : Core) (s l : List ℕ) (pc sr level n : ℕ) (s1 l1 : List ℕ) (r : Stacked) → n ≡ kindOf (m .cpu) → (n ≡ 1 → ⊥) → n ≡ 2 → reply (world (r .core) s1 l1) true (r .vector) ≡ pushInterrupt68010 (world m s l) pc sr level → reply (world (r .core) s1 l1) true (r .vector) ≡ firstFrame (world m s l) pc sr level
-unfolding firstFrame
-first-frame-way-2 m s l pc sr level n s1 l1 r h0 h1 h2 h3 = cc (ne-eqb _ _ h1, eq-eqb _ _ h2)
+pub first-frame-way-2 : (m : Core) (s l : List ℕ) (pc sr level : ℕ) (s1 l1 : List ℕ) (r : Stacked) → (m .cpu .flow .«cpu_type» ≡ 1 → ⊥) → m .cpu .flow .«cpu_type» ≡ 2 → reply (world (r .core) s1 l1) true (r .vector) ≡ pushInterrupt68010 (world m s l) pc sr level → reply (world (r .core) s1 l1) true (r .vector) ≡ firstFrame (world m s l) pc sr level
+unfolding firstFrame kindOf
+first-frame-way-2 m s l pc sr level s1 l1 r h0 h1 h2 = cc (ne-eqb _ _ h0, eq-eqb _ _ h1)
 
-pub first-frame-way-3 : (m : Core) (s l : List ℕ) (pc sr level n : ℕ) (s1 l1 : List ℕ) (r : Stacked) → n ≡ kindOf (m .cpu) → (n ≡ 1 → ⊥) → (n ≡ 2 → ⊥) → reply (world (r .core) s1 l1) true (r .vector) ≡ pushInterruptOther (world m s l) pc sr level → reply (world (r .core) s1 l1) true (r .vector) ≡ firstFrame (world m s l) pc sr level
-unfolding firstFrame
-first-frame-way-3 m s l pc sr level n s1 l1 r h0 h1 h2 h3 = cc (ne-eqb _ _ h1, ne-eqb _ _ h2)
+pub first-frame-way-3 : (m : Core) (s l : List ℕ) (pc sr level : ℕ) (s1 l1 : List ℕ) (r : Stacked) → (m .cpu .flow .«cpu_type» ≡ 1 → ⊥) → (m .cpu .flow .«cpu_type» ≡ 2 → ⊥) → reply (world (r .core) s1 l1) true (r .vector) ≡ pushInterruptOther (world m s l) pc sr level → reply (world (r .core) s1 l1) true (r .vector) ≡ firstFrame (world m s l) pc sr level
+unfolding firstFrame kindOf
+first-frame-way-3 m s l pc sr level s1 l1 r h0 h1 h2 = cc (ne-eqb _ _ h0, ne-eqb _ _ h1)
 
 pub throwaway-frame-way : (m : Core) (s l : List ℕ) (pc sr vector : ℕ) (r : Cpu) (r1 : Core) (n n1 : ℕ) (r2 : Frame) (s1 l1 : List ℕ) (r3 : Core) → r ≡ setSmFlag (m .cpu) 4 → r1 ≡ putCpu m r → n ≡ withS sr → n1 ≡ formatWord (1 % 16) vector → r2 ≡ shortFrame n pc n1 → world r3 s1 l1 ≡ pushFrame raised (world r1 s l) r2 → world r3 s1 l1 ≡ throwaway (world m s l) pc sr vector
 unfolding throwaway
 throwaway-frame-way m s l pc sr vector r r1 n n1 r2 s1 l1 r3 h0 h1 h2 h3 h4 h5 = cc
 
-pub second-frame-way : (m : Core) (s l : List ℕ) (pc sr vector : ℕ) (b : Bool) (n : ℕ) (b1 : Bool) (s1 l1 : List ℕ) (r : Core) → b ≡ mIsSet (m .cpu) → b ≡ true → n ≡ kindOf (m .cpu) → b1 ≡ isEc020Plus n → b1 ≡ true → world r s1 l1 ≡ throwaway (world m s l) pc sr vector → world r s1 l1 ≡ secondFrame (world m s l) pc sr vector
-unfolding secondFrame
-second-frame-way m s l pc sr vector b n b1 s1 l1 r h0 h1 h2 h3 h4 h5 = cc
+pub second-frame-way : (m : Core) (s l : List ℕ) (pc sr vector : ℕ) (b b1 : Bool) (s1 l1 : List ℕ) (r : Core) → b ≡ mIsSet (m .cpu) → b ≡ true → b1 ≡ isEc020Plus (m .cpu .flow .«cpu_type») → b1 ≡ true → world r s1 l1 ≡ throwaway (world m s l) pc sr vector → world r s1 l1 ≡ secondFrame (world m s l) pc sr vector
+unfolding secondFrame kindOf
+second-frame-way m s l pc sr vector b b1 s1 l1 r h0 h1 h2 h3 h4 = cc
 
-pub second-frame-way-2 : (m : Core) (s l : List ℕ) (pc sr vector : ℕ) (b : Bool) (n : ℕ) (b1 b2 : Bool) (r : Cpu) (r1 : Core) → b ≡ mIsSet (m .cpu) → b ≡ true → n ≡ kindOf (m .cpu) → b1 ≡ isEc020Plus n → b1 ≡ false → b2 ≡ is060 n → b2 ≡ true → r ≡ clearM (m .cpu) → r1 ≡ putCpu m r → world r1 s l ≡ secondFrame (world m s l) pc sr vector
-unfolding secondFrame
-second-frame-way-2 m s l pc sr vector b n b1 b2 r r1 h0 h1 h2 h3 h4 h5 h6 h7 h8 = cc
+pub second-frame-way-2 : (m : Core) (s l : List ℕ) (pc sr vector : ℕ) (b b1 b2 : Bool) (r : Cpu) (r1 : Core) → b ≡ mIsSet (m .cpu) → b ≡ true → b1 ≡ isEc020Plus (m .cpu .flow .«cpu_type») → b1 ≡ false → b2 ≡ is060 (m .cpu .flow .«cpu_type») → b2 ≡ true → r ≡ clearM (m .cpu) → r1 ≡ putCpu m r → world r1 s l ≡ secondFrame (world m s l) pc sr vector
+unfolding secondFrame kindOf
+second-frame-way-2 m s l pc sr vector b b1 b2 r r1 h0 h1 h2 h3 h4 h5 h6 h7 = cc
 
-pub second-frame-way-3 : (m : Core) (s l : List ℕ) (pc sr vector : ℕ) (b : Bool) (n : ℕ) (b1 b2 : Bool) → b ≡ mIsSet (m .cpu) → b ≡ true → n ≡ kindOf (m .cpu) → b1 ≡ isEc020Plus n → b1 ≡ false → b2 ≡ is060 n → b2 ≡ false → world m s l ≡ secondFrame (world m s l) pc sr vector
-unfolding secondFrame
-second-frame-way-3 m s l pc sr vector b n b1 b2 h0 h1 h2 h3 h4 h5 h6 = cc
+pub second-frame-way-3 : (m : Core) (s l : List ℕ) (pc sr vector : ℕ) (b b1 b2 : Bool) → b ≡ mIsSet (m .cpu) → b ≡ true → b1 ≡ isEc020Plus (m .cpu .flow .«cpu_type») → b1 ≡ false → b2 ≡ is060 (m .cpu .flow .«cpu_type») → b2 ≡ false → world m s l ≡ secondFrame (world m s l) pc sr vector
+unfolding secondFrame kindOf
+second-frame-way-3 m s l pc sr vector b b1 b2 h0 h1 h2 h3 h4 h5 = cc
 
 pub second-frame-way-4 : (m : Core) (s l : List ℕ) (pc sr vector : ℕ) (b : Bool) → b ≡ mIsSet (m .cpu) → b ≡ false → world m s l ≡ secondFrame (world m s l) pc sr vector
-unfolding secondFrame
+unfolding secondFrame kindOf
 second-frame-way-4 m s l pc sr vector b h0 h1 = cc
 
-pub service-interrupt-way : (m : Core) (s l : List ℕ) (level n n1 : ℕ) (r : Cpu) (r1 : Core) (s1 l1 : List ℕ) (r2 : Stacked) (s2 l2 : List ℕ) (r3 : Core) (s3 l3 : List ℕ) (r4 : Core) (r5 : Cpu) (r6 : Core) → n ≡ pcOf (m .cpu) → n1 ≡ getSr (m .cpu) → r ≡ enterLevel (m .cpu) level → r1 ≡ putCpu m r → reply (world (r2 .core) s1 l1) true (r2 .vector) ≡ firstFrame (world r1 s l) n n1 level → world r3 s2 l2 ≡ secondFrame (world (r2 .core) s1 l1) n n1 (r2 .vector) → world r4 s3 l3 ≡ jumpVector raised (world r3 s2 l2) (r2 .vector) → r5 ≡ closeInterrupt (r4 .cpu) → r6 ≡ putCpu r4 r5 → world r6 s3 l3 ≡ serviceInterrupt (world m s l) level
-unfolding serviceInterrupt dispatched ended
-service-interrupt-way m s l level n n1 r r1 s1 l1 r2 s2 l2 r3 s3 l3 r4 r5 r6 h0 h1 h2 h3 h4 h5 h6 h7 h8 = cc
+pub service-interrupt-way : (m : Core) (s l : List ℕ) (level n : ℕ) (r : Cpu) (r1 : Core) (s1 l1 : List ℕ) (r2 : Stacked) (s2 l2 : List ℕ) (r3 : Core) (s3 l3 : List ℕ) (r4 : Core) (r5 : Cpu) (r6 : Core) → n ≡ getSr (m .cpu) → r ≡ enterLevel (m .cpu) level → r1 ≡ putCpu m r → reply (world (r2 .core) s1 l1) true (r2 .vector) ≡ firstFrame (world r1 s l) (m .cpu .flow .pc) n level → world r3 s2 l2 ≡ secondFrame (world (r2 .core) s1 l1) (m .cpu .flow .pc) n (r2 .vector) → world r4 s3 l3 ≡ jumpVector raised (world r3 s2 l2) (r2 .vector) → r5 ≡ closeInterrupt (r4 .cpu) → r6 ≡ putCpu r4 r5 → world r6 s3 l3 ≡ serviceInterrupt (world m s l) level
+unfolding serviceInterrupt dispatched pcOf ended
+service-interrupt-way m s l level n r r1 s1 l1 r2 s2 l2 r3 s3 l3 r4 r5 r6 h0 h1 h2 h3 h4 h5 h6 h7 = cc
 
 pub check-and-service-interrupts-way : (m : Core) (s l : List ℕ) (b : Bool) (n : ℕ) (s1 l1 : List ℕ) (r : Core) (r1 : Cpu) (r2 : Core) → b ≡ takesInterrupt (m .cpu) → b ≡ true → n ≡ pendingLevel (m .cpu) → world r s1 l1 ≡ serviceInterrupt (world m s l) n → r1 ≡ clearLevel (r .cpu) → r2 ≡ putCpu r r1 → tried (world r2 s1 l1) true ≡ checkAndService (world m s l)
 unfolding checkAndService serviced

@@ -156,7 +156,7 @@ fn push_interrupt_other(
 fn first_frame(m: Core, store: &mut [u8], log: &mut [u32], pc: u32, sr: u16, level: u8) -> Stacked
     ensures { λ r. ⌜ reply (world (r .core) (now (store .exit)) (now (log .exit))) true (r .vector) ≡ firstFrame (world m (now (store .entry)) (now (log .entry))) pc sr level ⌝ }
 {
-    let k = cpu::fields::kind(m.cpu);
+    let k = m.cpu.flow.cpu_type;
     if k == types::M68000 {
         return push_interrupt_68000(m, store, log, pc, sr, level);
     }
@@ -189,7 +189,7 @@ fn second_frame(m: Core, store: &mut [u8], log: &mut [u32], pc: u32, sr: u16, ve
     ensures { λ r. ⌜ world r (now (store .exit)) (now (log .exit)) ≡ secondFrame (world m (now (store .entry)) (now (log .entry))) pc sr vector ⌝ }
 {
     if status::m_is_set(m.cpu) {
-        let k = cpu::fields::kind(m.cpu);
+        let k = m.cpu.flow.cpu_type;
         if types::is_ec020_plus(k) {
             return throwaway_frame(m, store, log, pc, sr, vector);
         }
@@ -205,7 +205,7 @@ fn second_frame(m: Core, store: &mut [u8], log: &mut [u32], pc: u32, sr: u16, ve
 pub fn service_interrupt(m: Core, store: &mut [u8], log: &mut [u32], level: u8) -> Core
     ensures { λ r. ⌜ world r (now (store .exit)) (now (log .exit)) ≡ serviceInterrupt (world m (now (store .entry)) (now (log .entry))) level ⌝ }
 {
-    let pc = cpu::fields::pc(m.cpu);
+    let pc = m.cpu.flow.pc;
     let sr = status::get_sr(m.cpu);
     let a = memory::with_cpu(m, steps::enter_level(m.cpu, level));
     let x = first_frame(a, store, log, pc, sr, level);

@@ -15,6 +15,7 @@ use Rattle.memory.specs.Served.{clearOf, inStore, placeOf, servedOf, win
 use Rattle.memory.specs.World.{acknowledged, fetched, flush, noted, putCpu, rawRead, rawWrite, readValue, release, reply, responseOf, served, stored, tried, tryRead, tryWrite, widthOf, world, written}
 use Rattle.memory.specs.declared.Bus.{Bus}
 use Rattle.memory.specs.declared.Core.{Core}
+use borrow.Author.Tests.{lt-ltb, le-ltb}
 
 pub try-write-way : (m : Core) (s l : List ℕ) (address : ℕ) (long : Bool) (value n : ℕ) (b : Bool) (n1 : ℕ) (s1 s2 l1 : List ℕ) (r : Core) → n ≡ widthOf long → b ≡ servedOf (m .bus) (length s) address n → b ≡ true → long ≡ true → n1 ≡ placeOf (m .bus) address → s1 ≡ putLong s n1 value → world r s2 l1 ≡ noted (world m s1 l) 4 address value → tried (world r s2 l1) true ≡ tryWrite (world m s l) address long value
 unfolding tryWrite rawWrite served stored written
@@ -48,13 +49,13 @@ pub try-read-way-4 : (m : Core) (s l : List ℕ) (address : ℕ) (long : Bool) (
 unfolding tryRead rawRead readValue served fetched
 try-read-way-4 m s l address long n b s1 l1 r h0 h1 h2 h3 h4 = cc
 
-pub flush-sync-way : (m : Core) (s l : List ℕ) (b : Bool) (n : ℕ) (r : Cpu) (r1 : Core) (s1 l1 : List ℕ) (r2 : Core) → b ≡ hasClocks (m .cpu) → b ≡ true → n ≡ clocksOf (m .cpu) → r ≡ setClocks (m .cpu) 0 → r1 ≡ putCpu m r → world r2 s1 l1 ≡ noted (world r1 s l) 5 0 n → world r2 s1 l1 ≡ flush (world m s l)
-unfolding flush
-flush-sync-way m s l b n r r1 s1 l1 r2 h0 h1 h2 h3 h4 h5 = cc
+pub flush-sync-way : (m : Core) (s l : List ℕ) (r : Cpu) (r1 : Core) (s1 l1 : List ℕ) (r2 : Core) → 0 < m .cpu .queue .«pending_sync_clocks» → r ≡ setClocks (m .cpu) 0 → r1 ≡ putCpu m r → world r2 s1 l1 ≡ noted (world r1 s l) 5 0 (m .cpu .queue .«pending_sync_clocks») → world r2 s1 l1 ≡ flush (world m s l)
+unfolding flush clocksOf hasClocks
+flush-sync-way m s l r r1 s1 l1 r2 h0 h1 h2 h3 = cc (lt-ltb _ _ h0)
 
-pub flush-sync-way-2 : (m : Core) (s l : List ℕ) (b : Bool) → b ≡ hasClocks (m .cpu) → b ≡ false → world m s l ≡ flush (world m s l)
-unfolding flush
-flush-sync-way-2 m s l b h0 h1 = cc
+pub flush-sync-way-2 : (m : Core) (s l : List ℕ) → m .cpu .queue .«pending_sync_clocks» ≤ 0 → world m s l ≡ flush (world m s l)
+unfolding flush clocksOf hasClocks
+flush-sync-way-2 m s l h0 = cc (le-ltb _ _ h0)
 
 pub release-sample-way : (m : Core) (s l s1 l1 : List ℕ) (r : Core) → world r s1 l1 ≡ noted (world m s l) 7 0 0 → world r s1 l1 ≡ release (world m s l)
 unfolding release

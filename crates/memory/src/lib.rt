@@ -63,8 +63,8 @@ fn count_up(b: Bus) -> Bus
     ensures { λ r. ⌜ r ≡ counted b ⌝ }
 {
     let mut d = b;
-    let e = std::num::wrapping_add_u32(b.events, 1);
-    d.events = e;
+    let e = (b.events as u64 + 1) % 0x100000000;
+    d.events = e as u32;
     d
 }
 
@@ -178,10 +178,9 @@ pub fn raw_write(
 pub fn flush_sync(m: Core, store: &mut [u8], log: &mut [u32]) -> Core
     ensures { λ r. ⌜ world r (now (store .exit)) (now (log .exit)) ≡ flush (world m (now (store .entry)) (now (log .entry))) ⌝ }
 {
-    let c = m.cpu;
-    if cpu::clocks::has_clocks(c) {
-        let n = cpu::clocks::pending_clocks(c);
-        let d = with_cpu(m, cpu::clocks::set_clocks(c, 0));
+    let n = m.cpu.queue.pending_sync_clocks;
+    if 0 < n {
+        let d = with_cpu(m, cpu::clocks::set_clocks(m.cpu, 0));
         return note(d, store, log, 5, 0, n);
     }
     m

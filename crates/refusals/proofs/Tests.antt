@@ -18,26 +18,26 @@ pub bad-flags-way-2 : (c : Cpu) (a : Bool) → a ≡ either (eqb (c .flags .«s_
 unfolding badFlags
 bad-flags-way-2 c a h0 h1 = cc
 
-pub bad-code-way : (c : Cpu) (a : Bool) (v : ℕ) → a ≡ hasFcOverride c → a ≡ true → v ≡ fcOverrideOf c → ltb 7 v ≡ badCode c
-unfolding badCode
-bad-code-way c a v h0 h1 h2 = cc
+pub bad-code-way : (c : Cpu) → c .fault .«mmu_fc_override» .some ≡ true → ltb 7 (c .fault .«mmu_fc_override» .value) ≡ badCode c
+unfolding badCode hasFcOverride fcOverrideOf
+bad-code-way c h0 = cc
 
-pub bad-code-way-2 : (c : Cpu) (a : Bool) → a ≡ hasFcOverride c → a ≡ false → false ≡ badCode c
-unfolding badCode
-bad-code-way-2 c a h0 h1 = cc
+pub bad-code-way-2 : (c : Cpu) → c .fault .«mmu_fc_override» .some ≡ false → false ≡ badCode c
+unfolding badCode hasFcOverride
+bad-code-way-2 c h0 = cc
 
 pub bad-windows-way-2 : (lent : Bool) (b : Bus) (a : Bool) → lent ≡ true → b .windows ≤ 8 → a ≡ anyPast b (b .windows) → a ≡ badWindows lent b
 unfolding badWindows
 bad-windows-way-2 lent b a h0 h1 h2 = cc (le-ltb 8 (b .windows) h1)
 
-pub bad-kind-way : (floating : Bool) (c : Cpu) (k : ℕ) → k ≡ kindOf c → 11 < k → true ≡ badKind floating c
-unfolding badKind
-bad-kind-way floating c k h0 h1 = cc (lt-ltb 11 k h1)
+pub bad-kind-way : (floating : Bool) (c : Cpu) → 11 < c .flow .«cpu_type» → true ≡ badKind floating c
+unfolding badKind kindOf
+bad-kind-way floating c h0 = cc (lt-ltb _ _ h0)
 
-pub bad-kind-way-2 : (floating : Bool) (c : Cpu) (k : ℕ) → k ≡ kindOf c → k ≤ 11 → floating ≡ true → not (eqb k 11) ≡ badKind floating c
-unfolding badKind
-bad-kind-way-2 floating c k h0 h1 h2 = cc (le-ltb 11 k h1)
+pub bad-kind-way-2 : (floating : Bool) (c : Cpu) → c .flow .«cpu_type» ≤ 11 → floating ≡ true → not (eqb (c .flow .«cpu_type») 11) ≡ badKind floating c
+unfolding badKind kindOf
+bad-kind-way-2 floating c h0 h1 = cc (le-ltb _ _ h0)
 
-pub bad-kind-way-3 : (floating : Bool) (c : Cpu) (k : ℕ) → k ≡ kindOf c → k ≤ 11 → floating ≡ false → false ≡ badKind floating c
-unfolding badKind
-bad-kind-way-3 floating c k h0 h1 h2 = cc (le-ltb 11 k h1)
+pub bad-kind-way-3 : (floating : Bool) (c : Cpu) → c .flow .«cpu_type» ≤ 11 → floating ≡ false → false ≡ badKind floating c
+unfolding badKind kindOf
+bad-kind-way-3 floating c h0 h1 = cc (le-ltb _ _ h0)

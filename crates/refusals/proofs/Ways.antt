@@ -8,20 +8,10 @@ use mathlib.Core.List.{List}
 use lib.ListN.{length, getD, set}
 use lib.Dec.{eqb, ltb, leb}
 use native.Mathlib.Numerals.{sub-one}
-use Rattle.cpu.specs.Fields.{checksAlignment, vbrOf}
-use Rattle.cpu.specs.declared.Cpu.{Cpu}
 use Rattle.memory.specs.declared.Bus.{Bus}
 use Rattle.memory.specs.declared.Core.{Core}
 use Rattle.refusals.specs.Refusals.{anyPast, badCode, badCycles, badFlags, badKind, badStore, badVector, badWindows, firstOf, oddBase, pastTop, refusalOf, shortLog, testsOf}
 use Rattle.refusals.specs.declared.Matter.{Matter}
-
-pub odd-base-way : (c : Cpu) (b : Bool) (n : ℕ) (b1 : Bool) → b ≡ checksAlignment c → b ≡ true → n ≡ vbrOf c → b1 ≡ eqb (n % 2) 1 → b1 ≡ oddBase c
-unfolding oddBase
-odd-base-way c b n b1 h0 h1 h2 h3 = cc
-
-pub odd-base-way-2 : (c : Cpu) (b : Bool) → b ≡ checksAlignment c → b ≡ false → false ≡ oddBase c
-unfolding oddBase
-odd-base-way-2 c b h0 h1 = cc
 
 pub any-past-way : (b : Bus) (left : ℕ) → left ≡ 0 → false ≡ anyPast b left
 unfolding anyPast

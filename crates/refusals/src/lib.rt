@@ -5,7 +5,7 @@ use memory::Bus;
 use memory::Core;
 ghost use mathlib.Core.Path.{_≡_};
 ghost use mathlib.Core.Bool.{Bool, true, false, not};
-ghost use Prim.Native.Nat.{_%_, _<_, _≤_};
+ghost use Prim.Native.Nat.{_<_, _≤_};
 ghost use lib.Dec.{eqb, ltb};
 ghost use Rattle.types.specs.Kinds.{either, both};
 ghost use Rattle.refusals.specs.Refusals.{badFlags, oddBase, badCycles, badCode, badStore, pastTop, anyPast, badWindows, shortLog, badVector, badKind, refusalOf};
@@ -41,18 +41,12 @@ pub fn bad_flags(c: Cpu) -> bool
     true
 }
 
-fn odd(a: u32) -> bool
-    ensures { λ r. ⌜ r ≡ eqb (a % 2) 1 ⌝ }
-{
-    a % 2 == 1
-}
-
 // Number 2: an odd vector base on a kind that checks alignment, where the vector read would raise an address error without end.
 pub fn odd_base(c: Cpu) -> bool
     ensures { λ r. ⌜ r ≡ oddBase c ⌝ }
 {
-    if cpu::fields::aligned_kind(c) {
-        return odd(cpu::fields::vbr(c));
+    if types::is_pre_68020(c.flow.cpu_type) {
+        return c.flow.vbr % 2 == 1;
     }
     false
 }
@@ -71,8 +65,9 @@ pub fn bad_cycles(interrupt: bool, c: Cpu) -> bool
 pub fn bad_code(c: Cpu) -> bool
     ensures { λ r. ⌜ r ≡ badCode c ⌝ }
 {
-    if cpu::fields::has_fc_override(c) {
-        return 7 < cpu::fields::fc_override(c);
+    let code = c.fault.mmu_fc_override;
+    if code.some {
+        return 7 < code.value;
     }
     false
 }
@@ -156,7 +151,7 @@ pub fn bad_vector(v: u32) -> bool
 pub fn bad_kind(floating: bool, c: Cpu) -> bool
     ensures { λ r. ⌜ r ≡ badKind floating c ⌝ }
 {
-    let k = cpu::fields::kind(c);
+    let k = c.flow.cpu_type;
     if 11 < k {
         return true;
     }

@@ -11,7 +11,7 @@ pub fn sp_index(c: Cpu) -> usize
     if c.flags.s_flag / 4 % 2 == 0 {
         return 0;
     }
-    if types::is_060(c.flow.cpu_type) {
+    if c.flow.cpu_type == types::M68060 {
         return 4;
     }
     if c.flags.m_flag / 2 % 2 == 0 {

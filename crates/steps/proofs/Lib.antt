@@ -1,1 +1,2 @@
+pub mod Odd
 pub mod StepWays

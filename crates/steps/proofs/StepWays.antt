@@ -35,13 +35,13 @@ begin-address-way c r r1 h0 h1 = cc
 pub close-bus-way : (c r r1 : Cpu) → r ≡ setException c false → r1 ≡ keepResume r → r1 ≡ closeBus c
 close-bus-way c r r1 h0 h1 = cc
 
-pub stacked-address-way : (c : Cpu) (v : ℕ) (b : Bool) (n : ℕ) → b ≡ stacksNext v → b ≡ true → n ≡ pcOf c → n ≡ stackedAddress c v
-unfolding stackedAddress
-stacked-address-way c v b n h0 h1 h2 = cc
+pub stacked-address-way : (c : Cpu) (v : ℕ) (b : Bool) → b ≡ stacksNext v → b ≡ true → (c .flow .pc) ≡ stackedAddress c v
+unfolding stackedAddress pcOf ppcOf
+stacked-address-way c v b h0 h1 = cc
 
-pub stacked-address-way-2 : (c : Cpu) (v : ℕ) (b : Bool) (n : ℕ) → b ≡ stacksNext v → b ≡ false → n ≡ ppcOf c → n ≡ stackedAddress c v
-unfolding stackedAddress
-stacked-address-way-2 c v b n h0 h1 h2 = cc
+pub stacked-address-way-2 : (c : Cpu) (v : ℕ) (b : Bool) → b ≡ stacksNext v → b ≡ false → (c .flow .ppc) ≡ stackedAddress c v
+unfolding stackedAddress pcOf ppcOf
+stacked-address-way-2 c v b h0 h1 = cc
 
 pub begin-entry-way : (c r r1 : Cpu) → r ≡ setException c true → r1 ≡ internalCycles r 4 → r1 ≡ beginEntry c
 unfolding beginEntry

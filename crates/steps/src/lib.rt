@@ -49,9 +49,8 @@ pub fn iack_vector(response: u32, level: u8) -> u32
 pub fn refuses_odd(c: Cpu, a: u32) -> bool
     ensures { λ r. ⌜ r ≡ refusesOdd c a ⌝ }
 {
-    let k = c.flow.cpu_type;
-    if types::is_pre_68020(k) {
-        return a % 2 == 1;
+    if a % 2 == 1 {
+        return types::is_pre_68020(c.flow.cpu_type);
     }
     false
 }
@@ -122,9 +121,9 @@ pub fn stacked_address(c: Cpu, v: u32) -> u32
     ensures { λ r. ⌜ r ≡ stackedAddress c v ⌝ }
 {
     if stacks_next(v) {
-        return cpu::fields::pc(c);
+        return c.flow.pc;
     }
-    cpu::fields::ppc(c)
+    c.flow.ppc
 }
 
 // `take_exception` before its frame.

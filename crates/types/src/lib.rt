@@ -3,7 +3,7 @@
 // frame lengths by kind and format. It uses nothing of the repository; every other crate uses it.
 ghost use mathlib.Core.Path.{_≡_};
 ghost use Prim.Native.Nat.{_<_, _≤_};
-ghost use Rattle.types.specs.Kinds.{is040, is060, isPre68020, isEc020Plus, isPrefetchKind, addressBits, maskAddress, statusMask, maskStatus, hasT0, hasM, pick};
+ghost use Rattle.types.specs.Kinds.{is040, is060, isPre68020, isEc020Plus, addressBits, maskAddress, statusMask, maskStatus, hasT0, hasM, pick};
 ghost use Rattle.types.specs.Causes.{causeNumber, causeOf};
 ghost use Rattle.types.specs.Tables.{exceptionCycles, frameLength};
 
@@ -394,15 +394,6 @@ pub fn is_ec020_plus(kind: u8) -> bool
     ensures { λ r. ⌜ r ≡ isEc020Plus kind ⌝ }
 {
     3 <= kind && kind <= 9
-}
-
-pub fn is_prefetch_kind(kind: u8) -> bool
-    ensures { λ r. ⌜ r ≡ isPrefetchKind kind ⌝ }
-{
-    if kind == M68000 {
-        return true;
-    }
-    kind == M68010
 }
 
 // 24 or 32.

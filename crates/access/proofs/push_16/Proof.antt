@@ -8,23 +8,18 @@ use Rattle.access.proofs.push_16.Lts as lts
 use Rattle.access.proofs.ring.push_field.Reads as push-field-reads
 use Rattle.frames.proofs.word.Reads as word-reads
 
--- src/lib.rt:49:9
 word-requires : tie.Need-word-requires
 word-requires c κs = search needs
 
--- src/lib.rt:50:5
 push-field-requires : tie.Need-push-field-requires
 push-field-requires c κs = search needs
 
--- src/lib.rt:46:1
 same-length : tie.Need-same-length
 same-length c = c .before .before .before .before .push-field .kept .1 .0
 
--- src/lib.rt:46:1
 same-length-2 : tie.Need-same-length-2
 same-length-2 c = c .before .before .before .before .push-field .kept .1 .1 .0
 
--- src/lib.rt:46:1
 returns : tie.Need-returns
 returns c = push-16-way _ _ _ _ _ _ _ _ (c .before .before .before .before .before .before .before .word .ensures) (c .before .before .before .before .push-field .ensures)
 

@@ -8,23 +8,18 @@ use Rattle.access.proofs.push_32.Lts as lts
 use Rattle.access.proofs.ring.push_field.Reads as push-field-reads
 use Rattle.frames.proofs.long.Reads as long-reads
 
--- src/lib.rt:57:9
 long-requires : tie.Need-long-requires
 long-requires c κs = search needs
 
--- src/lib.rt:58:5
 push-field-requires : tie.Need-push-field-requires
 push-field-requires c κs = search needs
 
--- src/lib.rt:54:1
 same-length : tie.Need-same-length
 same-length c = c .before .before .before .before .push-field .kept .1 .0
 
--- src/lib.rt:54:1
 same-length-2 : tie.Need-same-length-2
 same-length-2 c = c .before .before .before .before .push-field .kept .1 .1 .0
 
--- src/lib.rt:54:1
 returns : tie.Need-returns
 returns c = push-32-way _ _ _ _ _ _ _ _ (c .before .before .before .before .before .before .before .long .ensures) (c .before .before .before .before .push-field .ensures)
 

@@ -5,55 +5,43 @@ use Rattle.access.proofs.push_exception_frame_68000.Statement.{statemen
 use Rattle.access.proofs.push_exception_frame_68000.Tie as tie
 use Rattle.access.proofs.push_exception_frame_68000.Reads as reads
 use Rattle.access.proofs.push_exception_frame_68000.Lts as lts
-use Rattle.cpu.proofs.fields.a7.Reads as a7-reads
-use Rattle.cpu.proofs.fields.lower_a7.Reads as lower-a7-reads
 use Rattle.access.proofs.ring.write_at.Reads as write-at-reads
+use Rattle.cpu.proofs.fields.lower_a7.Reads as lower-a7-reads
 use Rattle.memory.proofs.with_cpu.Reads as with-cpu-reads
 use Rattle.steps.proofs.plus.Reads as plus-reads
 
--- src/lib.rt:79:33
 lower-a7-requires : tie.Need-lower-a7-requires
 lower-a7-requires c κs = search needs
 
--- src/lib.rt:79:9
 with-cpu-requires : tie.Need-with-cpu-requires
 with-cpu-requires c κs = search needs
 
--- src/lib.rt:80:9
-a7-requires : tie.Need-a7-requires
-a7-requires c κs = search needs
+element-copy-out-sp : tie.Need-element-copy-out-sp
+element-copy-out-sp c = search needs
 
--- src/lib.rt:83:47
 plus-requires : tie.Need-plus-requires
 plus-requires c κs = search needs
 
--- src/lib.rt:83:9
 write-at-requires : tie.Need-write-at-requires
 write-at-requires c κs = search needs
 
--- src/lib.rt:84:9
 write-at-requires-2 : tie.Need-write-at-requires-2
 write-at-requires-2 c κs = search needs
 
--- src/lib.rt:85:39
 plus-requires-2 : tie.Need-plus-requires-2
 plus-requires-2 c κs = search needs
 
--- src/lib.rt:85:5
 write-at-requires-3 : tie.Need-write-at-requires-3
 write-at-requires-3 c κs = search needs
 
--- src/lib.rt:70:1
 same-length : tie.Need-same-length
 same-length c = c .before .before .before .before .write-at3 .kept .1 .0 ∙ c .before .before .before .before .before .before .before .before .before .before .before .before .write-at2 .kept .1 .0 ∙ c .before .before .before .before .before .before .before .before .before .before .before .before .before .before .before .before .before .before .before .write-at .kept .1 .0
 
--- src/lib.rt:70:1
 same-length-2 : tie.Need-same-length-2
 same-length-2 c = c .before .before .before .before .write-at3 .kept .1 .1 .0 ∙ c .before .before .before .before .before .before .before .before .before .before .before .before .write-at2 .kept .1 .1 .0 ∙ c .before .before .before .before .before .before .before .before .before .before .before .before .before .before .before .before .before .before .before .write-at .kept .1 .1 .0
 
--- src/lib.rt:70:1
 returns : tie.Need-returns
-returns c = push-exception-frame-68000-way _ _ _ _ _ _ _ _ _ _ _ _ _ _ _ _ _ _ _ (c .before .before .before .before .before .before .before .before .before .before .before .before .before .before .before .before .before .before .before .before .before .before .before .before .before .lower-a7 .ensures) (c .before .before .before .before .before .before .before .before .before .before .before .before .before .before .before .before .before .before .before .before .before .before .before .before .with-cpu .ensures) (c .before .before .before .before .before .before .before .before .before .before .before .before .before .before .before .before .before .before .before .before .before .before .before .a7 .ensures) (c .before .before .before .before .before .before .before .before .before .before .before .before .before .before .before .before .before .before .before .before .plus .ensures) (c .before .before .before .before .before .before .before .before .before .before .before .before .before .before .before .before .before .before .before .write-at .ensures) (c .before .before .before .before .before .before .before .before .before .before .before .before .write-at2 .ensures) (c .before .before .before .before .before .plus2 .ensures) (c .before .before .before .before .write-at3 .ensures)
+returns c = push-exception-frame-68000-way _ _ _ _ _ _ _ _ _ _ _ _ _ _ _ _ _ _ (c .before .before .before .before .before .before .before .before .before .before .before .before .before .before .before .before .before .before .before .before .before .before .before .before .before .before .lower-a7 .ensures) (c .before .before .before .before .before .before .before .before .before .before .before .before .before .before .before .before .before .before .before .before .before .before .before .before .before .with-cpu .ensures) (c .before .before .before .before .before .before .before .before .before .before .before .before .before .before .before .before .before .before .before .before .plus .ensures) (c .before .before .before .before .before .before .before .before .before .before .before .before .before .before .before .before .before .before .before .write-at .ensures) (c .before .before .before .before .before .before .before .before .before .before .before .before .write-at2 .ensures) (c .before .before .before .before .before .plus2 .ensures) (c .before .before .before .before .write-at3 .ensures)
 
 pub push-exception-frame-68000-spec : {M : Type 1} → statement M
 push-exception-frame-68000-spec =
@@ -61,7 +49,7 @@ push-exception-frame-68000-spec =
     (tie.spec
     lower-a7-requires
     with-cpu-requires
-    a7-requires
+    element-copy-out-sp
     plus-requires
     write-at-requires
     write-at-requires-2

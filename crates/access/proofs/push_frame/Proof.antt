@@ -6,28 +6,18 @@ use Rattle.access.proofs.push_frame.Tie as tie
 use Rattle.access.proofs.push_frame.Reads as reads
 use Rattle.access.proofs.push_frame.Lts as lts
 use Rattle.access.proofs.ring.push_fields.Reads as push-fields-reads
-use Rattle.frames.proofs.count.Reads as count-reads
 
--- src/lib.rt:65:9
-count-requires : tie.Need-count-requires
-count-requires c κs = search needs
-
--- src/lib.rt:66:5
 push-fields-requires : tie.Need-push-fields-requires
 push-fields-requires c κs = search needs
 
--- src/lib.rt:62:1
 same-length : tie.Need-same-length
 same-length c = c .before .before .before .before .push-fields .kept .1 .0
 
--- src/lib.rt:62:1
 same-length-2 : tie.Need-same-length-2
 same-length-2 c = c .before .before .before .before .push-fields .kept .1 .1 .0
 
--- src/lib.rt:62:1
 returns : tie.Need-returns
-returns c = push-frame-way _ _ _ _ _ _ _ _ (c .before .before .before .before .before .before .before .count .ensures .0) (c .before .before .before .before .push-fields .ensures)
+returns c = push-frame-way _ _ _ _ _ _ _ (c .before .before .before .before .push-fields .ensures)
 
 pub push-frame-spec : {M : Type 1} → statement M
-push-frame-spec =
-    tie.close (tie.spec count-requires push-fields-requires same-length same-length-2 returns)
+push-frame-spec = tie.close (tie.spec push-fields-requires same-length same-length-2 returns)

@@ -9,27 +9,21 @@ use Rattle.exceptions.proofs.take_group2_exception.Reads as take-group2
 use Rattle.memory.proofs.with_cpu.Reads as with-cpu-reads
 use Rattle.steps.proofs.begin_trace.Reads as begin-trace-reads
 
--- src/lib.rt:116:33
 begin-trace-requires : tie.Need-begin-trace-requires
 begin-trace-requires c κs = search needs
 
--- src/lib.rt:116:9
 with-cpu-requires : tie.Need-with-cpu-requires
 with-cpu-requires c κs = search needs
 
--- src/lib.rt:117:5
 take-group2-exception-requires : tie.Need-take-group2-exception-requires
 take-group2-exception-requires c κs = search needs
 
--- src/lib.rt:113:1
 same-length : tie.Need-same-length
 same-length c = c .before .before .before .before .take-group2-exception .kept .1 .0
 
--- src/lib.rt:113:1
 same-length-2 : tie.Need-same-length-2
 same-length-2 c = c .before .before .before .before .take-group2-exception .kept .1 .1 .0
 
--- src/lib.rt:113:1
 returns : tie.Need-returns
 returns c = exception-trace-way _ _ _ _ _ _ _ _ (c .before .before .before .before .before .before .before .before .begin-trace .ensures) (c .before .before .before .before .before .before .before .with-cpu .ensures) (c .before .before .before .before .take-group2-exception .ensures)
 

@@ -5,50 +5,40 @@ use Rattle.exceptions.proofs.stack_and_jump.Statement.{statement}
 use Rattle.exceptions.proofs.stack_and_jump.Tie as tie
 use Rattle.exceptions.proofs.stack_and_jump.Reads as reads
 use Rattle.exceptions.proofs.stack_and_jump.Lts as lts
+use Rattle.access.proofs.jump_vector.Reads as jump-vector-reads
 use Rattle.cpu.proofs.fields.set_exception.Reads as set-exception-reads
 use Rattle.exceptions.proofs.formats.offset_word.Reads as offset-word-reads
 use Rattle.exceptions.proofs.stack_short.Reads as stack-short-reads
-use Rattle.access.proofs.jump_vector.Reads as jump-vector-reads
 use Rattle.memory.proofs.with_cpu.Reads as with-cpu-reads
 use Rattle.steps.proofs.stacked_address.Reads as stacked-address-reads
 
--- src/lib.rt:36:9
 stacked-address-requires : tie.Need-stacked-address-requires
 stacked-address-requires c κs = search needs
 
--- src/lib.rt:37:9
 offset-word-requires : tie.Need-offset-word-requires
 offset-word-requires c κs = search needs
 
--- src/lib.rt:38:44
 cast-stack-short : tie.Need-cast-stack-short
 cast-stack-short c = search needs
 
--- src/lib.rt:38:9
 stack-short-requires : tie.Need-stack-short-requires
 stack-short-requires c κs = search needs
 
--- src/lib.rt:39:9
 jump-vector-requires : tie.Need-jump-vector-requires
 jump-vector-requires c κs = search needs
 
--- src/lib.rt:40:25
 set-exception-requires : tie.Need-set-exception-requires
 set-exception-requires c κs = search needs
 
--- src/lib.rt:40:5
 with-cpu-requires : tie.Need-with-cpu-requires
 with-cpu-requires c κs = search needs
 
--- src/lib.rt:33:1
 same-length : tie.Need-same-length
 same-length c = c .before .before .before .before .before .before .jump-vector .kept .1 .0 ∙ c .before .before .before .before .before .before .before .before .before .before .before .before .before .stack-short .kept .1 .0
 
--- src/lib.rt:33:1
 same-length-2 : tie.Need-same-length-2
 same-length-2 c = c .before .before .before .before .before .before .jump-vector .kept .1 .1 .0 ∙ c .before .before .before .before .before .before .before .before .before .before .before .before .before .stack-short .kept .1 .1 .0
 
--- src/lib.rt:33:1
 returns : tie.Need-returns
 returns c = stack-and-jump-way _ _ _ _ _ _ _ _ _ _ _ _ _ _ (c .before .before .before .before .before .before .before .before .before .before .before .before .before .before .before .before .before .stacked-address .ensures) (c .before .before .before .before .before .before .before .before .before .before .before .before .before .before .before .before .offset-word .ensures) (c .before .before .before .before .before .before .before .before .before .before .before .before .before .stack-short .ensures) (c .before .before .before .before .before .before .jump-vector .ensures) (c .before .set-exception .ensures) (c .with-cpu .ensures)
 

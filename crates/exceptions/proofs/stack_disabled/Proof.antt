@@ -5,57 +5,42 @@ use Rattle.exceptions.proofs.stack_disabled.Statement.{statement}
 use Rattle.exceptions.proofs.stack_disabled.Tie as tie
 use Rattle.exceptions.proofs.stack_disabled.Reads as reads
 use Rattle.exceptions.proofs.stack_disabled.Lts as lts
-use Rattle.cpu.proofs.fields.ppc.Reads as ppc-reads
+use Rattle.access.proofs.push_frame.Reads as push-frame-reads
 use Rattle.exceptions.proofs.formats.disabled_frame.Reads as disabled-frame-reads
 use Rattle.exceptions.proofs.formats.format_word.Reads as format-word-reads
-use Rattle.access.proofs.push_frame.Reads as push-frame-reads
 use Rattle.memory.proofs.with_cpu.Reads as with-cpu-reads
 use Rattle.status.proofs.banks.enter_supervisor.Reads as enter-supervisor-reads
 use Rattle.status.proofs.get_sr.Reads as get-sr-reads
 
--- src/lib.rt:190:33
 enter-supervisor-requires : tie.Need-enter-supervisor-requires
 enter-supervisor-requires c κs = search needs
 
--- src/lib.rt:190:9
 with-cpu-requires : tie.Need-with-cpu-requires
 with-cpu-requires c κs = search needs
 
--- src/lib.rt:191:9
 get-sr-requires : tie.Need-get-sr-requires
 get-sr-requires c κs = search needs
 
--- src/lib.rt:192:9
-ppc-requires : tie.Need-ppc-requires
-ppc-requires c κs = search needs
-
--- src/lib.rt:193:9
 format-word-requires : tie.Need-format-word-requires
 format-word-requires c κs = search needs
 
--- src/lib.rt:194:37
 cast-disabled-frame : tie.Need-cast-disabled-frame
 cast-disabled-frame c = search needs
 
--- src/lib.rt:194:9
 disabled-frame-requires : tie.Need-disabled-frame-requires
 disabled-frame-requires c κs = search needs
 
--- src/lib.rt:195:5
 push-frame-requires : tie.Need-push-frame-requires
 push-frame-requires c κs = search needs
 
--- src/lib.rt:187:1
 same-length : tie.Need-same-length
 same-length c = c .before .before .before .before .push-frame .kept .1 .0
 
--- src/lib.rt:187:1
 same-length-2 : tie.Need-same-length-2
 same-length-2 c = c .before .before .before .before .push-frame .kept .1 .1 .0
 
--- src/lib.rt:187:1
 returns : tie.Need-returns
-returns c = stack-disabled-way _ _ _ _ _ _ _ _ _ _ _ _ (c .before .before .before .before .before .before .before .before .before .before .before .before .enter-supervisor .ensures) (c .before .before .before .before .before .before .before .before .before .before .before .with-cpu .ensures) (c .before .before .before .before .before .before .before .before .before .before .get-sr .ensures) (c .before .before .before .before .before .before .before .before .before .ppc .ensures) (c .before .before .before .before .before .before .before .before .format-word .ensures) (c .before .before .before .before .before .before .before .disabled-frame .ensures) (c .before .before .before .before .push-frame .ensures)
+returns c = stack-disabled-way _ _ _ _ _ _ _ _ _ _ _ (c .before .before .before .before .before .before .before .before .before .before .before .enter-supervisor .ensures) (c .before .before .before .before .before .before .before .before .before .before .with-cpu .ensures) (c .before .before .before .before .before .before .before .before .before .get-sr .ensures) (c .before .before .before .before .before .before .before .before .format-word .ensures) (c .before .before .before .before .before .before .before .disabled-frame .ensures) (c .before .before .before .before .push-frame .ensures)
 
 pub stack-disabled-spec : {M : Type 1} → statement M
 stack-disabled-spec =
@@ -64,7 +49,6 @@ stack-disabled-spec =
     enter-supervisor-requires
     with-cpu-requires
     get-sr-requires
-    ppc-requires
     format-word-requires
     cast-disabled-frame
     disabled-frame-requires

@@ -5,69 +5,51 @@ use Rattle.exceptions.proofs.stack_short.Statement.{statement}
 use Rattle.exceptions.proofs.stack_short.Tie as tie
 use Rattle.exceptions.proofs.stack_short.Reads as reads
 use Rattle.exceptions.proofs.stack_short.Lts as lts
-use Rattle.cpu.proofs.fields.kind.Reads as kind-reads
-use Rattle.exceptions.proofs.formats.short_frame.Reads as short-frame-reads
 use Rattle.access.proofs.push_exception_frame_68000.Reads as push-exception-frame-68000-reads
 use Rattle.access.proofs.push_frame.Reads as push-frame-reads
+use Rattle.exceptions.proofs.formats.short_frame.Reads as short-frame-reads
 use Rattle.memory.proofs.with_cpu.Reads as with-cpu-reads
 use Rattle.status.proofs.banks.enter_supervisor.Reads as enter-supervisor-reads
 use Rattle.status.proofs.get_sr.Reads as get-sr-reads
 
--- src/lib.rt:22:9
 get-sr-requires : tie.Need-get-sr-requires
 get-sr-requires c κs = search needs
 
--- src/lib.rt:23:33
 enter-supervisor-requires : tie.Need-enter-supervisor-requires
 enter-supervisor-requires c κs = search needs
 
--- src/lib.rt:23:9
 with-cpu-requires : tie.Need-with-cpu-requires
 with-cpu-requires c κs = search needs
 
--- src/lib.rt:24:9
-kind-requires : tie.Need-kind-requires
-kind-requires c κs = search needs
-
--- src/lib.rt:26:9
 push-exception-frame-68000-requires : tie.Need-push-exception-frame-68000-requires
 push-exception-frame-68000-requires c κs = search needs
 
--- src/lib.rt:26:9
 same-length : tie.Need-same-length
 same-length c = c .before .before .before .before .push-exception-frame-68000 .kept .1 .0
 
--- src/lib.rt:26:9
 same-length-2 : tie.Need-same-length-2
 same-length-2 c = c .before .before .before .before .push-exception-frame-68000 .kept .1 .1 .0
 
--- src/lib.rt:26:9
 returns : tie.Need-returns
-returns c = stack-short-way _ _ _ _ _ _ _ _ _ _ _ _ (c .before .before .before .before .before .before .before .before .before .before .before .get-sr .ensures) (c .before .before .before .before .before .before .before .before .before .before .enter-supervisor .ensures) (c .before .before .before .before .before .before .before .before .before .with-cpu .ensures) (c .before .before .before .before .before .before .before .before .kind .ensures) (c .before .before .before .before .before .before .before .if1 .taken) (c .before .before .before .before .push-exception-frame-68000 .ensures)
+returns c = stack-short-way _ _ _ _ _ _ _ _ _ _ _ (c .before .before .before .before .before .before .before .before .before .before .get-sr .ensures) (c .before .before .before .before .before .before .before .before .before .enter-supervisor .ensures) (c .before .before .before .before .before .before .before .before .with-cpu .ensures) (c .before .before .before .before .before .before .before .if1 .taken) (c .before .before .before .before .push-exception-frame-68000 .ensures)
 
--- src/lib.rt:28:34
 cast-short-frame : tie.Need-cast-short-frame
 cast-short-frame c = search needs
 
--- src/lib.rt:28:9
 short-frame-requires : tie.Need-short-frame-requires
 short-frame-requires c κs = search needs
 
--- src/lib.rt:29:5
 push-frame-requires : tie.Need-push-frame-requires
 push-frame-requires c κs = search needs
 
--- src/lib.rt:19:1
 same-length-3 : tie.Need-same-length-3
 same-length-3 c = c .before .before .before .before .push-frame .kept .1 .0
 
--- src/lib.rt:19:1
 same-length-4 : tie.Need-same-length-4
 same-length-4 c = c .before .before .before .before .push-frame .kept .1 .1 .0
 
--- src/lib.rt:19:1
 returns-2 : tie.Need-returns-2
-returns-2 c = stack-short-way-2 _ _ _ _ _ _ _ _ _ _ _ _ _ (c .before .before .before .before .before .before .before .before .before .before .before .before .get-sr .ensures) (c .before .before .before .before .before .before .before .before .before .before .before .enter-supervisor .ensures) (c .before .before .before .before .before .before .before .before .before .before .with-cpu .ensures) (c .before .before .before .before .before .before .before .before .before .kind .ensures) (c .before .before .before .before .before .before .before .before .if1 .left) (c .before .before .before .before .before .before .before .short-frame .ensures) (c .before .before .before .before .push-frame .ensures)
+returns-2 c = stack-short-way-2 _ _ _ _ _ _ _ _ _ _ _ _ (c .before .before .before .before .before .before .before .before .before .before .before .get-sr .ensures) (c .before .before .before .before .before .before .before .before .before .before .enter-supervisor .ensures) (c .before .before .before .before .before .before .before .before .before .with-cpu .ensures) (c .before .before .before .before .before .before .before .before .if1 .left) (c .before .before .before .before .before .before .before .short-frame .ensures) (c .before .before .before .before .push-frame .ensures)
 
 pub stack-short-spec : {M : Type 1} → statement M
 stack-short-spec =
@@ -76,7 +58,6 @@ stack-short-spec =
     get-sr-requires
     enter-supervisor-requires
     with-cpu-requires
-    kind-requires
     push-exception-frame-68000-requires
     same-length
     same-length-2

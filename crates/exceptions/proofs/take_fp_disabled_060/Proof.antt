@@ -5,31 +5,25 @@ use Rattle.exceptions.proofs.take_fp_disabled_060.Statement.{statement}
 use Rattle.exceptions.proofs.take_fp_disabled_060.Tie as tie
 use Rattle.exceptions.proofs.take_fp_disabled_060.Reads as reads
 use Rattle.exceptions.proofs.take_fp_disabled_060.Lts as lts
-use Rattle.exceptions.proofs.stack_disabled.Reads as stack-disabled-reads
 use Rattle.access.proofs.jump_vector.Reads as jump-vector-reads
+use Rattle.exceptions.proofs.stack_disabled.Reads as stack-disabled-reads
 use Rattle.types.proofs.exception_cycles.Reads as exception-cycles-reads
 
--- src/lib.rt:202:9
 stack-disabled-requires : tie.Need-stack-disabled-requires
 stack-disabled-requires c κs = search needs
 
--- src/lib.rt:203:9
 jump-vector-requires : tie.Need-jump-vector-requires
 jump-vector-requires c κs = search needs
 
--- src/lib.rt:204:9
 exception-cycles-requires : tie.Need-exception-cycles-requires
 exception-cycles-requires c κs = search needs
 
--- src/lib.rt:199:1
 same-length : tie.Need-same-length
 same-length c = c .before .before .before .before .before .jump-vector .kept .1 .0 ∙ c .before .before .before .before .before .before .before .before .before .before .before .before .stack-disabled .kept .1 .0
 
--- src/lib.rt:199:1
 same-length-2 : tie.Need-same-length-2
 same-length-2 c = c .before .before .before .before .before .jump-vector .kept .1 .1 .0 ∙ c .before .before .before .before .before .before .before .before .before .before .before .before .stack-disabled .kept .1 .1 .0
 
--- src/lib.rt:199:1
 returns : tie.Need-returns
 returns c = take-fp-disabled-060-way _ _ _ _ _ _ _ _ _ _ (c .before .before .before .before .before .before .before .before .before .before .before .before .stack-disabled .ensures) (c .before .before .before .before .before .jump-vector .ensures) (c .exception-cycles .ensures)
 

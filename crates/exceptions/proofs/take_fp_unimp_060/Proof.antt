@@ -5,41 +5,33 @@ use Rattle.exceptions.proofs.take_fp_unimp_060.Statement.{statement}
 use Rattle.exceptions.proofs.take_fp_unimp_060.Tie as tie
 use Rattle.exceptions.proofs.take_fp_unimp_060.Reads as reads
 use Rattle.exceptions.proofs.take_fp_unimp_060.Lts as lts
+use Rattle.access.proofs.jump_vector.Reads as jump-vector-reads
 use Rattle.cpu.proofs.fields.note_fpiar.Reads as note-fpiar-reads
 use Rattle.exceptions.proofs.stack_unimp.Reads as stack-unimp-reads
-use Rattle.access.proofs.jump_vector.Reads as jump-vector-reads
 use Rattle.memory.proofs.with_cpu.Reads as with-cpu-reads
 use Rattle.types.proofs.exception_cycles.Reads as exception-cycles-reads
 
--- src/lib.rt:179:33
 note-fpiar-requires : tie.Need-note-fpiar-requires
 note-fpiar-requires c κs = search needs
 
--- src/lib.rt:179:9
 with-cpu-requires : tie.Need-with-cpu-requires
 with-cpu-requires c κs = search needs
 
--- src/lib.rt:180:9
 stack-unimp-requires : tie.Need-stack-unimp-requires
 stack-unimp-requires c κs = search needs
 
--- src/lib.rt:181:9
 jump-vector-requires : tie.Need-jump-vector-requires
 jump-vector-requires c κs = search needs
 
--- src/lib.rt:182:9
 exception-cycles-requires : tie.Need-exception-cycles-requires
 exception-cycles-requires c κs = search needs
 
--- src/lib.rt:176:1
 same-length : tie.Need-same-length
 same-length c = c .before .before .before .before .before .jump-vector .kept .1 .0 ∙ c .before .before .before .before .before .before .before .before .before .before .before .before .stack-unimp .kept .1 .0
 
--- src/lib.rt:176:1
 same-length-2 : tie.Need-same-length-2
 same-length-2 c = c .before .before .before .before .before .jump-vector .kept .1 .1 .0 ∙ c .before .before .before .before .before .before .before .before .before .before .before .before .stack-unimp .kept .1 .1 .0
 
--- src/lib.rt:176:1
 returns : tie.Need-returns
 returns c = take-fp-unimp-060-way _ _ _ _ _ _ _ _ _ _ _ _ _ (c .before .before .before .before .before .before .before .before .before .before .before .before .before .before .before .before .note-fpiar .ensures) (c .before .before .before .before .before .before .before .before .before .before .before .before .before .before .before .with-cpu .ensures) (c .before .before .before .before .before .before .before .before .before .before .before .before .stack-unimp .ensures) (c .before .before .before .before .before .jump-vector .ensures) (c .exception-cycles .ensures)
 

@@ -9,27 +9,21 @@ use Rattle.cpu.proofs.fields.rewind_pc.Reads as rewind-pc-reads
 use Rattle.exceptions.proofs.take_exception.Reads as take-exception-reads
 use Rattle.memory.proofs.with_cpu.Reads as with-cpu-reads
 
--- src/lib.rt:124:33
 rewind-pc-requires : tie.Need-rewind-pc-requires
 rewind-pc-requires c κs = search needs
 
--- src/lib.rt:124:9
 with-cpu-requires : tie.Need-with-cpu-requires
 with-cpu-requires c κs = search needs
 
--- src/lib.rt:125:5
 take-exception-requires : tie.Need-take-exception-requires
 take-exception-requires c κs = search needs
 
--- src/lib.rt:121:1
 same-length : tie.Need-same-length
 same-length c = c .before .before .before .before .take-exception .kept .1 .0
 
--- src/lib.rt:121:1
 same-length-2 : tie.Need-same-length-2
 same-length-2 c = c .before .before .before .before .take-exception .kept .1 .1 .0
 
--- src/lib.rt:121:1
 returns : tie.Need-returns
 returns c = take-rewound-way _ _ _ _ _ _ _ _ _ (c .before .before .before .before .before .before .before .before .rewind-pc .ensures) (c .before .before .before .before .before .before .before .with-cpu .ensures) (c .before .before .before .before .take-exception .ensures)
 

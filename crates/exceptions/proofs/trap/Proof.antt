@@ -7,27 +7,21 @@ use Rattle.exceptions.proofs.trap.Reads as reads
 use Rattle.exceptions.proofs.trap.Lts as lts
 use Rattle.exceptions.proofs.take_exception.Reads as take-exception-reads
 
--- src/lib.rt:88:54
 cast-take-exception : tie.Need-cast-take-exception
 cast-take-exception c = search needs
 
--- src/lib.rt:88:35
 add-take-exception : tie.Need-add-take-exception
 add-take-exception c = search needs
 
--- src/lib.rt:88:5
 take-exception-requires : tie.Need-take-exception-requires
 take-exception-requires c κs = search needs
 
--- src/lib.rt:85:1
 same-length : tie.Need-same-length
 same-length c = c .before .before .before .before .take-exception .kept .1 .0
 
--- src/lib.rt:85:1
 same-length-2 : tie.Need-same-length-2
 same-length-2 c = c .before .before .before .before .take-exception .kept .1 .1 .0
 
--- src/lib.rt:85:1
 returns : tie.Need-returns
 returns c = trap-way _ _ _ _ _ _ _ (c .before .before .before .before .take-exception .ensures)
 

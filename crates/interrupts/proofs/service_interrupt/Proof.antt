@@ -5,7 +5,6 @@ use Rattle.interrupts.proofs.service_interrupt.Statement.{statement}
 use Rattle.interrupts.proofs.service_interrupt.Tie as tie
 use Rattle.interrupts.proofs.service_interrupt.Reads as reads
 use Rattle.interrupts.proofs.service_interrupt.Lts as lts
-use Rattle.cpu.proofs.fields.pc.Reads as pc-reads
 use Rattle.access.proofs.jump_vector.Reads as jump-vector-reads
 use Rattle.interrupts.proofs.first_frame.Reads as first-frame-reads
 use Rattle.interrupts.proofs.second_frame.Reads as second-frame-reads
@@ -14,59 +13,43 @@ use Rattle.status.proofs.get_sr.Reads as get-sr-reads
 use Rattle.steps.proofs.close_interrupt.Reads as close-interrupt-reads
 use Rattle.steps.proofs.enter_level.Reads as enter-level-reads
 
--- src/lib.rt:188:9
-pc-requires : tie.Need-pc-requires
-pc-requires c κs = search needs
-
--- src/lib.rt:189:9
 get-sr-requires : tie.Need-get-sr-requires
 get-sr-requires c κs = search needs
 
--- src/lib.rt:190:33
 enter-level-requires : tie.Need-enter-level-requires
 enter-level-requires c κs = search needs
 
--- src/lib.rt:190:9
 with-cpu-requires : tie.Need-with-cpu-requires
 with-cpu-requires c κs = search needs
 
--- src/lib.rt:191:9
 first-frame-requires : tie.Need-first-frame-requires
 first-frame-requires c κs = search needs
 
--- src/lib.rt:192:9
 second-frame-requires : tie.Need-second-frame-requires
 second-frame-requires c κs = search needs
 
--- src/lib.rt:193:9
 jump-vector-requires : tie.Need-jump-vector-requires
 jump-vector-requires c κs = search needs
 
--- src/lib.rt:194:25
 close-interrupt-requires : tie.Need-close-interrupt-requires
 close-interrupt-requires c κs = search needs
 
--- src/lib.rt:194:5
 with-cpu-requires-2 : tie.Need-with-cpu-requires-2
 with-cpu-requires-2 c κs = search needs
 
--- src/lib.rt:185:1
 same-length : tie.Need-same-length
 same-length c = c .before .before .before .before .before .before .jump-vector .kept .1 .0 ∙ c .before .before .before .before .before .before .before .before .before .before .before .before .before .second-frame .kept .1 .0 ∙ c .before .before .before .before .before .before .before .before .before .before .before .before .before .before .before .before .before .before .before .before .first-frame .kept .1 .0
 
--- src/lib.rt:185:1
 same-length-2 : tie.Need-same-length-2
 same-length-2 c = c .before .before .before .before .before .before .jump-vector .kept .1 .1 .0 ∙ c .before .before .before .before .before .before .before .before .before .before .before .before .before .second-frame .kept .1 .1 .0 ∙ c .before .before .before .before .before .before .before .before .before .before .before .before .before .before .before .before .before .before .before .before .first-frame .kept .1 .1 .0
 
--- src/lib.rt:185:1
 returns : tie.Need-returns
-returns c = service-interrupt-way _ _ _ _ _ _ _ _ _ _ _ _ _ _ _ _ _ _ _ (c .before .before .before .before .before .before .before .before .before .before .before .before .before .before .before .before .before .before .before .before .before .before .before .before .before .before .pc .ensures) (c .before .before .before .before .before .before .before .before .before .before .before .before .before .before .before .before .before .before .before .before .before .before .before .before .before .get-sr .ensures) (c .before .before .before .before .before .before .before .before .before .before .before .before .before .before .before .before .before .before .before .before .before .before .before .before .enter-level .ensures) (c .before .before .before .before .before .before .before .before .before .before .before .before .before .before .before .before .before .before .before .before .before .before .before .with-cpu .ensures) (c .before .before .before .before .before .before .before .before .before .before .before .before .before .before .before .before .before .before .before .before .first-frame .ensures) (c .before .before .before .before .before .before .before .before .before .before .before .before .before .second-frame .ensures) (c .before .before .before .before .before .before .jump-vector .ensures) (c .before .close-interrupt .ensures) (c .with-cpu2 .ensures)
+returns c = service-interrupt-way _ _ _ _ _ _ _ _ _ _ _ _ _ _ _ _ _ _ (c .before .before .before .before .before .before .before .before .before .before .before .before .before .before .before .before .before .before .before .before .before .before .before .before .before .get-sr .ensures) (c .before .before .before .before .before .before .before .before .before .before .before .before .before .before .before .before .before .before .before .before .before .before .before .before .enter-level .ensures) (c .before .before .before .before .before .before .before .before .before .before .before .before .before .before .before .before .before .before .before .before .before .before .before .with-cpu .ensures) (c .before .before .before .before .before .before .before .before .before .before .before .before .before .before .before .before .before .before .before .before .first-frame .ensures) (c .before .before .before .before .before .before .before .before .before .before .before .before .before .second-frame .ensures) (c .before .before .before .before .before .before .jump-vector .ensures) (c .before .close-interrupt .ensures) (c .with-cpu2 .ensures)
 
 pub service-interrupt-spec : {M : Type 1} → statement M
 service-interrupt-spec =
     tie.close
     (tie.spec
-    pc-requires
     get-sr-requires
     enter-level-requires
     with-cpu-requires

@@ -5,17 +5,9 @@ use Rattle.memory.proofs.flush_sync.Statement.{statement}
 use Rattle.memory.proofs.flush_sync.Tie as tie
 use Rattle.memory.proofs.flush_sync.Reads as reads
 use Rattle.memory.proofs.flush_sync.Lts as lts
-use Rattle.cpu.proofs.clocks.has_clocks.Reads as has-clocks-reads
-use Rattle.cpu.proofs.clocks.pending_clocks.Reads as pending-clocks-reads
 use Rattle.cpu.proofs.clocks.set_clocks.Reads as set-clocks-reads
 use Rattle.memory.proofs.note.Reads as note-reads
 use Rattle.memory.proofs.with_cpu.Reads as with-cpu-reads
-
-has-clocks-requires : tie.Need-has-clocks-requires
-has-clocks-requires c κs = search needs
-
-pending-clocks-requires : tie.Need-pending-clocks-requires
-pending-clocks-requires c κs = search needs
 
 set-clocks-requires : tie.Need-set-clocks-requires
 set-clocks-requires c κs = search needs
@@ -33,17 +25,15 @@ same-length-2 : tie.Need-same-length-2
 same-length-2 c = c .before .before .before .before .note .kept .1 .1 .0
 
 returns : tie.Need-returns
-returns c = flush-sync-way _ _ _ _ _ _ _ _ _ _ (c .before .before .before .before .before .before .before .before .before .before .before .has-clocks .ensures) (c .before .before .before .before .before .before .before .before .before .before .if1 .taken) (c .before .before .before .before .before .before .before .before .before .pending-clocks .ensures) (c .before .before .before .before .before .before .before .before .set-clocks .ensures) (c .before .before .before .before .before .before .before .with-cpu .ensures) (c .before .before .before .before .note .ensures)
+returns c = flush-sync-way _ _ _ _ _ _ _ _ (c .before .before .before .before .before .before .before .before .before .if1 .taken) (c .before .before .before .before .before .before .before .before .set-clocks .ensures) (c .before .before .before .before .before .before .before .with-cpu .ensures) (c .before .before .before .before .note .ensures)
 
 returns-2 : tie.Need-returns-2
-returns-2 c = flush-sync-way-2 _ _ _ _ (c .before .has-clocks .ensures) (c .if1 .left)
+returns-2 c = flush-sync-way-2 _ _ _ (c .if1 .left)
 
 pub flush-sync-spec : {M : Type 1} → statement M
 flush-sync-spec =
     tie.close
     (tie.spec
-    has-clocks-requires
-    pending-clocks-requires
     set-clocks-requires
     with-cpu-requires
     note-requires

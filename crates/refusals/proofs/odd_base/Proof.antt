@@ -1,29 +1,20 @@
-use mathlib.Core.Path.{_≡_, refl, _∙_}
-use Rattle.refusals.proofs.Ways.{odd-base-way, odd-base-way-2}
+use mathlib.Core.Path.{_≡_, sym, _∙_}
 use borrow.Author.Needs.{needs}
+use Rattle.cpu.specs.Fields.{checksAlignment, vbrOf}
+use Rattle.refusals.specs.Refusals.{oddBase}
 use Rattle.refusals.proofs.odd_base.Statement.{statement}
 use Rattle.refusals.proofs.odd_base.Tie as tie
-use Rattle.refusals.proofs.odd_base.Reads as reads
-use Rattle.refusals.proofs.odd_base.Lts as lts
-use Rattle.cpu.proofs.fields.aligned_kind.Reads as aligned-kind-reads
-use Rattle.cpu.proofs.fields.vbr.Reads as vbr-reads
-use Rattle.refusals.proofs.odd.Reads as odd-reads
 
-aligned-kind-requires : tie.Need-aligned-kind-requires
-aligned-kind-requires c κs = search needs
-
-vbr-requires : tie.Need-vbr-requires
-vbr-requires c κs = search needs
-
-odd-requires : tie.Need-odd-requires
-odd-requires c κs = search needs
+is-pre-68020-requires : tie.Need-is-pre-68020-requires
+is-pre-68020-requires c κs = search needs
 
 returns : tie.Need-returns
-returns c = odd-base-way _ _ _ _ (c .before .before .before .aligned-kind .ensures) (c .before .before .if1 .taken) (c .before .vbr .ensures) (c .odd .ensures)
+unfolding oddBase checksAlignment vbrOf
+returns c = simp (sym (c .before .before .is-pre-68020 .ensures) ∙ c .before .if1 .taken)
 
 returns-2 : tie.Need-returns-2
-returns-2 c = odd-base-way-2 _ _ (c .before .aligned-kind .ensures) (c .if1 .left)
+unfolding oddBase checksAlignment
+returns-2 c = simp (sym (c .before .is-pre-68020 .ensures) ∙ c .if1 .left)
 
 pub odd-base-spec : {M : Type 1} → statement M
-odd-base-spec =
-    tie.close (tie.spec aligned-kind-requires vbr-requires odd-requires returns returns-2)
+odd-base-spec = tie.close (tie.spec is-pre-68020-requires returns returns-2)

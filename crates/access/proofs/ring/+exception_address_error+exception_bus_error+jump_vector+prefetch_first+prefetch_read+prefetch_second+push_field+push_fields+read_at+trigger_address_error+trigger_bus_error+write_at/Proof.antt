@@ -45,18 +45,11 @@ use Rattle.access.proofs.ring.+exception_address_error+exception_bus_er
 use Rattle.cpu.proofs.clocks.clear_prefetch.Reads as clear-prefetch-reads
 use Rattle.cpu.proofs.clocks.first_word.Reads as first-word-reads
 use Rattle.cpu.proofs.clocks.internal_cycles.Reads as internal-cycles-reads
-use Rattle.cpu.proofs.clocks.one_fetched.Reads as one-fetched-reads
 use Rattle.cpu.proofs.clocks.prefetch_enabled.Reads as prefetch-enabled-reads
 use Rattle.cpu.proofs.clocks.second_word.Reads as second-word-reads
-use Rattle.cpu.proofs.fields.a7.Reads as a7-reads
 use Rattle.cpu.proofs.fields.address.Reads as address-reads
-use Rattle.cpu.proofs.fields.faulted.Reads as faulted-reads
 use Rattle.cpu.proofs.fields.halt.Reads as halt-reads
-use Rattle.cpu.proofs.fields.in_exception.Reads as in-exception-reads
 use Rattle.cpu.proofs.fields.lower_a7.Reads as lower-a7-reads
-use Rattle.cpu.proofs.fields.odd_pc.Reads as odd-pc-reads
-use Rattle.cpu.proofs.fields.pc.Reads as pc-reads
-use Rattle.cpu.proofs.fields.pending_fault_cause.Reads as pending-fault-cause-reads
 use Rattle.cpu.proofs.fields.set_pc.Reads as set-pc-reads
 use Rattle.cpu.proofs.fields.set_wdata.Reads as set-wdata-reads
 use Rattle.cpu.proofs.fields.start_vector.Reads as start-vector-reads
@@ -269,7 +262,6 @@ abbrev write-at-below : ℕ → In 2 write-at-kinds.ps
 write-at-below t =
     and 2 write-at-kinds.ps (falls 2 write-at-kinds.ps _<_ μ-write-at t) write-at.Pre
 
--- src/cycle.rt:102:9
 exception-address-error-address-frame-requires :
     (t : ℕ) → exception-address-error-lts.Need-address-frame-requires (
       address-frame-reads.Asked,
@@ -287,7 +279,6 @@ exception-address-error-address-frame-requires :
     ) (exception-address-error-at t) exception-address-error.Post
 exception-address-error-address-frame-requires t c κs = tt
 
--- src/cycle.rt:103:33
 exception-address-error-enter-supervisor-requires :
     (t : ℕ) → exception-address-error-lts.Need-enter-supervisor-requires (
       address-frame-reads.Asked,
@@ -305,7 +296,6 @@ exception-address-error-enter-supervisor-requires :
     ) (exception-address-error-at t) exception-address-error.Post
 exception-address-error-enter-supervisor-requires t c κs = tt
 
--- src/cycle.rt:103:9
 exception-address-error-with-cpu-requires :
     (t : ℕ) → exception-address-error-lts.Need-with-cpu-requires (
       address-frame-reads.Asked,
@@ -327,11 +317,9 @@ exception-address-error-with-cpu-requires t c κs = tt
 abbrev exception-address-error-claims : ℕ → exception-address-error-lts.Claims
 exception-address-error-claims t = (address-frame-reads.Asked, address-frame-reads.Learnt, enter-supervisor-reads.Asked, enter-supervisor-reads.Learnt, with-cpu-reads.Asked, with-cpu-reads.Learnt, count-reads.Asked, count-reads.Learnt, push-fields-below t, push-fields.Post, jump-vector-below t, jump-vector.Post)
 
--- src/cycle.rt:104:9
 exception-address-error-count-requires : (t : ℕ) → exception-address-error-lts.Need-count-requires (exception-address-error-claims t) (exception-address-error-at t) exception-address-error.Post
 exception-address-error-count-requires t c κs = tt
 
--- src/cycle.rt:105:9
 exception-address-error-push-fields-requires :
     (t : ℕ) → exception-address-error-lts.Need-push-fields-requires (
       address-frame-reads.Asked,
@@ -349,7 +337,6 @@ exception-address-error-push-fields-requires :
     ) (exception-address-error-at t) exception-address-error.Post
 exception-address-error-push-fields-requires t c κs = (omega (arith, c .before .before .before .before .before .before .before .before .pre .0, c .before .before .count .ensures .1), tt)
 
--- src/cycle.rt:106:5
 exception-address-error-jump-vector-requires :
     (t : ℕ) → exception-address-error-lts.Need-jump-vector-requires (
       address-frame-reads.Asked,
@@ -367,15 +354,12 @@ exception-address-error-jump-vector-requires :
     ) (exception-address-error-at t) exception-address-error.Post
 exception-address-error-jump-vector-requires t c κs = (omega (arith, c .before .before .before .before .before .before .before .before .before .before .before .before .before .before .before .pre .0, c .before .before .before .before .before .before .before .before .before .count .ensures .1), tt)
 
--- src/cycle.rt:91:1
 exception-address-error-same-length : (t : ℕ) → exception-address-error-lts.Need-same-length (exception-address-error-claims t) (exception-address-error-at t) exception-address-error.Post
 exception-address-error-same-length t c = c .before .before .before .before .jump-vector .kept .1 .0 ∙ c .before .before .before .before .before .before .before .before .before .before .before .push-fields .kept .1 .0
 
--- src/cycle.rt:91:1
 exception-address-error-same-length-2 : (t : ℕ) → exception-address-error-lts.Need-same-length-2 (exception-address-error-claims t) (exception-address-error-at t) exception-address-error.Post
 exception-address-error-same-length-2 t c = c .before .before .before .before .jump-vector .kept .1 .1 .0 ∙ c .before .before .before .before .before .before .before .before .before .before .before .push-fields .kept .1 .1 .0
 
--- src/cycle.rt:91:1
 exception-address-error-returns : (t : ℕ) → exception-address-error-lts.Need-returns (exception-address-error-claims t) (exception-address-error-at t) exception-address-error.Post
 exception-address-error-returns t c = exception-address-error-way _ _ _ _ _ _ _ _ _ _ _ _ _ _ _ _ _ (c .before .before .before .before .before .before .before .before .before .before .before .before .before .before .before .before .before .address-frame .ensures) (c .before .before .before .before .before .before .before .before .before .before .before .before .before .before .before .before .enter-supervisor .ensures) (c .before .before .before .before .before .before .before .before .before .before .before .before .before .before .before .with-cpu .ensures) (c .before .before .before .before .before .before .before .before .before .before .before .before .before .before .count .ensures .0) (c .before .before .before .before .before .before .before .before .before .before .before .push-fields .ensures) (c .before .before .before .before .jump-vector .ensures)
 
@@ -383,11 +367,9 @@ exception-address-error-returns t c = exception-address-error-way _ _ _ _ _ _ _ 
 abbrev exception-bus-error-claims : ℕ → exception-bus-error-lts.Claims
 exception-bus-error-claims t = (bus-frame-reads.Asked, bus-frame-reads.Learnt, enter-bus-error-reads.Asked, enter-bus-error-reads.Learnt, with-cpu-reads.Asked, with-cpu-reads.Learnt, count-reads.Asked, count-reads.Learnt, push-fields-below t, push-fields.Post, jump-vector-below t, jump-vector.Post)
 
--- src/cycle.rt:84:9
 exception-bus-error-bus-frame-requires : (t : ℕ) → exception-bus-error-lts.Need-bus-frame-requires (exception-bus-error-claims t) (exception-bus-error-at t) exception-bus-error.Post
 exception-bus-error-bus-frame-requires t c κs = tt
 
--- src/cycle.rt:85:33
 exception-bus-error-enter-bus-error-requires :
     (t : ℕ) → exception-bus-error-lts.Need-enter-bus-error-requires (
       bus-frame-reads.Asked,
@@ -405,15 +387,12 @@ exception-bus-error-enter-bus-error-requires :
     ) (exception-bus-error-at t) exception-bus-error.Post
 exception-bus-error-enter-bus-error-requires t c κs = tt
 
--- src/cycle.rt:85:9
 exception-bus-error-with-cpu-requires : (t : ℕ) → exception-bus-error-lts.Need-with-cpu-requires (exception-bus-error-claims t) (exception-bus-error-at t) exception-bus-error.Post
 exception-bus-error-with-cpu-requires t c κs = tt
 
--- src/cycle.rt:86:9
 exception-bus-error-count-requires : (t : ℕ) → exception-bus-error-lts.Need-count-requires (exception-bus-error-claims t) (exception-bus-error-at t) exception-bus-error.Post
 exception-bus-error-count-requires t c κs = tt
 
--- src/cycle.rt:87:9
 exception-bus-error-push-fields-requires :
     (t : ℕ) → exception-bus-error-lts.Need-push-fields-requires (
       bus-frame-reads.Asked,
@@ -431,7 +410,6 @@ exception-bus-error-push-fields-requires :
     ) (exception-bus-error-at t) exception-bus-error.Post
 exception-bus-error-push-fields-requires t c κs = (omega (arith, c .before .before .before .before .before .before .before .before .pre .0, c .before .before .count .ensures .1), tt)
 
--- src/cycle.rt:88:5
 exception-bus-error-jump-vector-requires :
     (t : ℕ) → exception-bus-error-lts.Need-jump-vector-requires (
       bus-frame-reads.Asked,
@@ -449,15 +427,12 @@ exception-bus-error-jump-vector-requires :
     ) (exception-bus-error-at t) exception-bus-error.Post
 exception-bus-error-jump-vector-requires t c κs = (omega (arith, c .before .before .before .before .before .before .before .before .before .before .before .before .before .before .before .pre .0, c .before .before .before .before .before .before .before .before .before .count .ensures .1), tt)
 
--- src/cycle.rt:71:1
 exception-bus-error-same-length : (t : ℕ) → exception-bus-error-lts.Need-same-length (exception-bus-error-claims t) (exception-bus-error-at t) exception-bus-error.Post
 exception-bus-error-same-length t c = c .before .before .before .before .jump-vector .kept .1 .0 ∙ c .before .before .before .before .before .before .before .before .before .before .before .push-fields .kept .1 .0
 
--- src/cycle.rt:71:1
 exception-bus-error-same-length-2 : (t : ℕ) → exception-bus-error-lts.Need-same-length-2 (exception-bus-error-claims t) (exception-bus-error-at t) exception-bus-error.Post
 exception-bus-error-same-length-2 t c = c .before .before .before .before .jump-vector .kept .1 .1 .0 ∙ c .before .before .before .before .before .before .before .before .before .before .before .push-fields .kept .1 .1 .0
 
--- src/cycle.rt:71:1
 exception-bus-error-returns : (t : ℕ) → exception-bus-error-lts.Need-returns (exception-bus-error-claims t) (exception-bus-error-at t) exception-bus-error.Post
 exception-bus-error-returns t c = exception-bus-error-way _ _ _ _ _ _ _ _ _ _ _ _ _ _ _ _ _ _ _ (c .before .before .before .before .before .before .before .before .before .before .before .before .before .before .before .before .before .bus-frame .ensures) (c .before .before .before .before .before .before .before .before .before .before .before .before .before .before .before .before .enter-bus-error .ensures) (c .before .before .before .before .before .before .before .before .before .before .before .before .before .before .before .with-cpu .ensures) (c .before .before .before .before .before .before .before .before .before .before .before .before .before .before .count .ensures .0) (c .before .before .before .before .before .before .before .before .before .before .before .push-fields .ensures) (c .before .before .before .before .jump-vector .ensures)
 
@@ -465,63 +440,48 @@ exception-bus-error-returns t c = exception-bus-error-way _ _ _ _ _ _ _ _ _ _ _ 
 abbrev jump-vector-claims : ℕ → jump-vector-lts.Claims
 jump-vector-claims t = (release-sample-reads.Asked, release-sample-reads.Learnt, vector-address-reads.Asked, vector-address-reads.Learnt, start-vector-reads.Asked, start-vector-reads.Learnt, with-cpu-reads.Asked, with-cpu-reads.Learnt, read-at-below t, read-at.Post, set-pc-reads.Asked, set-pc-reads.Learnt, prefetch-first-below t, prefetch-first.Post, internal-cycles-reads.Asked, internal-cycles-reads.Learnt, prefetch-second-below t, prefetch-second.Post)
 
--- src/cycle.rt:220:9
 jump-vector-release-sample-requires : (t : ℕ) → jump-vector-lts.Need-release-sample-requires (jump-vector-claims t) (jump-vector-at t) jump-vector.Post
 jump-vector-release-sample-requires t c κs = tt
 
--- src/cycle.rt:221:9
 jump-vector-vector-address-requires : (t : ℕ) → jump-vector-lts.Need-vector-address-requires (jump-vector-claims t) (jump-vector-at t) jump-vector.Post
 jump-vector-vector-address-requires t c κs = tt
 
--- src/cycle.rt:222:33
 jump-vector-start-vector-requires : (t : ℕ) → jump-vector-lts.Need-start-vector-requires (jump-vector-claims t) (jump-vector-at t) jump-vector.Post
 jump-vector-start-vector-requires t c κs = tt
 
--- src/cycle.rt:222:9
 jump-vector-with-cpu-requires : (t : ℕ) → jump-vector-lts.Need-with-cpu-requires (jump-vector-claims t) (jump-vector-at t) jump-vector.Post
 jump-vector-with-cpu-requires t c κs = tt
 
--- src/cycle.rt:223:9
 jump-vector-read-at-requires : (t : ℕ) → jump-vector-lts.Need-read-at-requires (jump-vector-claims t) (jump-vector-at t) jump-vector.Post
 jump-vector-read-at-requires t c κs = (omega (arith, c .before .before .before .before .before .before .before .before .before .before .before .before .before .before .pre .0), tt)
 
--- src/cycle.rt:225:33
 jump-vector-set-pc-requires : (t : ℕ) → jump-vector-lts.Need-set-pc-requires (jump-vector-claims t) (jump-vector-at t) jump-vector.Post
 jump-vector-set-pc-requires t c κs = tt
 
--- src/cycle.rt:225:9
 jump-vector-with-cpu-requires-2 : (t : ℕ) → jump-vector-lts.Need-with-cpu-requires-2 (jump-vector-claims t) (jump-vector-at t) jump-vector.Post
 jump-vector-with-cpu-requires-2 t c κs = tt
 
--- src/cycle.rt:226:9
 jump-vector-prefetch-first-requires : (t : ℕ) → jump-vector-lts.Need-prefetch-first-requires (jump-vector-claims t) (jump-vector-at t) jump-vector.Post
 jump-vector-prefetch-first-requires t c κs = (omega (arith, c .before .before .before .before .before .before .before .before .before .before .before .before .before .before .before .before .before .before .before .before .before .before .before .before .pre .0), tt)
 
--- src/cycle.rt:227:33
 jump-vector-internal-cycles-requires : (t : ℕ) → jump-vector-lts.Need-internal-cycles-requires (jump-vector-claims t) (jump-vector-at t) jump-vector.Post
 jump-vector-internal-cycles-requires t c κs = tt
 
--- src/cycle.rt:227:9
 jump-vector-with-cpu-requires-3 : (t : ℕ) → jump-vector-lts.Need-with-cpu-requires-3 (jump-vector-claims t) (jump-vector-at t) jump-vector.Post
 jump-vector-with-cpu-requires-3 t c κs = tt
 
--- src/cycle.rt:228:5
 jump-vector-prefetch-second-requires : (t : ℕ) → jump-vector-lts.Need-prefetch-second-requires (jump-vector-claims t) (jump-vector-at t) jump-vector.Post
 jump-vector-prefetch-second-requires t c κs = (omega (arith, c .before .before .before .before .before .before .before .before .before .before .before .before .before .before .before .before .before .before .before .before .before .before .before .before .before .before .before .before .before .before .before .before .before .pre .0), tt)
 
--- src/cycle.rt:217:1
 jump-vector-same-length : (t : ℕ) → jump-vector-lts.Need-same-length (jump-vector-claims t) (jump-vector-at t) jump-vector.Post
 jump-vector-same-length t c = c .before .before .before .before .prefetch-second .kept .1 .0 ∙ c .before .before .before .before .before .before .before .before .before .before .before .before .before .prefetch-first .kept .1 .0 ∙ c .before .before .before .before .before .before .before .before .before .before .before .before .before .before .before .before .before .before .before .before .before .before .before .read-at .kept .1 .0 ∙ c .before .before .before .before .before .before .before .before .before .before .before .before .before .before .before .before .before .before .before .before .before .before .before .before .before .before .before .before .before .before .before .before .before .release-sample .kept .1 .0
 
--- src/cycle.rt:217:1
 jump-vector-same-length-2 : (t : ℕ) → jump-vector-lts.Need-same-length-2 (jump-vector-claims t) (jump-vector-at t) jump-vector.Post
 jump-vector-same-length-2 t c = c .before .before .before .before .prefetch-second .kept .1 .1 .0 ∙ c .before .before .before .before .before .before .before .before .before .before .before .before .before .prefetch-first .kept .1 .1 .0 ∙ c .before .before .before .before .before .before .before .before .before .before .before .before .before .before .before .before .before .before .before .before .before .before .before .read-at .kept .1 .1 .0 ∙ c .before .before .before .before .before .before .before .before .before .before .before .before .before .before .before .before .before .before .before .before .before .before .before .before .before .before .before .before .before .before .before .before .before .release-sample .kept .1 .1 .0
 
--- src/cycle.rt:217:1
 jump-vector-returns : (t : ℕ) → jump-vector-lts.Need-returns (jump-vector-claims t) (jump-vector-at t) jump-vector.Post
 jump-vector-returns t c = jump-vector-way _ _ _ _ _ _ _ _ _ _ _ _ _ _ _ _ _ _ _ _ _ _ _ _ (c .before .before .before .before .before .before .before .before .before .before .before .before .before .before .before .before .before .before .before .before .before .before .before .before .before .before .before .before .before .before .before .before .before .release-sample .ensures) (c .before .before .before .before .before .before .before .before .before .before .before .before .before .before .before .before .before .before .before .before .before .before .before .before .before .before .before .before .vector-address .ensures) (c .before .before .before .before .before .before .before .before .before .before .before .before .before .before .before .before .before .before .before .before .before .before .before .before .before .before .before .start-vector .ensures) (c .before .before .before .before .before .before .before .before .before .before .before .before .before .before .before .before .before .before .before .before .before .before .before .before .before .before .with-cpu .ensures) (c .before .before .before .before .before .before .before .before .before .before .before .before .before .before .before .before .before .before .before .before .before .before .before .read-at .ensures) (c .before .before .before .before .before .before .before .before .before .before .before .before .before .before .before .before .before .set-pc .ensures) (c .before .before .before .before .before .before .before .before .before .before .before .before .before .before .before .before .with-cpu2 .ensures) (c .before .before .before .before .before .before .before .before .before .before .before .before .before .prefetch-first .ensures) (c .before .before .before .before .before .before .before .before .internal-cycles .ensures) (c .before .before .before .before .before .before .before .with-cpu3 .ensures) (c .before .before .before .before .prefetch-second .ensures)
 
--- src/cycle.rt:252:8
 prefetch-first-prefetch-enabled-requires :
     (t : ℕ) → prefetch-first-lts.Need-prefetch-enabled-requires (
       prefetch-enabled-reads.Asked,
@@ -530,10 +490,6 @@ prefetch-first-prefetch-enabled-requires :
       clear-prefetch-reads.Learnt,
       with-cpu-reads.Asked,
       with-cpu-reads.Learnt,
-      odd-pc-reads.Asked,
-      odd-pc-reads.Learnt,
-      pc-reads.Asked,
-      pc-reads.Learnt,
       prefetch-read-below t,
       prefetch-read.Post,
       low-word-reads.Asked,
@@ -545,69 +501,47 @@ prefetch-first-prefetch-enabled-requires t c κs = tt
 
 -- ---- prefetch-first
 abbrev prefetch-first-claims : ℕ → prefetch-first-lts.Claims
-prefetch-first-claims t = (prefetch-enabled-reads.Asked, prefetch-enabled-reads.Learnt, clear-prefetch-reads.Asked, clear-prefetch-reads.Learnt, with-cpu-reads.Asked, with-cpu-reads.Learnt, odd-pc-reads.Asked, odd-pc-reads.Learnt, pc-reads.Asked, pc-reads.Learnt, prefetch-read-below t, prefetch-read.Post, low-word-reads.Asked, low-word-reads.Learnt, first-word-reads.Asked, first-word-reads.Learnt)
+prefetch-first-claims t = (prefetch-enabled-reads.Asked, prefetch-enabled-reads.Learnt, clear-prefetch-reads.Asked, clear-prefetch-reads.Learnt, with-cpu-reads.Asked, with-cpu-reads.Learnt, prefetch-read-below t, prefetch-read.Post, low-word-reads.Asked, low-word-reads.Learnt, first-word-reads.Asked, first-word-reads.Learnt)
 
--- src/cycle.rt:253:37
 prefetch-first-clear-prefetch-requires : (t : ℕ) → prefetch-first-lts.Need-clear-prefetch-requires (prefetch-first-claims t) (prefetch-first-at t) prefetch-first.Post
 prefetch-first-clear-prefetch-requires t c κs = tt
 
--- src/cycle.rt:253:13
 prefetch-first-with-cpu-requires : (t : ℕ) → prefetch-first-lts.Need-with-cpu-requires (prefetch-first-claims t) (prefetch-first-at t) prefetch-first.Post
 prefetch-first-with-cpu-requires t c κs = tt
 
--- src/cycle.rt:254:12
-prefetch-first-odd-pc-requires : (t : ℕ) → prefetch-first-lts.Need-odd-pc-requires (prefetch-first-claims t) (prefetch-first-at t) prefetch-first.Post
-prefetch-first-odd-pc-requires t c κs = tt
-
--- src/cycle.rt:255:13
 prefetch-first-returns : (t : ℕ) → prefetch-first-lts.Need-returns (prefetch-first-claims t) (prefetch-first-at t) prefetch-first.Post
-prefetch-first-returns t c = prefetch-first-way _ _ _ _ _ _ _ _ (c .before .before .before .before .before .prefetch-enabled .ensures) (c .before .before .before .before .if1 .taken) (c .before .before .before .clear-prefetch .ensures) (c .before .before .with-cpu .ensures) (c .before .odd-pc .ensures) (c .if2 .taken)
+prefetch-first-returns t c = prefetch-first-way _ _ _ _ _ _ _ (c .before .before .before .before .before .prefetch-enabled .ensures) (c .before .before .before .before .if1 .taken) (c .before .before .before .clear-prefetch .ensures) (c .before .before .with-cpu .ensures) (c .if2 .taken)
 
--- src/cycle.rt:257:13
-prefetch-first-pc-requires : (t : ℕ) → prefetch-first-lts.Need-pc-requires (prefetch-first-claims t) (prefetch-first-at t) prefetch-first.Post
-prefetch-first-pc-requires t c κs = tt
-
--- src/cycle.rt:258:13
 prefetch-first-prefetch-read-requires : (t : ℕ) → prefetch-first-lts.Need-prefetch-read-requires (prefetch-first-claims t) (prefetch-first-at t) prefetch-first.Post
-prefetch-first-prefetch-read-requires t c κs = (omega (arith, c .before .before .before .before .before .before .before .before .before .before .before .pre .0), tt)
+prefetch-first-prefetch-read-requires t c κs = (omega (arith, c .before .before .before .before .before .before .before .before .before .before .pre .0, c .before .before .if2 .left), tt)
 
--- src/cycle.rt:261:71
 prefetch-first-low-word-requires : (t : ℕ) → prefetch-first-lts.Need-low-word-requires (prefetch-first-claims t) (prefetch-first-at t) prefetch-first.Post
 prefetch-first-low-word-requires t c κs = tt
 
--- src/cycle.rt:261:40
 prefetch-first-first-word-requires : (t : ℕ) → prefetch-first-lts.Need-first-word-requires (prefetch-first-claims t) (prefetch-first-at t) prefetch-first.Post
 prefetch-first-first-word-requires t c κs = tt
 
--- src/cycle.rt:261:13
 prefetch-first-with-cpu-requires-2 : (t : ℕ) → prefetch-first-lts.Need-with-cpu-requires-2 (prefetch-first-claims t) (prefetch-first-at t) prefetch-first.Post
 prefetch-first-with-cpu-requires-2 t c κs = tt
 
--- src/cycle.rt:261:13
 prefetch-first-same-length : (t : ℕ) → prefetch-first-lts.Need-same-length (prefetch-first-claims t) (prefetch-first-at t) prefetch-first.Post
 prefetch-first-same-length t c = c .before .before .before .before .before .before .before .before .before .prefetch-read .kept .1 .0
 
--- src/cycle.rt:261:13
 prefetch-first-same-length-2 : (t : ℕ) → prefetch-first-lts.Need-same-length-2 (prefetch-first-claims t) (prefetch-first-at t) prefetch-first.Post
 prefetch-first-same-length-2 t c = c .before .before .before .before .before .before .before .before .before .prefetch-read .kept .1 .1 .0
 
--- src/cycle.rt:261:13
 prefetch-first-returns-2 : (t : ℕ) → prefetch-first-lts.Need-returns-2 (prefetch-first-claims t) (prefetch-first-at t) prefetch-first.Post
-prefetch-first-returns-2 t c = prefetch-first-way-2 _ _ _ _ _ _ _ _ _ _ _ _ _ _ _ (c .before .before .before .before .before .before .before .before .before .before .before .before .before .before .before .before .before .before .prefetch-enabled .ensures) (c .before .before .before .before .before .before .before .before .before .before .before .before .before .before .before .before .before .if1 .taken) (c .before .before .before .before .before .before .before .before .before .before .before .before .before .before .before .before .clear-prefetch .ensures) (c .before .before .before .before .before .before .before .before .before .before .before .before .before .before .before .with-cpu .ensures) (c .before .before .before .before .before .before .before .before .before .before .before .before .before .before .odd-pc .ensures) (c .before .before .before .before .before .before .before .before .before .before .before .before .before .if2 .left) (c .before .before .before .before .before .before .before .before .before .before .before .before .pc .ensures) (c .before .before .before .before .before .before .before .before .before .prefetch-read .ensures) (c .before .before .before .if3 .taken) (c .before .before .low-word .ensures) (c .before .first-word .ensures) (c .with-cpu2 .ensures)
+prefetch-first-returns-2 t c = prefetch-first-way-2 _ _ _ _ _ _ _ _ _ _ _ _ _ (c .before .before .before .before .before .before .before .before .before .before .before .before .before .before .before .before .before .prefetch-enabled .ensures) (c .before .before .before .before .before .before .before .before .before .before .before .before .before .before .before .before .if1 .taken) (c .before .before .before .before .before .before .before .before .before .before .before .before .before .before .before .clear-prefetch .ensures) (c .before .before .before .before .before .before .before .before .before .before .before .before .before .before .with-cpu .ensures) (c .before .before .before .before .before .before .before .before .before .before .before .before .if2 .left) (c .before .before .before .before .before .before .before .before .before .prefetch-read .ensures) (c .before .before .before .if3 .taken) (c .before .before .low-word .ensures) (c .before .first-word .ensures) (c .with-cpu2 .ensures)
 
--- src/cycle.rt:263:9
 prefetch-first-same-length-3 : (t : ℕ) → prefetch-first-lts.Need-same-length-3 (prefetch-first-claims t) (prefetch-first-at t) prefetch-first.Post
 prefetch-first-same-length-3 t c = c .before .before .before .before .before .before .prefetch-read .kept .1 .0
 
--- src/cycle.rt:263:9
 prefetch-first-same-length-4 : (t : ℕ) → prefetch-first-lts.Need-same-length-4 (prefetch-first-claims t) (prefetch-first-at t) prefetch-first.Post
 prefetch-first-same-length-4 t c = c .before .before .before .before .before .before .prefetch-read .kept .1 .1 .0
 
--- src/cycle.rt:263:9
 prefetch-first-returns-3 : (t : ℕ) → prefetch-first-lts.Need-returns-3 (prefetch-first-claims t) (prefetch-first-at t) prefetch-first.Post
-prefetch-first-returns-3 t c = prefetch-first-way-3 _ _ _ _ _ _ _ _ _ _ _ _ (c .before .before .before .before .before .before .before .before .before .before .before .before .before .before .before .prefetch-enabled .ensures) (c .before .before .before .before .before .before .before .before .before .before .before .before .before .before .if1 .taken) (c .before .before .before .before .before .before .before .before .before .before .before .before .before .clear-prefetch .ensures) (c .before .before .before .before .before .before .before .before .before .before .before .before .with-cpu .ensures) (c .before .before .before .before .before .before .before .before .before .before .before .odd-pc .ensures) (c .before .before .before .before .before .before .before .before .before .before .if2 .left) (c .before .before .before .before .before .before .before .before .before .pc .ensures) (c .before .before .before .before .before .before .prefetch-read .ensures) (c .if3 .left)
+prefetch-first-returns-3 t c = prefetch-first-way-3 _ _ _ _ _ _ _ _ _ _ (c .before .before .before .before .before .before .before .before .before .before .before .before .before .before .prefetch-enabled .ensures) (c .before .before .before .before .before .before .before .before .before .before .before .before .before .if1 .taken) (c .before .before .before .before .before .before .before .before .before .before .before .before .clear-prefetch .ensures) (c .before .before .before .before .before .before .before .before .before .before .before .with-cpu .ensures) (c .before .before .before .before .before .before .before .before .before .if2 .left) (c .before .before .before .before .before .before .prefetch-read .ensures) (c .if3 .left)
 
--- src/cycle.rt:249:1
 prefetch-first-returns-4 : (t : ℕ) → prefetch-first-lts.Need-returns-4 (prefetch-first-claims t) (prefetch-first-at t) prefetch-first.Post
 prefetch-first-returns-4 t c = prefetch-first-way-4 _ _ _ _ _ (c .before .prefetch-enabled .ensures) (c .if1 .left)
 
@@ -615,31 +549,24 @@ prefetch-first-returns-4 t c = prefetch-first-way-4 _ _ _ _ _ (c .before .prefet
 abbrev prefetch-read-claims : ℕ → prefetch-read-lts.Claims
 prefetch-read-claims t = (flush-sync-reads.Asked, flush-sync-reads.Learnt, address-reads.Asked, address-reads.Learnt, try-read-reads.Asked, try-read-reads.Learnt, trigger-bus-error-below t, trigger-bus-error.Post)
 
--- src/cycle.rt:234:9
 prefetch-read-flush-sync-requires : (t : ℕ) → prefetch-read-lts.Need-flush-sync-requires (prefetch-read-claims t) (prefetch-read-at t) prefetch-read.Post
 prefetch-read-flush-sync-requires t c κs = tt
 
--- src/cycle.rt:235:9
 prefetch-read-address-requires : (t : ℕ) → prefetch-read-lts.Need-address-requires (prefetch-read-claims t) (prefetch-read-at t) prefetch-read.Post
 prefetch-read-address-requires t c κs = tt
 
--- src/cycle.rt:236:9
 prefetch-read-try-read-requires : (t : ℕ) → prefetch-read-lts.Need-try-read-requires (prefetch-read-claims t) (prefetch-read-at t) prefetch-read.Post
 prefetch-read-try-read-requires t c κs = tt
 
--- src/cycle.rt:238:9
 prefetch-read-same-length : (t : ℕ) → prefetch-read-lts.Need-same-length (prefetch-read-claims t) (prefetch-read-at t) prefetch-read.Post
 prefetch-read-same-length t c = c .before .before .before .before .before .try-read .kept .1 .0 ∙ c .before .before .before .before .before .before .before .before .before .before .before .before .before .flush-sync .kept .1 .0
 
--- src/cycle.rt:238:9
 prefetch-read-same-length-2 : (t : ℕ) → prefetch-read-lts.Need-same-length-2 (prefetch-read-claims t) (prefetch-read-at t) prefetch-read.Post
 prefetch-read-same-length-2 t c = c .before .before .before .before .before .try-read .kept .1 .1 .0 ∙ c .before .before .before .before .before .before .before .before .before .before .before .before .before .flush-sync .kept .1 .1 .0
 
--- src/cycle.rt:238:9
 prefetch-read-returns : (t : ℕ) → prefetch-read-lts.Need-returns (prefetch-read-claims t) (prefetch-read-at t) prefetch-read.Post
 prefetch-read-returns t c = prefetch-read-way _ _ _ _ _ _ _ _ _ _ _ _ (c .before .before .before .before .before .before .before .before .before .before .before .before .before .flush-sync .ensures) (c .before .before .before .before .before .before .before .before .address .ensures) (c .before .before .before .before .before .try-read .ensures) (c .if1 .taken)
 
--- src/cycle.rt:241:9
 prefetch-read-trigger-bus-error-requires :
     (t : ℕ) → prefetch-read-lts.Need-trigger-bus-error-requires (
       flush-sync-reads.Asked,
@@ -653,31 +580,19 @@ prefetch-read-trigger-bus-error-requires :
     ) (prefetch-read-at t) prefetch-read.Post
 prefetch-read-trigger-bus-error-requires t c κs = (omega (arith, c .before .before .before .before .before .before .before .before .before .before .before .before .before .before .before .before .before .before .before .before .before .pre .0), tt)
 
--- src/cycle.rt:231:1
 prefetch-read-same-length-3 : (t : ℕ) → prefetch-read-lts.Need-same-length-3 (prefetch-read-claims t) (prefetch-read-at t) prefetch-read.Post
 prefetch-read-same-length-3 t c = c .before .before .before .before .trigger-bus-error .kept .1 .0 ∙ c .before .before .before .before .before .before .before .before .before .before .before .before .before .try-read .kept .1 .0 ∙ c .before .before .before .before .before .before .before .before .before .before .before .before .before .before .before .before .before .before .before .before .before .flush-sync .kept .1 .0
 
--- src/cycle.rt:231:1
 prefetch-read-same-length-4 : (t : ℕ) → prefetch-read-lts.Need-same-length-4 (prefetch-read-claims t) (prefetch-read-at t) prefetch-read.Post
 prefetch-read-same-length-4 t c = c .before .before .before .before .trigger-bus-error .kept .1 .1 .0 ∙ c .before .before .before .before .before .before .before .before .before .before .before .before .before .try-read .kept .1 .1 .0 ∙ c .before .before .before .before .before .before .before .before .before .before .before .before .before .before .before .before .before .before .before .before .before .flush-sync .kept .1 .1 .0
 
--- src/cycle.rt:231:1
 prefetch-read-returns-2 : (t : ℕ) → prefetch-read-lts.Need-returns-2 (prefetch-read-claims t) (prefetch-read-at t) prefetch-read.Post
 prefetch-read-returns-2 t c = prefetch-read-way-2 _ _ _ _ _ _ _ _ _ _ _ _ _ _ _ (c .before .before .before .before .before .before .before .before .before .before .before .before .before .before .before .before .before .before .before .before .before .flush-sync .ensures) (c .before .before .before .before .before .before .before .before .before .before .before .before .before .before .before .before .address .ensures) (c .before .before .before .before .before .before .before .before .before .before .before .before .before .try-read .ensures) (c .before .before .before .before .before .before .before .before .if1 .left) (c .before .before .before .before .trigger-bus-error .ensures)
 
--- src/cycle.rt:271:8
 prefetch-second-prefetch-enabled-requires :
     (t : ℕ) → prefetch-second-lts.Need-prefetch-enabled-requires (
       prefetch-enabled-reads.Asked,
       prefetch-enabled-reads.Learnt,
-      one-fetched-reads.Asked,
-      one-fetched-reads.Learnt,
-      odd-pc-reads.Asked,
-      odd-pc-reads.Learnt,
-      faulted-reads.Asked,
-      faulted-reads.Learnt,
-      pc-reads.Asked,
-      pc-reads.Learnt,
       wrapping-add-u32-reads.Asked,
       wrapping-add-u32-reads.Learnt,
       prefetch-read-below t,
@@ -693,45 +608,18 @@ prefetch-second-prefetch-enabled-requires t c κs = tt
 
 -- ---- prefetch-second
 abbrev prefetch-second-claims : ℕ → prefetch-second-lts.Claims
-prefetch-second-claims t = (prefetch-enabled-reads.Asked, prefetch-enabled-reads.Learnt, one-fetched-reads.Asked, one-fetched-reads.Learnt, odd-pc-reads.Asked, odd-pc-reads.Learnt, faulted-reads.Asked, faulted-reads.Learnt, pc-reads.Asked, pc-reads.Learnt, wrapping-add-u32-reads.Asked, wrapping-add-u32-reads.Learnt, prefetch-read-below t, prefetch-read.Post, low-word-reads.Asked, low-word-reads.Learnt, second-word-reads.Asked, second-word-reads.Learnt, with-cpu-reads.Asked, with-cpu-reads.Learnt)
+prefetch-second-claims t = (prefetch-enabled-reads.Asked, prefetch-enabled-reads.Learnt, wrapping-add-u32-reads.Asked, wrapping-add-u32-reads.Learnt, prefetch-read-below t, prefetch-read.Post, low-word-reads.Asked, low-word-reads.Learnt, second-word-reads.Asked, second-word-reads.Learnt, with-cpu-reads.Asked, with-cpu-reads.Learnt)
 
--- src/cycle.rt:272:12
-prefetch-second-one-fetched-requires : (t : ℕ) → prefetch-second-lts.Need-one-fetched-requires (prefetch-second-claims t) (prefetch-second-at t) prefetch-second.Post
-prefetch-second-one-fetched-requires t c κs = tt
-
--- src/cycle.rt:273:16
-prefetch-second-odd-pc-requires : (t : ℕ) → prefetch-second-lts.Need-odd-pc-requires (prefetch-second-claims t) (prefetch-second-at t) prefetch-second.Post
-prefetch-second-odd-pc-requires t c κs = tt
-
--- src/cycle.rt:274:17
 prefetch-second-returns : (t : ℕ) → prefetch-second-lts.Need-returns (prefetch-second-claims t) (prefetch-second-at t) prefetch-second.Post
-prefetch-second-returns t c = prefetch-second-way _ _ _ _ _ _ _ (c .before .before .before .before .before .prefetch-enabled .ensures) (c .before .before .before .before .if1 .taken) (c .before .before .before .one-fetched .ensures) (c .before .before .if2 .taken) (c .before .odd-pc .ensures) (c .if3 .taken)
+prefetch-second-returns t c = prefetch-second-way _ _ _ _ _ (c .before .before .before .before .before .prefetch-enabled .ensures) (c .before .before .before .before .if1 .taken) (c .before .before .if2 .taken) (c .if3 .taken)
 
--- src/cycle.rt:276:16
-prefetch-second-faulted-requires : (t : ℕ) → prefetch-second-lts.Need-faulted-requires (prefetch-second-claims t) (prefetch-second-at t) prefetch-second.Post
-prefetch-second-faulted-requires t c κs = tt
-
--- src/cycle.rt:277:17
 prefetch-second-returns-2 : (t : ℕ) → prefetch-second-lts.Need-returns-2 (prefetch-second-claims t) (prefetch-second-at t) prefetch-second.Post
-prefetch-second-returns-2 t c = prefetch-second-way-2 _ _ _ _ _ _ _ _ (c .before .before .before .before .before .before .before .prefetch-enabled .ensures) (c .before .before .before .before .before .before .if1 .taken) (c .before .before .before .before .before .one-fetched .ensures) (c .before .before .before .before .if2 .taken) (c .before .before .before .odd-pc .ensures) (c .before .before .if3 .left) (c .before .faulted .ensures) (c .if4 .taken)
+prefetch-second-returns-2 t c = prefetch-second-way-2 _ _ _ _ _ (c .before .before .before .before .before .before .before .prefetch-enabled .ensures) (c .before .before .before .before .before .before .if1 .taken) (c .before .before .before .before .if2 .taken) (c .before .before .if3 .left) (c .if4 .taken)
 
--- src/cycle.rt:279:48
-prefetch-second-pc-requires : (t : ℕ) → prefetch-second-lts.Need-pc-requires (prefetch-second-claims t) (prefetch-second-at t) prefetch-second.Post
-prefetch-second-pc-requires t c κs = tt
-
--- src/cycle.rt:279:17
 prefetch-second-wrapping-add-u32-requires :
     (t : ℕ) → prefetch-second-lts.Need-wrapping-add-u32-requires (
       prefetch-enabled-reads.Asked,
       prefetch-enabled-reads.Learnt,
-      one-fetched-reads.Asked,
-      one-fetched-reads.Learnt,
-      odd-pc-reads.Asked,
-      odd-pc-reads.Learnt,
-      faulted-reads.Asked,
-      faulted-reads.Learnt,
-      pc-reads.Asked,
-      pc-reads.Learnt,
       wrapping-add-u32-reads.Asked,
       wrapping-add-u32-reads.Learnt,
       prefetch-read-below t,
@@ -745,251 +633,186 @@ prefetch-second-wrapping-add-u32-requires :
     ) (prefetch-second-at t) prefetch-second.Post
 prefetch-second-wrapping-add-u32-requires t c κs = tt
 
--- src/cycle.rt:280:17
 prefetch-second-prefetch-read-requires : (t : ℕ) → prefetch-second-lts.Need-prefetch-read-requires (prefetch-second-claims t) (prefetch-second-at t) prefetch-second.Post
-prefetch-second-prefetch-read-requires t c κs = (omega (arith, c .before .before .before .before .before .before .before .before .before .before .before .before .before .before .pre .0), tt)
+prefetch-second-prefetch-read-requires t c κs = (omega (arith, c .before .before .before .before .before .before .before .before .before .before .before .before .before .pre .0, c .before .before .before .if4 .left, c .before .before .before .before .before .if3 .left), tt)
 
--- src/cycle.rt:285:53
 prefetch-second-low-word-requires : (t : ℕ) → prefetch-second-lts.Need-low-word-requires (prefetch-second-claims t) (prefetch-second-at t) prefetch-second.Post
 prefetch-second-low-word-requires t c κs = tt
 
--- src/cycle.rt:285:21
 prefetch-second-second-word-requires : (t : ℕ) → prefetch-second-lts.Need-second-word-requires (prefetch-second-claims t) (prefetch-second-at t) prefetch-second.Post
 prefetch-second-second-word-requires t c κs = tt
 
--- src/cycle.rt:283:17
 prefetch-second-with-cpu-requires : (t : ℕ) → prefetch-second-lts.Need-with-cpu-requires (prefetch-second-claims t) (prefetch-second-at t) prefetch-second.Post
 prefetch-second-with-cpu-requires t c κs = tt
 
--- src/cycle.rt:283:17
 prefetch-second-same-length : (t : ℕ) → prefetch-second-lts.Need-same-length (prefetch-second-claims t) (prefetch-second-at t) prefetch-second.Post
 prefetch-second-same-length t c = c .before .before .before .before .before .before .before .before .before .prefetch-read .kept .1 .0
 
--- src/cycle.rt:283:17
 prefetch-second-same-length-2 : (t : ℕ) → prefetch-second-lts.Need-same-length-2 (prefetch-second-claims t) (prefetch-second-at t) prefetch-second.Post
 prefetch-second-same-length-2 t c = c .before .before .before .before .before .before .before .before .before .prefetch-read .kept .1 .1 .0
 
--- src/cycle.rt:283:17
 prefetch-second-returns-3 : (t : ℕ) → prefetch-second-lts.Need-returns-3 (prefetch-second-claims t) (prefetch-second-at t) prefetch-second.Post
-prefetch-second-returns-3 t c = prefetch-second-way-3 _ _ _ _ _ _ _ _ _ _ _ _ _ _ _ _ (c .before .before .before .before .before .before .before .before .before .before .before .before .before .before .before .before .before .before .before .before .before .prefetch-enabled .ensures) (c .before .before .before .before .before .before .before .before .before .before .before .before .before .before .before .before .before .before .before .before .if1 .taken) (c .before .before .before .before .before .before .before .before .before .before .before .before .before .before .before .before .before .before .before .one-fetched .ensures) (c .before .before .before .before .before .before .before .before .before .before .before .before .before .before .before .before .before .before .if2 .taken) (c .before .before .before .before .before .before .before .before .before .before .before .before .before .before .before .before .before .odd-pc .ensures) (c .before .before .before .before .before .before .before .before .before .before .before .before .before .before .before .before .if3 .left) (c .before .before .before .before .before .before .before .before .before .before .before .before .before .before .before .faulted .ensures) (c .before .before .before .before .before .before .before .before .before .before .before .before .before .before .if4 .left) (c .before .before .before .before .before .before .before .before .before .before .before .before .before .pc .ensures) (c .before .before .before .before .before .before .before .before .before .before .before .before .wrapping-add-u32 .ensures) (c .before .before .before .before .before .before .before .before .before .prefetch-read .ensures) (c .before .before .before .if5 .taken) (c .before .before .low-word .ensures) (c .before .second-word .ensures) (c .with-cpu .ensures)
+prefetch-second-returns-3 t c = prefetch-second-way-3 _ _ _ _ _ _ _ _ _ _ _ _ (c .before .before .before .before .before .before .before .before .before .before .before .before .before .before .before .before .before .before .before .before .prefetch-enabled .ensures) (c .before .before .before .before .before .before .before .before .before .before .before .before .before .before .before .before .before .before .before .if1 .taken) (c .before .before .before .before .before .before .before .before .before .before .before .before .before .before .before .before .before .if2 .taken) (c .before .before .before .before .before .before .before .before .before .before .before .before .before .before .before .if3 .left) (c .before .before .before .before .before .before .before .before .before .before .before .before .before .if4 .left) (c .before .before .before .before .before .before .before .before .before .before .before .before .wrapping-add-u32 .ensures) (c .before .before .before .before .before .before .before .before .before .prefetch-read .ensures) (c .before .before .before .if5 .taken) (c .before .before .low-word .ensures) (c .before .second-word .ensures) (c .with-cpu .ensures)
 
--- src/cycle.rt:288:13
 prefetch-second-same-length-3 : (t : ℕ) → prefetch-second-lts.Need-same-length-3 (prefetch-second-claims t) (prefetch-second-at t) prefetch-second.Post
 prefetch-second-same-length-3 t c = c .before .before .before .before .before .before .prefetch-read .kept .1 .0
 
--- src/cycle.rt:288:13
 prefetch-second-same-length-4 : (t : ℕ) → prefetch-second-lts.Need-same-length-4 (prefetch-second-claims t) (prefetch-second-at t) prefetch-second.Post
 prefetch-second-same-length-4 t c = c .before .before .before .before .before .before .prefetch-read .kept .1 .1 .0
 
--- src/cycle.rt:288:13
 prefetch-second-returns-4 : (t : ℕ) → prefetch-second-lts.Need-returns-4 (prefetch-second-claims t) (prefetch-second-at t) prefetch-second.Post
-prefetch-second-returns-4 t c = prefetch-second-way-4 _ _ _ _ _ _ _ _ _ _ _ _ _ (c .before .before .before .before .before .before .before .before .before .before .before .before .before .before .before .before .before .before .prefetch-enabled .ensures) (c .before .before .before .before .before .before .before .before .before .before .before .before .before .before .before .before .before .if1 .taken) (c .before .before .before .before .before .before .before .before .before .before .before .before .before .before .before .before .one-fetched .ensures) (c .before .before .before .before .before .before .before .before .before .before .before .before .before .before .before .if2 .taken) (c .before .before .before .before .before .before .before .before .before .before .before .before .before .before .odd-pc .ensures) (c .before .before .before .before .before .before .before .before .before .before .before .before .before .if3 .left) (c .before .before .before .before .before .before .before .before .before .before .before .before .faulted .ensures) (c .before .before .before .before .before .before .before .before .before .before .before .if4 .left) (c .before .before .before .before .before .before .before .before .before .before .pc .ensures) (c .before .before .before .before .before .before .before .before .before .wrapping-add-u32 .ensures) (c .before .before .before .before .before .before .prefetch-read .ensures) (c .if5 .left)
+prefetch-second-returns-4 t c = prefetch-second-way-4 _ _ _ _ _ _ _ _ _ (c .before .before .before .before .before .before .before .before .before .before .before .before .before .before .before .before .before .prefetch-enabled .ensures) (c .before .before .before .before .before .before .before .before .before .before .before .before .before .before .before .before .if1 .taken) (c .before .before .before .before .before .before .before .before .before .before .before .before .before .before .if2 .taken) (c .before .before .before .before .before .before .before .before .before .before .before .before .if3 .left) (c .before .before .before .before .before .before .before .before .before .before .if4 .left) (c .before .before .before .before .before .before .before .before .before .wrapping-add-u32 .ensures) (c .before .before .before .before .before .before .prefetch-read .ensures) (c .if5 .left)
 
--- src/cycle.rt:290:9
 prefetch-second-returns-5 : (t : ℕ) → prefetch-second-lts.Need-returns-5 (prefetch-second-claims t) (prefetch-second-at t) prefetch-second.Post
-prefetch-second-returns-5 t c = prefetch-second-way-5 _ _ _ _ _ _ (c .before .before .before .prefetch-enabled .ensures) (c .before .before .if1 .taken) (c .before .one-fetched .ensures) (c .if2 .left)
+prefetch-second-returns-5 t c = prefetch-second-way-5 _ _ _ _ _ (c .before .before .before .prefetch-enabled .ensures) (c .before .before .if1 .taken) (c .if2 .left)
 
--- src/cycle.rt:268:1
 prefetch-second-returns-6 : (t : ℕ) → prefetch-second-lts.Need-returns-6 (prefetch-second-claims t) (prefetch-second-at t) prefetch-second.Post
 prefetch-second-returns-6 t c = prefetch-second-way-6 _ _ _ _ _ (c .before .prefetch-enabled .ensures) (c .if1 .left)
 
 -- ---- push-field
 abbrev push-field-claims : ℕ → push-field-lts.Claims
-push-field-claims t = (width-reads.Asked, width-reads.Learnt, lower-a7-reads.Asked, lower-a7-reads.Learnt, with-cpu-reads.Asked, with-cpu-reads.Learnt, a7-reads.Asked, a7-reads.Learnt, address-reads.Asked, address-reads.Learnt, raw-write-reads.Asked, raw-write-reads.Learnt, write-at-below t, write-at.Post)
+push-field-claims t = (width-reads.Asked, width-reads.Learnt, lower-a7-reads.Asked, lower-a7-reads.Learnt, with-cpu-reads.Asked, with-cpu-reads.Learnt, address-reads.Asked, address-reads.Learnt, raw-write-reads.Asked, raw-write-reads.Learnt, write-at-below t, write-at.Post)
 
--- src/cycle.rt:132:9
 push-field-width-requires : (t : ℕ) → push-field-lts.Need-width-requires (push-field-claims t) (push-field-at t) push-field.Post
 push-field-width-requires t c κs = tt
 
--- src/cycle.rt:133:33
 push-field-lower-a7-requires : (t : ℕ) → push-field-lts.Need-lower-a7-requires (push-field-claims t) (push-field-at t) push-field.Post
 push-field-lower-a7-requires t c κs = tt
 
--- src/cycle.rt:133:9
 push-field-with-cpu-requires : (t : ℕ) → push-field-lts.Need-with-cpu-requires (push-field-claims t) (push-field-at t) push-field.Post
 push-field-with-cpu-requires t c κs = tt
 
--- src/cycle.rt:135:9
 push-field-returns : (t : ℕ) → push-field-lts.Need-returns (push-field-claims t) (push-field-at t) push-field.Post
 push-field-returns t c = push-field-way _ _ _ _ _ _ _ _ (c .before .before .before .before .width .ensures) (c .before .before .before .lower-a7 .ensures) (c .before .before .with-cpu .ensures) (c .if1 .taken)
 
--- src/cycle.rt:137:9
-push-field-a7-requires : (t : ℕ) → push-field-lts.Need-a7-requires (push-field-claims t) (push-field-at t) push-field.Post
-push-field-a7-requires t c κs = tt
+push-field-element-copy-out-at : (t : ℕ) → push-field-lts.Need-element-copy-out-at (push-field-claims t) (push-field-at t) push-field.Post
+push-field-element-copy-out-at t c = search needs
 
--- src/cycle.rt:139:13
 push-field-address-requires : (t : ℕ) → push-field-lts.Need-address-requires (push-field-claims t) (push-field-at t) push-field.Post
 push-field-address-requires t c κs = tt
 
--- src/cycle.rt:140:9
 push-field-raw-write-requires : (t : ℕ) → push-field-lts.Need-raw-write-requires (push-field-claims t) (push-field-at t) push-field.Post
 push-field-raw-write-requires t c κs = tt
 
--- src/cycle.rt:140:9
 push-field-same-length : (t : ℕ) → push-field-lts.Need-same-length (push-field-claims t) (push-field-at t) push-field.Post
 push-field-same-length t c = c .before .before .before .before .raw-write .kept .1 .0
 
--- src/cycle.rt:140:9
 push-field-same-length-2 : (t : ℕ) → push-field-lts.Need-same-length-2 (push-field-claims t) (push-field-at t) push-field.Post
 push-field-same-length-2 t c = c .before .before .before .before .raw-write .kept .1 .1 .0
 
--- src/cycle.rt:140:9
 push-field-returns-2 : (t : ℕ) → push-field-lts.Need-returns-2 (push-field-claims t) (push-field-at t) push-field.Post
-push-field-returns-2 t c = push-field-way-2 _ _ _ _ _ _ _ _ _ _ _ _ _ (c .before .before .before .before .before .before .before .before .before .before .before .before .before .before .before .width .ensures) (c .before .before .before .before .before .before .before .before .before .before .before .before .before .before .lower-a7 .ensures) (c .before .before .before .before .before .before .before .before .before .before .before .before .before .with-cpu .ensures) (c .before .before .before .before .before .before .before .before .before .before .before .if1 .left) (c .before .before .before .before .before .before .before .before .before .before .a7 .ensures) (c .before .before .before .before .before .before .before .before .if2 .taken) (c .before .before .before .before .before .before .before .address .ensures) (c .before .before .before .before .raw-write .ensures)
+push-field-returns-2 t c = push-field-way-2 _ _ _ _ _ _ _ _ _ _ _ _ (c .before .before .before .before .before .before .before .before .before .before .before .before .before .before .before .before .width .ensures) (c .before .before .before .before .before .before .before .before .before .before .before .before .before .before .before .lower-a7 .ensures) (c .before .before .before .before .before .before .before .before .before .before .before .before .before .before .with-cpu .ensures) (c .before .before .before .before .before .before .before .before .before .before .before .before .if1 .left) (c .before .before .before .before .before .before .before .before .if2 .taken) (c .before .before .before .before .before .before .before .address .ensures) (c .before .before .before .before .raw-write .ensures)
 
--- src/cycle.rt:142:5
 push-field-write-at-requires : (t : ℕ) → push-field-lts.Need-write-at-requires (push-field-claims t) (push-field-at t) push-field.Post
-push-field-write-at-requires t c κs = (omega (arith, c .before .before .before .before .before .before .before .before .before .before .before .before .pre .0, c .before .before .if2 .left, c .before .before .before .before .before .if1 .left), tt)
+push-field-write-at-requires t c κs = (omega (arith, c .before .before .before .before .before .before .before .before .before .before .before .before .before .pre .0, c .before .before .if2 .left, c .before .before .before .before .before .before .if1 .left), tt)
 
--- src/cycle.rt:129:1
 push-field-same-length-3 : (t : ℕ) → push-field-lts.Need-same-length-3 (push-field-claims t) (push-field-at t) push-field.Post
 push-field-same-length-3 t c = c .before .before .before .before .write-at .kept .1 .0
 
--- src/cycle.rt:129:1
 push-field-same-length-4 : (t : ℕ) → push-field-lts.Need-same-length-4 (push-field-claims t) (push-field-at t) push-field.Post
 push-field-same-length-4 t c = c .before .before .before .before .write-at .kept .1 .1 .0
 
--- src/cycle.rt:129:1
 push-field-returns-3 : (t : ℕ) → push-field-lts.Need-returns-3 (push-field-claims t) (push-field-at t) push-field.Post
-push-field-returns-3 t c = push-field-way-3 _ _ _ _ _ _ _ _ _ _ _ _ (c .before .before .before .before .before .before .before .before .before .before .before .before .before .before .width .ensures) (c .before .before .before .before .before .before .before .before .before .before .before .before .before .lower-a7 .ensures) (c .before .before .before .before .before .before .before .before .before .before .before .before .with-cpu .ensures) (c .before .before .before .before .before .before .before .before .before .before .if1 .left) (c .before .before .before .before .before .before .before .before .before .a7 .ensures) (c .before .before .before .before .before .before .before .if2 .left) (c .before .before .before .before .write-at .ensures)
+push-field-returns-3 t c = push-field-way-3 _ _ _ _ _ _ _ _ _ _ _ (c .before .before .before .before .before .before .before .before .before .before .before .before .before .before .before .width .ensures) (c .before .before .before .before .before .before .before .before .before .before .before .before .before .before .lower-a7 .ensures) (c .before .before .before .before .before .before .before .before .before .before .before .before .before .with-cpu .ensures) (c .before .before .before .before .before .before .before .before .before .before .before .if1 .left) (c .before .before .before .before .before .before .before .if2 .left) (c .before .before .before .before .write-at .ensures)
 
 -- ---- push-fields
 abbrev push-fields-claims : ℕ → push-fields-lts.Claims
 push-fields-claims t = (field-at-reads.Asked, field-at-reads.Learnt, push-field-below t, push-field.Post, push-fields-below t, push-fields.Post)
 
--- src/cycle.rt:121:9
 push-fields-returns : (t : ℕ) → push-fields-lts.Need-returns (push-fields-claims t) (push-fields-at t) push-fields.Post
 push-fields-returns t c = push-fields-way _ _ _ _ _ _ (c .if1 .taken)
 
--- src/cycle.rt:123:33
 push-fields-sub-field-at : (t : ℕ) → push-fields-lts.Need-sub-field-at (push-fields-claims t) (push-fields-at t) push-fields.Post
 push-fields-sub-field-at t c = search needs
 
--- src/cycle.rt:123:9
 push-fields-field-at-requires : (t : ℕ) → push-fields-lts.Need-field-at-requires (push-fields-claims t) (push-fields-at t) push-fields.Post
 push-fields-field-at-requires t c κs = tt
 
--- src/cycle.rt:124:9
 push-fields-push-field-requires : (t : ℕ) → push-fields-lts.Need-push-field-requires (push-fields-claims t) (push-fields-at t) push-fields.Post
 push-fields-push-field-requires t c κs = (omega (arith, c .before .before .before .before .before .before .pre .0, c .before .before .before .if1 .left), tt)
 
--- src/cycle.rt:125:43
 push-fields-sub-push-fields : (t : ℕ) → push-fields-lts.Need-sub-push-fields (push-fields-claims t) (push-fields-at t) push-fields.Post
 push-fields-sub-push-fields t c = search needs
 
--- src/cycle.rt:125:5
 push-fields-push-fields-requires : (t : ℕ) → push-fields-lts.Need-push-fields-requires (push-fields-claims t) (push-fields-at t) push-fields.Post
 push-fields-push-fields-requires t c κs = (omega (arith, c .before .before .before .before .before .before .before .before .before .before .before .before .before .pre .0, c .before .before .before .before .before .before .before .before .before .before .if1 .left), tt)
 
--- src/cycle.rt:110:1
 push-fields-same-length : (t : ℕ) → push-fields-lts.Need-same-length (push-fields-claims t) (push-fields-at t) push-fields.Post
 push-fields-same-length t c = c .before .before .before .before .push-fields .kept .1 .0 ∙ c .before .before .before .before .before .before .before .before .before .before .before .push-field .kept .1 .0
 
--- src/cycle.rt:110:1
 push-fields-same-length-2 : (t : ℕ) → push-fields-lts.Need-same-length-2 (push-fields-claims t) (push-fields-at t) push-fields.Post
 push-fields-same-length-2 t c = c .before .before .before .before .push-fields .kept .1 .1 .0 ∙ c .before .before .before .before .before .before .before .before .before .before .before .push-field .kept .1 .1 .0
 
--- src/cycle.rt:110:1
 push-fields-returns-2 : (t : ℕ) → push-fields-lts.Need-returns-2 (push-fields-claims t) (push-fields-at t) push-fields.Post
 push-fields-returns-2 t c = push-fields-way-2 _ _ _ _ _ _ _ _ _ _ _ _ _ (c .before .before .before .before .before .before .before .before .before .before .before .before .before .before .before .if1 .left) (c .before .before .before .before .before .before .before .before .before .before .before .before .before .before .field-at .ensures) (c .before .before .before .before .before .before .before .before .before .before .before .push-field .ensures) (c .before .before .before .before .push-fields .ensures)
 
 -- ---- read-at
 abbrev read-at-claims : ℕ → read-at-lts.Claims
-read-at-claims t = (faulted-reads.Asked, faulted-reads.Learnt, flush-sync-reads.Asked, flush-sync-reads.Learnt, address-reads.Asked, address-reads.Learnt, refuses-odd-reads.Asked, refuses-odd-reads.Learnt, trigger-address-error-below t, trigger-address-error.Post, try-read-reads.Asked, try-read-reads.Learnt, width-reads.Asked, width-reads.Learnt, trigger-bus-error-below t, trigger-bus-error.Post)
+read-at-claims t = (flush-sync-reads.Asked, flush-sync-reads.Learnt, address-reads.Asked, address-reads.Learnt, refuses-odd-reads.Asked, refuses-odd-reads.Learnt, trigger-address-error-below t, trigger-address-error.Post, try-read-reads.Asked, try-read-reads.Learnt, width-reads.Asked, width-reads.Learnt, trigger-bus-error-below t, trigger-bus-error.Post)
 
--- src/cycle.rt:186:8
-read-at-faulted-requires : (t : ℕ) → read-at-lts.Need-faulted-requires (read-at-claims t) (read-at-at t) read-at.Post
-read-at-faulted-requires t c κs = tt
-
--- src/cycle.rt:187:9
 read-at-returns : (t : ℕ) → read-at-lts.Need-returns (read-at-claims t) (read-at-at t) read-at.Post
-read-at-returns t c = read-at-way _ _ _ _ _ _ _ (c .before .faulted .ensures) (c .if1 .taken)
+read-at-returns t c = read-at-way _ _ _ _ _ _ (c .if1 .taken)
 
--- src/cycle.rt:193:9
 read-at-flush-sync-requires : (t : ℕ) → read-at-lts.Need-flush-sync-requires (read-at-claims t) (read-at-at t) read-at.Post
 read-at-flush-sync-requires t c κs = tt
 
--- src/cycle.rt:194:9
 read-at-address-requires : (t : ℕ) → read-at-lts.Need-address-requires (read-at-claims t) (read-at-at t) read-at.Post
 read-at-address-requires t c κs = tt
 
--- src/cycle.rt:195:8
 read-at-refuses-odd-requires : (t : ℕ) → read-at-lts.Need-refuses-odd-requires (read-at-claims t) (read-at-at t) read-at.Post
 read-at-refuses-odd-requires t c κs = tt
 
--- src/cycle.rt:196:13
 read-at-trigger-address-error-requires : (t : ℕ) → read-at-lts.Need-trigger-address-error-requires (read-at-claims t) (read-at-at t) read-at.Post
-read-at-trigger-address-error-requires t c κs = (omega (arith, c .before .before .before .before .before .before .before .before .before .before .before .before .before .before .before .before .pre .0), tt)
+read-at-trigger-address-error-requires t c κs = (omega (arith, c .before .before .before .before .before .before .before .before .before .before .before .before .before .before .before .before .pre .0, c .before .before .before .before .before .before .before .before .before .before .before .before .if1 .left), tt)
 
--- src/cycle.rt:197:9
 read-at-same-length : (t : ℕ) → read-at-lts.Need-same-length (read-at-claims t) (read-at-at t) read-at.Post
 read-at-same-length t c = c .before .before .before .before .trigger-address-error .kept .1 .0 ∙ c .before .before .before .before .before .before .before .before .before .before .before .before .before .before .flush-sync .kept .1 .0
 
--- src/cycle.rt:197:9
 read-at-same-length-2 : (t : ℕ) → read-at-lts.Need-same-length-2 (read-at-claims t) (read-at-at t) read-at.Post
 read-at-same-length-2 t c = c .before .before .before .before .trigger-address-error .kept .1 .1 .0 ∙ c .before .before .before .before .before .before .before .before .before .before .before .before .before .before .flush-sync .kept .1 .1 .0
 
--- src/cycle.rt:197:9
 read-at-returns-2 : (t : ℕ) → read-at-lts.Need-returns-2 (read-at-claims t) (read-at-at t) read-at.Post
-read-at-returns-2 t c = read-at-way-2 _ _ _ _ _ _ _ _ _ _ _ _ _ _ _ (c .before .before .before .before .before .before .before .before .before .before .before .before .before .before .before .before .before .before .faulted .ensures) (c .before .before .before .before .before .before .before .before .before .before .before .before .before .before .before .before .before .if1 .left) (c .before .before .before .before .before .before .before .before .before .before .before .before .before .before .flush-sync .ensures) (c .before .before .before .before .before .before .before .before .before .address .ensures) (c .before .before .before .before .before .before .before .before .refuses-odd .ensures) (c .before .before .before .before .before .before .before .if2 .taken) (c .before .before .before .before .trigger-address-error .ensures)
+read-at-returns-2 t c = read-at-way-2 _ _ _ _ _ _ _ _ _ _ _ _ _ _ (c .before .before .before .before .before .before .before .before .before .before .before .before .before .before .before .before .before .if1 .left) (c .before .before .before .before .before .before .before .before .before .before .before .before .before .before .flush-sync .ensures) (c .before .before .before .before .before .before .before .before .before .address .ensures) (c .before .before .before .before .before .before .before .before .refuses-odd .ensures) (c .before .before .before .before .before .before .before .if2 .taken) (c .before .before .before .before .trigger-address-error .ensures)
 
--- src/cycle.rt:203:9
 read-at-try-read-requires : (t : ℕ) → read-at-lts.Need-try-read-requires (read-at-claims t) (read-at-at t) read-at.Post
 read-at-try-read-requires t c κs = tt
 
--- src/cycle.rt:205:9
 read-at-same-length-3 : (t : ℕ) → read-at-lts.Need-same-length-3 (read-at-claims t) (read-at-at t) read-at.Post
 read-at-same-length-3 t c = c .before .before .before .before .before .try-read .kept .1 .0 ∙ c .before .before .before .before .before .before .before .before .before .before .before .before .before .before .before .flush-sync .kept .1 .0
 
--- src/cycle.rt:205:9
 read-at-same-length-4 : (t : ℕ) → read-at-lts.Need-same-length-4 (read-at-claims t) (read-at-at t) read-at.Post
 read-at-same-length-4 t c = c .before .before .before .before .before .try-read .kept .1 .1 .0 ∙ c .before .before .before .before .before .before .before .before .before .before .before .before .before .before .before .flush-sync .kept .1 .1 .0
 
--- src/cycle.rt:205:9
 read-at-returns-3 : (t : ℕ) → read-at-lts.Need-returns-3 (read-at-claims t) (read-at-at t) read-at.Post
-read-at-returns-3 t c = read-at-way-3 _ _ _ _ _ _ _ _ _ _ _ _ _ _ _ (c .before .before .before .before .before .before .before .before .before .before .before .before .before .before .before .before .before .before .before .faulted .ensures) (c .before .before .before .before .before .before .before .before .before .before .before .before .before .before .before .before .before .before .if1 .left) (c .before .before .before .before .before .before .before .before .before .before .before .before .before .before .before .flush-sync .ensures) (c .before .before .before .before .before .before .before .before .before .before .address .ensures) (c .before .before .before .before .before .before .before .before .before .refuses-odd .ensures) (c .before .before .before .before .before .before .before .before .if2 .left) (c .before .before .before .before .before .try-read .ensures) (c .if3 .taken)
+read-at-returns-3 t c = read-at-way-3 _ _ _ _ _ _ _ _ _ _ _ _ _ _ (c .before .before .before .before .before .before .before .before .before .before .before .before .before .before .before .before .before .before .if1 .left) (c .before .before .before .before .before .before .before .before .before .before .before .before .before .before .before .flush-sync .ensures) (c .before .before .before .before .before .before .before .before .before .before .address .ensures) (c .before .before .before .before .before .before .before .before .before .refuses-odd .ensures) (c .before .before .before .before .before .before .before .before .if2 .left) (c .before .before .before .before .before .try-read .ensures) (c .if3 .taken)
 
--- src/cycle.rt:208:9
 read-at-width-requires : (t : ℕ) → read-at-lts.Need-width-requires (read-at-claims t) (read-at-at t) read-at.Post
 read-at-width-requires t c κs = tt
 
--- src/cycle.rt:209:9
 read-at-trigger-bus-error-requires : (t : ℕ) → read-at-lts.Need-trigger-bus-error-requires (read-at-claims t) (read-at-at t) read-at.Post
-read-at-trigger-bus-error-requires t c κs = (omega (arith, c .before .before .before .before .before .before .before .before .before .before .before .before .before .before .before .before .before .before .before .before .before .before .before .before .before .before .pre .0), tt)
+read-at-trigger-bus-error-requires t c κs = (omega (arith, c .before .before .before .before .before .before .before .before .before .before .before .before .before .before .before .before .before .before .before .before .before .before .before .before .before .before .pre .0, c .before .before .before .before .before .before .before .before .before .before .before .before .before .before .before .before .before .before .before .before .before .before .if1 .left), tt)
 
--- src/cycle.rt:176:1
 read-at-same-length-5 : (t : ℕ) → read-at-lts.Need-same-length-5 (read-at-claims t) (read-at-at t) read-at.Post
 read-at-same-length-5 t c = c .before .before .before .before .trigger-bus-error .kept .1 .0 ∙ c .before .before .before .before .before .before .before .before .before .before .before .before .before .before .try-read .kept .1 .0 ∙ c .before .before .before .before .before .before .before .before .before .before .before .before .before .before .before .before .before .before .before .before .before .before .before .before .flush-sync .kept .1 .0
 
--- src/cycle.rt:176:1
 read-at-same-length-6 : (t : ℕ) → read-at-lts.Need-same-length-6 (read-at-claims t) (read-at-at t) read-at.Post
 read-at-same-length-6 t c = c .before .before .before .before .trigger-bus-error .kept .1 .1 .0 ∙ c .before .before .before .before .before .before .before .before .before .before .before .before .before .before .try-read .kept .1 .1 .0 ∙ c .before .before .before .before .before .before .before .before .before .before .before .before .before .before .before .before .before .before .before .before .before .before .before .before .flush-sync .kept .1 .1 .0
 
--- src/cycle.rt:176:1
 read-at-returns-4 : (t : ℕ) → read-at-lts.Need-returns-4 (read-at-claims t) (read-at-at t) read-at.Post
-read-at-returns-4 t c = read-at-way-4 _ _ _ _ _ _ _ _ _ _ _ _ _ _ _ _ _ _ _ (c .before .before .before .before .before .before .before .before .before .before .before .before .before .before .before .before .before .before .before .before .before .before .before .before .before .before .before .before .faulted .ensures) (c .before .before .before .before .before .before .before .before .before .before .before .before .before .before .before .before .before .before .before .before .before .before .before .before .before .before .before .if1 .left) (c .before .before .before .before .before .before .before .before .before .before .before .before .before .before .before .before .before .before .before .before .before .before .before .before .flush-sync .ensures) (c .before .before .before .before .before .before .before .before .before .before .before .before .before .before .before .before .before .before .before .address .ensures) (c .before .before .before .before .before .before .before .before .before .before .before .before .before .before .before .before .before .before .refuses-odd .ensures) (c .before .before .before .before .before .before .before .before .before .before .before .before .before .before .before .before .before .if2 .left) (c .before .before .before .before .before .before .before .before .before .before .before .before .before .before .try-read .ensures) (c .before .before .before .before .before .before .before .before .before .if3 .left) (c .before .before .before .before .before .before .before .width .ensures) (c .before .before .before .before .trigger-bus-error .ensures)
+read-at-returns-4 t c = read-at-way-4 _ _ _ _ _ _ _ _ _ _ _ _ _ _ _ _ _ _ (c .before .before .before .before .before .before .before .before .before .before .before .before .before .before .before .before .before .before .before .before .before .before .before .before .before .before .before .if1 .left) (c .before .before .before .before .before .before .before .before .before .before .before .before .before .before .before .before .before .before .before .before .before .before .before .before .flush-sync .ensures) (c .before .before .before .before .before .before .before .before .before .before .before .before .before .before .before .before .before .before .before .address .ensures) (c .before .before .before .before .before .before .before .before .before .before .before .before .before .before .before .before .before .before .refuses-odd .ensures) (c .before .before .before .before .before .before .before .before .before .before .before .before .before .before .before .before .before .if2 .left) (c .before .before .before .before .before .before .before .before .before .before .before .before .before .before .try-read .ensures) (c .before .before .before .before .before .before .before .before .before .if3 .left) (c .before .before .before .before .before .before .before .width .ensures) (c .before .before .before .before .trigger-bus-error .ensures)
 
 -- ---- trigger-address-error
 abbrev trigger-address-error-claims : ℕ → trigger-address-error-lts.Claims
-trigger-address-error-claims t = (faulted-reads.Asked, faulted-reads.Learnt, halt-reads.Asked, halt-reads.Learnt, with-cpu-reads.Asked, with-cpu-reads.Learnt, begin-address-reads.Asked, begin-address-reads.Learnt, exception-address-error-below t, exception-address-error.Post, keep-resume-reads.Asked, keep-resume-reads.Learnt)
+trigger-address-error-claims t = (halt-reads.Asked, halt-reads.Learnt, with-cpu-reads.Asked, with-cpu-reads.Learnt, begin-address-reads.Asked, begin-address-reads.Learnt, exception-address-error-below t, exception-address-error.Post, keep-resume-reads.Asked, keep-resume-reads.Learnt)
 
--- src/cycle.rt:60:8
-trigger-address-error-faulted-requires : (t : ℕ) → trigger-address-error-lts.Need-faulted-requires (trigger-address-error-claims t) (trigger-address-error-at t) trigger-address-error.Post
-trigger-address-error-faulted-requires t c κs = tt
-
--- src/cycle.rt:61:9
 trigger-address-error-returns : (t : ℕ) → trigger-address-error-lts.Need-returns (trigger-address-error-claims t) (trigger-address-error-at t) trigger-address-error.Post
-trigger-address-error-returns t c = trigger-address-error-way _ _ _ _ _ _ _ _ (c .before .faulted .ensures) (c .if1 .taken)
+trigger-address-error-returns t c = trigger-address-error-way _ _ _ _ _ _ _ (c .if1 .taken)
 
--- src/cycle.rt:64:36
 trigger-address-error-halt-requires : (t : ℕ) → trigger-address-error-lts.Need-halt-requires (trigger-address-error-claims t) (trigger-address-error-at t) trigger-address-error.Post
 trigger-address-error-halt-requires t c κs = tt
 
--- src/cycle.rt:64:9
 trigger-address-error-with-cpu-requires :
     (t : ℕ) → trigger-address-error-lts.Need-with-cpu-requires (
-      faulted-reads.Asked,
-      faulted-reads.Learnt,
       halt-reads.Asked,
       halt-reads.Learnt,
       with-cpu-reads.Asked,
@@ -1003,15 +826,11 @@ trigger-address-error-with-cpu-requires :
     ) (trigger-address-error-at t) trigger-address-error.Post
 trigger-address-error-with-cpu-requires t c κs = tt
 
--- src/cycle.rt:64:9
 trigger-address-error-returns-2 : (t : ℕ) → trigger-address-error-lts.Need-returns-2 (trigger-address-error-claims t) (trigger-address-error-at t) trigger-address-error.Post
-trigger-address-error-returns-2 t c = trigger-address-error-way-2 _ _ _ _ _ _ _ _ _ _ (c .before .before .before .before .faulted .ensures) (c .before .before .before .if1 .left) (c .before .before .if2 .taken) (c .before .halt .ensures) (c .with-cpu .ensures)
+trigger-address-error-returns-2 t c = trigger-address-error-way-2 _ _ _ _ _ _ _ _ _ (c .before .before .before .if1 .left) (c .before .before .if2 .taken) (c .before .halt .ensures) (c .with-cpu .ensures)
 
--- src/cycle.rt:66:33
 trigger-address-error-begin-address-requires :
     (t : ℕ) → trigger-address-error-lts.Need-begin-address-requires (
-      faulted-reads.Asked,
-      faulted-reads.Learnt,
       halt-reads.Asked,
       halt-reads.Learnt,
       with-cpu-reads.Asked,
@@ -1025,11 +844,8 @@ trigger-address-error-begin-address-requires :
     ) (trigger-address-error-at t) trigger-address-error.Post
 trigger-address-error-begin-address-requires t c κs = tt
 
--- src/cycle.rt:66:9
 trigger-address-error-with-cpu-requires-2 :
     (t : ℕ) → trigger-address-error-lts.Need-with-cpu-requires-2 (
-      faulted-reads.Asked,
-      faulted-reads.Learnt,
       halt-reads.Asked,
       halt-reads.Learnt,
       with-cpu-reads.Asked,
@@ -1043,11 +859,8 @@ trigger-address-error-with-cpu-requires-2 :
     ) (trigger-address-error-at t) trigger-address-error.Post
 trigger-address-error-with-cpu-requires-2 t c κs = tt
 
--- src/cycle.rt:67:52
 trigger-address-error-sub-exception-address-error :
     (t : ℕ) → trigger-address-error-lts.Need-sub-exception-address-error (
-      faulted-reads.Asked,
-      faulted-reads.Learnt,
       halt-reads.Asked,
       halt-reads.Learnt,
       with-cpu-reads.Asked,
@@ -1061,11 +874,8 @@ trigger-address-error-sub-exception-address-error :
     ) (trigger-address-error-at t) trigger-address-error.Post
 trigger-address-error-sub-exception-address-error t c = search needs
 
--- src/cycle.rt:67:9
 trigger-address-error-exception-address-error-requires :
     (t : ℕ) → trigger-address-error-lts.Need-exception-address-error-requires (
-      faulted-reads.Asked,
-      faulted-reads.Learnt,
       halt-reads.Asked,
       halt-reads.Learnt,
       with-cpu-reads.Asked,
@@ -1077,13 +887,10 @@ trigger-address-error-exception-address-error-requires :
       keep-resume-reads.Asked,
       keep-resume-reads.Learnt,
     ) (trigger-address-error-at t) trigger-address-error.Post
-trigger-address-error-exception-address-error-requires t c κs = (omega (arith, c .before .before .before .before .before .before .before .before .before .pre .0, c .before .before .before .before .if2 .left), tt)
+trigger-address-error-exception-address-error-requires t c κs = (omega (arith, c .before .before .before .before .before .before .before .before .before .pre .0, c .before .before .before .before .if2 .left, c .before .before .before .before .before .if1 .left), tt)
 
--- src/cycle.rt:68:25
 trigger-address-error-keep-resume-requires :
     (t : ℕ) → trigger-address-error-lts.Need-keep-resume-requires (
-      faulted-reads.Asked,
-      faulted-reads.Learnt,
       halt-reads.Asked,
       halt-reads.Learnt,
       with-cpu-reads.Asked,
@@ -1097,11 +904,8 @@ trigger-address-error-keep-resume-requires :
     ) (trigger-address-error-at t) trigger-address-error.Post
 trigger-address-error-keep-resume-requires t c κs = tt
 
--- src/cycle.rt:68:5
 trigger-address-error-with-cpu-requires-3 :
     (t : ℕ) → trigger-address-error-lts.Need-with-cpu-requires-3 (
-      faulted-reads.Asked,
-      faulted-reads.Learnt,
       halt-reads.Asked,
       halt-reads.Learnt,
       with-cpu-reads.Asked,
@@ -1115,119 +919,52 @@ trigger-address-error-with-cpu-requires-3 :
     ) (trigger-address-error-at t) trigger-address-error.Post
 trigger-address-error-with-cpu-requires-3 t c κs = tt
 
--- src/cycle.rt:49:1
 trigger-address-error-same-length : (t : ℕ) → trigger-address-error-lts.Need-same-length (trigger-address-error-claims t) (trigger-address-error-at t) trigger-address-error.Post
 trigger-address-error-same-length t c = c .before .before .before .before .before .before .exception-address-error .kept .1 .0
 
--- src/cycle.rt:49:1
 trigger-address-error-same-length-2 : (t : ℕ) → trigger-address-error-lts.Need-same-length-2 (trigger-address-error-claims t) (trigger-address-error-at t) trigger-address-error.Post
 trigger-address-error-same-length-2 t c = c .before .before .before .before .before .before .exception-address-error .kept .1 .1 .0
 
--- src/cycle.rt:49:1
 trigger-address-error-returns-3 : (t : ℕ) → trigger-address-error-lts.Need-returns-3 (trigger-address-error-claims t) (trigger-address-error-at t) trigger-address-error.Post
-trigger-address-error-returns-3 t c = trigger-address-error-way-3 _ _ _ _ _ _ _ _ _ _ _ _ _ _ _ (c .before .before .before .before .before .before .before .before .before .before .before .before .before .faulted .ensures) (c .before .before .before .before .before .before .before .before .before .before .before .before .if1 .left) (c .before .before .before .before .before .before .before .before .before .before .before .if2 .left) (c .before .before .before .before .before .before .before .before .before .before .begin-address .ensures) (c .before .before .before .before .before .before .before .before .before .with-cpu2 .ensures) (c .before .before .before .before .before .before .exception-address-error .ensures) (c .before .keep-resume .ensures) (c .with-cpu3 .ensures)
+trigger-address-error-returns-3 t c = trigger-address-error-way-3 _ _ _ _ _ _ _ _ _ _ _ _ _ _ (c .before .before .before .before .before .before .before .before .before .before .before .before .if1 .left) (c .before .before .before .before .before .before .before .before .before .before .before .if2 .left) (c .before .before .before .before .before .before .before .before .before .before .begin-address .ensures) (c .before .before .before .before .before .before .before .before .before .with-cpu2 .ensures) (c .before .before .before .before .before .before .exception-address-error .ensures) (c .before .keep-resume .ensures) (c .with-cpu3 .ensures)
 
 -- ---- trigger-bus-error
 abbrev trigger-bus-error-claims : ℕ → trigger-bus-error-lts.Claims
-trigger-bus-error-claims t = (faulted-reads.Asked, faulted-reads.Learnt, in-exception-reads.Asked, in-exception-reads.Learnt, halt-reads.Asked, halt-reads.Learnt, with-cpu-reads.Asked, with-cpu-reads.Learnt, pending-fault-cause-reads.Asked, pending-fault-cause-reads.Learnt, begin-bus-reads.Asked, begin-bus-reads.Learnt, exception-bus-error-below t, exception-bus-error.Post, close-bus-reads.Asked, close-bus-reads.Learnt)
+trigger-bus-error-claims t = (halt-reads.Asked, halt-reads.Learnt, with-cpu-reads.Asked, with-cpu-reads.Learnt, begin-bus-reads.Asked, begin-bus-reads.Learnt, exception-bus-error-below t, exception-bus-error.Post, close-bus-reads.Asked, close-bus-reads.Learnt)
 
--- src/cycle.rt:24:8
-trigger-bus-error-faulted-requires : (t : ℕ) → trigger-bus-error-lts.Need-faulted-requires (trigger-bus-error-claims t) (trigger-bus-error-at t) trigger-bus-error.Post
-trigger-bus-error-faulted-requires t c κs = tt
-
--- src/cycle.rt:25:9
 trigger-bus-error-returns : (t : ℕ) → trigger-bus-error-lts.Need-returns (trigger-bus-error-claims t) (trigger-bus-error-at t) trigger-bus-error.Post
-trigger-bus-error-returns t c = trigger-bus-error-way _ _ _ _ _ _ _ _ _ (c .before .faulted .ensures) (c .if1 .taken)
+trigger-bus-error-returns t c = trigger-bus-error-way _ _ _ _ _ _ _ _ (c .if1 .taken)
 
--- src/cycle.rt:27:8
-trigger-bus-error-in-exception-requires :
-    (t : ℕ) → trigger-bus-error-lts.Need-in-exception-requires (
-      faulted-reads.Asked,
-      faulted-reads.Learnt,
-      in-exception-reads.Asked,
-      in-exception-reads.Learnt,
-      halt-reads.Asked,
-      halt-reads.Learnt,
-      with-cpu-reads.Asked,
-      with-cpu-reads.Learnt,
-      pending-fault-cause-reads.Asked,
-      pending-fault-cause-reads.Learnt,
-      begin-bus-reads.Asked,
-      begin-bus-reads.Learnt,
-      exception-bus-error-below t,
-      exception-bus-error.Post,
-      close-bus-reads.Asked,
-      close-bus-reads.Learnt,
-    ) (trigger-bus-error-at t) trigger-bus-error.Post
-trigger-bus-error-in-exception-requires t c κs = tt
-
--- src/cycle.rt:28:36
 trigger-bus-error-halt-requires : (t : ℕ) → trigger-bus-error-lts.Need-halt-requires (trigger-bus-error-claims t) (trigger-bus-error-at t) trigger-bus-error.Post
 trigger-bus-error-halt-requires t c κs = tt
 
--- src/cycle.rt:28:9
 trigger-bus-error-with-cpu-requires : (t : ℕ) → trigger-bus-error-lts.Need-with-cpu-requires (trigger-bus-error-claims t) (trigger-bus-error-at t) trigger-bus-error.Post
 trigger-bus-error-with-cpu-requires t c κs = tt
 
--- src/cycle.rt:28:9
 trigger-bus-error-returns-2 : (t : ℕ) → trigger-bus-error-lts.Need-returns-2 (trigger-bus-error-claims t) (trigger-bus-error-at t) trigger-bus-error.Post
-trigger-bus-error-returns-2 t c = trigger-bus-error-way-2 _ _ _ _ _ _ _ _ _ _ _ _ (c .before .before .before .before .before .faulted .ensures) (c .before .before .before .before .if1 .left) (c .before .before .before .in-exception .ensures) (c .before .before .if2 .taken) (c .before .halt .ensures) (c .with-cpu .ensures)
+trigger-bus-error-returns-2 t c = trigger-bus-error-way-2 _ _ _ _ _ _ _ _ _ _ (c .before .before .before .if1 .left) (c .before .before .if2 .taken) (c .before .halt .ensures) (c .with-cpu .ensures)
 
--- src/cycle.rt:31:36
 trigger-bus-error-halt-requires-2 : (t : ℕ) → trigger-bus-error-lts.Need-halt-requires-2 (trigger-bus-error-claims t) (trigger-bus-error-at t) trigger-bus-error.Post
 trigger-bus-error-halt-requires-2 t c κs = tt
 
--- src/cycle.rt:31:9
 trigger-bus-error-with-cpu-requires-2 : (t : ℕ) → trigger-bus-error-lts.Need-with-cpu-requires-2 (trigger-bus-error-claims t) (trigger-bus-error-at t) trigger-bus-error.Post
 trigger-bus-error-with-cpu-requires-2 t c κs = tt
 
--- src/cycle.rt:31:9
 trigger-bus-error-returns-3 : (t : ℕ) → trigger-bus-error-lts.Need-returns-3 (trigger-bus-error-claims t) (trigger-bus-error-at t) trigger-bus-error.Post
-trigger-bus-error-returns-3 t c = trigger-bus-error-way-3 _ _ _ _ _ _ _ _ _ _ _ _ (c .before .before .before .before .before .before .faulted .ensures) (c .before .before .before .before .before .if1 .left) (c .before .before .before .before .in-exception .ensures) (c .before .before .before .if2 .left) (c .before .before .if3 .taken) (c .before .halt2 .ensures) (c .with-cpu2 .ensures)
+trigger-bus-error-returns-3 t c = trigger-bus-error-way-3 _ _ _ _ _ _ _ _ _ _ (c .before .before .before .before .if1 .left) (c .before .before .before .if2 .left) (c .before .before .if3 .taken) (c .before .halt2 .ensures) (c .with-cpu2 .ensures)
 
--- src/cycle.rt:33:9
-trigger-bus-error-pending-fault-cause-requires :
-    (t : ℕ) → trigger-bus-error-lts.Need-pending-fault-cause-requires (
-      faulted-reads.Asked,
-      faulted-reads.Learnt,
-      in-exception-reads.Asked,
-      in-exception-reads.Learnt,
-      halt-reads.Asked,
-      halt-reads.Learnt,
-      with-cpu-reads.Asked,
-      with-cpu-reads.Learnt,
-      pending-fault-cause-reads.Asked,
-      pending-fault-cause-reads.Learnt,
-      begin-bus-reads.Asked,
-      begin-bus-reads.Learnt,
-      exception-bus-error-below t,
-      exception-bus-error.Post,
-      close-bus-reads.Asked,
-      close-bus-reads.Learnt,
-    ) (trigger-bus-error-at t) trigger-bus-error.Post
-trigger-bus-error-pending-fault-cause-requires t c κs = tt
-
--- src/cycle.rt:34:33
 trigger-bus-error-begin-bus-requires : (t : ℕ) → trigger-bus-error-lts.Need-begin-bus-requires (trigger-bus-error-claims t) (trigger-bus-error-at t) trigger-bus-error.Post
 trigger-bus-error-begin-bus-requires t c κs = tt
 
--- src/cycle.rt:34:9
 trigger-bus-error-with-cpu-requires-3 : (t : ℕ) → trigger-bus-error-lts.Need-with-cpu-requires-3 (trigger-bus-error-claims t) (trigger-bus-error-at t) trigger-bus-error.Post
 trigger-bus-error-with-cpu-requires-3 t c κs = tt
 
--- src/cycle.rt:39:9
 trigger-bus-error-sub-exception-bus-error :
     (t : ℕ) → trigger-bus-error-lts.Need-sub-exception-bus-error (
-      faulted-reads.Asked,
-      faulted-reads.Learnt,
-      in-exception-reads.Asked,
-      in-exception-reads.Learnt,
       halt-reads.Asked,
       halt-reads.Learnt,
       with-cpu-reads.Asked,
       with-cpu-reads.Learnt,
-      pending-fault-cause-reads.Asked,
-      pending-fault-cause-reads.Learnt,
       begin-bus-reads.Asked,
       begin-bus-reads.Learnt,
       exception-bus-error-below t,
@@ -1237,19 +974,12 @@ trigger-bus-error-sub-exception-bus-error :
     ) (trigger-bus-error-at t) trigger-bus-error.Post
 trigger-bus-error-sub-exception-bus-error t c = search needs
 
--- src/cycle.rt:35:9
 trigger-bus-error-exception-bus-error-requires :
     (t : ℕ) → trigger-bus-error-lts.Need-exception-bus-error-requires (
-      faulted-reads.Asked,
-      faulted-reads.Learnt,
-      in-exception-reads.Asked,
-      in-exception-reads.Learnt,
       halt-reads.Asked,
       halt-reads.Learnt,
       with-cpu-reads.Asked,
       with-cpu-reads.Learnt,
-      pending-fault-cause-reads.Asked,
-      pending-fault-cause-reads.Learnt,
       begin-bus-reads.Asked,
       begin-bus-reads.Learnt,
       exception-bus-error-below t,
@@ -1257,57 +987,41 @@ trigger-bus-error-exception-bus-error-requires :
       close-bus-reads.Asked,
       close-bus-reads.Learnt,
     ) (trigger-bus-error-at t) trigger-bus-error.Post
-trigger-bus-error-exception-bus-error-requires t c κs = (omega (arith, c .before .before .before .before .before .before .before .before .before .before .before .before .pre .0, c .before .before .before .before .before .if3 .left), tt)
+trigger-bus-error-exception-bus-error-requires t c κs = (omega (arith, c .before .before .before .before .before .before .before .before .before .before .pre .0, c .before .before .before .before .if3 .left, c .before .before .before .before .before .before .if1 .left), tt)
 
--- src/cycle.rt:46:25
 trigger-bus-error-close-bus-requires : (t : ℕ) → trigger-bus-error-lts.Need-close-bus-requires (trigger-bus-error-claims t) (trigger-bus-error-at t) trigger-bus-error.Post
 trigger-bus-error-close-bus-requires t c κs = tt
 
--- src/cycle.rt:46:5
 trigger-bus-error-with-cpu-requires-4 : (t : ℕ) → trigger-bus-error-lts.Need-with-cpu-requires-4 (trigger-bus-error-claims t) (trigger-bus-error-at t) trigger-bus-error.Post
 trigger-bus-error-with-cpu-requires-4 t c κs = tt
 
--- src/cycle.rt:12:1
 trigger-bus-error-same-length : (t : ℕ) → trigger-bus-error-lts.Need-same-length (trigger-bus-error-claims t) (trigger-bus-error-at t) trigger-bus-error.Post
 trigger-bus-error-same-length t c = c .before .before .before .before .before .before .exception-bus-error .kept .1 .0
 
--- src/cycle.rt:12:1
 trigger-bus-error-same-length-2 : (t : ℕ) → trigger-bus-error-lts.Need-same-length-2 (trigger-bus-error-claims t) (trigger-bus-error-at t) trigger-bus-error.Post
 trigger-bus-error-same-length-2 t c = c .before .before .before .before .before .before .exception-bus-error .kept .1 .1 .0
 
--- src/cycle.rt:12:1
 trigger-bus-error-returns-4 : (t : ℕ) → trigger-bus-error-lts.Need-returns-4 (trigger-bus-error-claims t) (trigger-bus-error-at t) trigger-bus-error.Post
-trigger-bus-error-returns-4 t c = trigger-bus-error-way-4 _ _ _ _ _ _ _ _ _ _ _ _ _ _ _ _ _ _ (c .before .before .before .before .before .before .before .before .before .before .before .before .before .before .before .before .faulted .ensures) (c .before .before .before .before .before .before .before .before .before .before .before .before .before .before .before .if1 .left) (c .before .before .before .before .before .before .before .before .before .before .before .before .before .before .in-exception .ensures) (c .before .before .before .before .before .before .before .before .before .before .before .before .before .if2 .left) (c .before .before .before .before .before .before .before .before .before .before .before .before .if3 .left) (c .before .before .before .before .before .before .before .before .before .before .before .pending-fault-cause .ensures) (c .before .before .before .before .before .before .before .before .before .before .begin-bus .ensures) (c .before .before .before .before .before .before .before .before .before .with-cpu3 .ensures) (c .before .before .before .before .before .before .exception-bus-error .ensures) (c .before .close-bus .ensures) (c .with-cpu4 .ensures)
+trigger-bus-error-returns-4 t c = trigger-bus-error-way-4 _ _ _ _ _ _ _ _ _ _ _ _ _ _ _ (c .before .before .before .before .before .before .before .before .before .before .before .before .before .if1 .left) (c .before .before .before .before .before .before .before .before .before .before .before .before .if2 .left) (c .before .before .before .before .before .before .before .before .before .before .before .if3 .left) (c .before .before .before .before .before .before .before .before .before .before .begin-bus .ensures) (c .before .before .before .before .before .before .before .before .before .with-cpu3 .ensures) (c .before .before .before .before .before .before .exception-bus-error .ensures) (c .before .close-bus .ensures) (c .with-cpu4 .ensures)
 
 -- ---- write-at
 abbrev write-at-claims : ℕ → write-at-lts.Claims
-write-at-claims t = (faulted-reads.Asked, faulted-reads.Learnt, flush-sync-reads.Asked, flush-sync-reads.Learnt, address-reads.Asked, address-reads.Learnt, refuses-odd-reads.Asked, refuses-odd-reads.Learnt, trigger-address-error-below t, trigger-address-error.Post, set-wdata-reads.Asked, set-wdata-reads.Learnt, with-cpu-reads.Asked, with-cpu-reads.Learnt, try-write-reads.Asked, try-write-reads.Learnt, width-reads.Asked, width-reads.Learnt, trigger-bus-error-below t, trigger-bus-error.Post)
+write-at-claims t = (flush-sync-reads.Asked, flush-sync-reads.Learnt, address-reads.Asked, address-reads.Learnt, refuses-odd-reads.Asked, refuses-odd-reads.Learnt, trigger-address-error-below t, trigger-address-error.Post, set-wdata-reads.Asked, set-wdata-reads.Learnt, with-cpu-reads.Asked, with-cpu-reads.Learnt, try-write-reads.Asked, try-write-reads.Learnt, width-reads.Asked, width-reads.Learnt, trigger-bus-error-below t, trigger-bus-error.Post)
 
--- src/cycle.rt:157:8
-write-at-faulted-requires : (t : ℕ) → write-at-lts.Need-faulted-requires (write-at-claims t) (write-at-at t) write-at.Post
-write-at-faulted-requires t c κs = tt
-
--- src/cycle.rt:158:9
 write-at-returns : (t : ℕ) → write-at-lts.Need-returns (write-at-claims t) (write-at-at t) write-at.Post
-write-at-returns t c = write-at-way _ _ _ _ _ _ _ _ (c .before .faulted .ensures) (c .if1 .taken)
+write-at-returns t c = write-at-way _ _ _ _ _ _ _ (c .if1 .taken)
 
--- src/cycle.rt:160:9
 write-at-flush-sync-requires : (t : ℕ) → write-at-lts.Need-flush-sync-requires (write-at-claims t) (write-at-at t) write-at.Post
 write-at-flush-sync-requires t c κs = tt
 
--- src/cycle.rt:161:9
 write-at-address-requires : (t : ℕ) → write-at-lts.Need-address-requires (write-at-claims t) (write-at-at t) write-at.Post
 write-at-address-requires t c κs = tt
 
--- src/cycle.rt:162:8
 write-at-refuses-odd-requires : (t : ℕ) → write-at-lts.Need-refuses-odd-requires (write-at-claims t) (write-at-at t) write-at.Post
 write-at-refuses-odd-requires t c κs = tt
 
--- src/cycle.rt:163:9
 write-at-trigger-address-error-requires :
     (t : ℕ) → write-at-lts.Need-trigger-address-error-requires (
-      faulted-reads.Asked,
-      faulted-reads.Learnt,
       flush-sync-reads.Asked,
       flush-sync-reads.Learnt,
       address-reads.Asked,
@@ -1327,63 +1041,49 @@ write-at-trigger-address-error-requires :
       trigger-bus-error-below t,
       trigger-bus-error.Post,
     ) (write-at-at t) write-at.Post
-write-at-trigger-address-error-requires t c κs = (omega (arith, c .before .before .before .before .before .before .before .before .before .before .before .before .before .before .before .before .pre .0), tt)
+write-at-trigger-address-error-requires t c κs = (omega (arith, c .before .before .before .before .before .before .before .before .before .before .before .before .before .before .before .before .pre .0, c .before .before .before .before .before .before .before .before .before .before .before .before .if1 .left), tt)
 
--- src/cycle.rt:163:9
 write-at-same-length : (t : ℕ) → write-at-lts.Need-same-length (write-at-claims t) (write-at-at t) write-at.Post
 write-at-same-length t c = c .before .before .before .before .trigger-address-error .kept .1 .0 ∙ c .before .before .before .before .before .before .before .before .before .before .before .before .before .before .flush-sync .kept .1 .0
 
--- src/cycle.rt:163:9
 write-at-same-length-2 : (t : ℕ) → write-at-lts.Need-same-length-2 (write-at-claims t) (write-at-at t) write-at.Post
 write-at-same-length-2 t c = c .before .before .before .before .trigger-address-error .kept .1 .1 .0 ∙ c .before .before .before .before .before .before .before .before .before .before .before .before .before .before .flush-sync .kept .1 .1 .0
 
--- src/cycle.rt:163:9
 write-at-returns-2 : (t : ℕ) → write-at-lts.Need-returns-2 (write-at-claims t) (write-at-at t) write-at.Post
-write-at-returns-2 t c = write-at-way-2 _ _ _ _ _ _ _ _ _ _ _ _ _ _ _ _ (c .before .before .before .before .before .before .before .before .before .before .before .before .before .before .before .before .before .before .faulted .ensures) (c .before .before .before .before .before .before .before .before .before .before .before .before .before .before .before .before .before .if1 .left) (c .before .before .before .before .before .before .before .before .before .before .before .before .before .before .flush-sync .ensures) (c .before .before .before .before .before .before .before .before .before .address .ensures) (c .before .before .before .before .before .before .before .before .refuses-odd .ensures) (c .before .before .before .before .before .before .before .if2 .taken) (c .before .before .before .before .trigger-address-error .ensures)
+write-at-returns-2 t c = write-at-way-2 _ _ _ _ _ _ _ _ _ _ _ _ _ _ _ (c .before .before .before .before .before .before .before .before .before .before .before .before .before .before .before .before .before .if1 .left) (c .before .before .before .before .before .before .before .before .before .before .before .before .before .before .flush-sync .ensures) (c .before .before .before .before .before .before .before .before .before .address .ensures) (c .before .before .before .before .before .before .before .before .refuses-odd .ensures) (c .before .before .before .before .before .before .before .if2 .taken) (c .before .before .before .before .trigger-address-error .ensures)
 
--- src/cycle.rt:165:33
 write-at-set-wdata-requires : (t : ℕ) → write-at-lts.Need-set-wdata-requires (write-at-claims t) (write-at-at t) write-at.Post
 write-at-set-wdata-requires t c κs = tt
 
--- src/cycle.rt:165:9
 write-at-with-cpu-requires : (t : ℕ) → write-at-lts.Need-with-cpu-requires (write-at-claims t) (write-at-at t) write-at.Post
 write-at-with-cpu-requires t c κs = tt
 
--- src/cycle.rt:166:9
 write-at-try-write-requires : (t : ℕ) → write-at-lts.Need-try-write-requires (write-at-claims t) (write-at-at t) write-at.Post
 write-at-try-write-requires t c κs = tt
 
--- src/cycle.rt:169:9
 write-at-same-length-3 : (t : ℕ) → write-at-lts.Need-same-length-3 (write-at-claims t) (write-at-at t) write-at.Post
 write-at-same-length-3 t c = c .before .before .before .before .before .before .try-write .kept .1 .0 ∙ c .before .before .before .before .before .before .before .before .before .before .before .before .before .before .before .before .before .before .flush-sync .kept .1 .0
 
--- src/cycle.rt:169:9
 write-at-same-length-4 : (t : ℕ) → write-at-lts.Need-same-length-4 (write-at-claims t) (write-at-at t) write-at.Post
 write-at-same-length-4 t c = c .before .before .before .before .before .before .try-write .kept .1 .1 .0 ∙ c .before .before .before .before .before .before .before .before .before .before .before .before .before .before .before .before .before .before .flush-sync .kept .1 .1 .0
 
--- src/cycle.rt:169:9
 write-at-returns-3 : (t : ℕ) → write-at-lts.Need-returns-3 (write-at-claims t) (write-at-at t) write-at.Post
-write-at-returns-3 t c = write-at-way-3 _ _ _ _ _ _ _ _ _ _ _ _ _ _ _ _ _ _ (c .before .before .before .before .before .before .before .before .before .before .before .before .before .before .before .before .before .before .before .before .before .before .faulted .ensures) (c .before .before .before .before .before .before .before .before .before .before .before .before .before .before .before .before .before .before .before .before .before .if1 .left) (c .before .before .before .before .before .before .before .before .before .before .before .before .before .before .before .before .before .before .flush-sync .ensures) (c .before .before .before .before .before .before .before .before .before .before .before .before .before .address .ensures) (c .before .before .before .before .before .before .before .before .before .before .before .before .refuses-odd .ensures) (c .before .before .before .before .before .before .before .before .before .before .before .if2 .left) (c .before .before .before .before .before .before .before .before .before .before .set-wdata .ensures) (c .before .before .before .before .before .before .before .before .before .with-cpu .ensures) (c .before .before .before .before .before .before .try-write .ensures) (c .if3 .taken)
+write-at-returns-3 t c = write-at-way-3 _ _ _ _ _ _ _ _ _ _ _ _ _ _ _ _ _ (c .before .before .before .before .before .before .before .before .before .before .before .before .before .before .before .before .before .before .before .before .before .if1 .left) (c .before .before .before .before .before .before .before .before .before .before .before .before .before .before .before .before .before .before .flush-sync .ensures) (c .before .before .before .before .before .before .before .before .before .before .before .before .before .address .ensures) (c .before .before .before .before .before .before .before .before .before .before .before .before .refuses-odd .ensures) (c .before .before .before .before .before .before .before .before .before .before .before .if2 .left) (c .before .before .before .before .before .before .before .before .before .before .set-wdata .ensures) (c .before .before .before .before .before .before .before .before .before .with-cpu .ensures) (c .before .before .before .before .before .before .try-write .ensures) (c .if3 .taken)
 
--- src/cycle.rt:171:9
 write-at-width-requires : (t : ℕ) → write-at-lts.Need-width-requires (write-at-claims t) (write-at-at t) write-at.Post
 write-at-width-requires t c κs = tt
 
--- src/cycle.rt:172:5
 write-at-trigger-bus-error-requires : (t : ℕ) → write-at-lts.Need-trigger-bus-error-requires (write-at-claims t) (write-at-at t) write-at.Post
-write-at-trigger-bus-error-requires t c κs = (omega (arith, c .before .before .before .before .before .before .before .before .before .before .before .before .before .before .before .before .before .before .before .before .before .before .before .before .before .before .before .before .pre .0), tt)
+write-at-trigger-bus-error-requires t c κs = (omega (arith, c .before .before .before .before .before .before .before .before .before .before .before .before .before .before .before .before .before .before .before .before .before .before .before .before .before .before .before .before .pre .0, c .before .before .before .before .before .before .before .before .before .before .before .before .before .before .before .before .before .before .before .before .before .before .before .before .if1 .left), tt)
 
--- src/cycle.rt:146:1
 write-at-same-length-5 : (t : ℕ) → write-at-lts.Need-same-length-5 (write-at-claims t) (write-at-at t) write-at.Post
 write-at-same-length-5 t c = c .before .before .before .before .trigger-bus-error .kept .1 .0 ∙ c .before .before .before .before .before .before .before .before .before .before .before .before .before .before .try-write .kept .1 .0 ∙ c .before .before .before .before .before .before .before .before .before .before .before .before .before .before .before .before .before .before .before .before .before .before .before .before .before .before .flush-sync .kept .1 .0
 
--- src/cycle.rt:146:1
 write-at-same-length-6 : (t : ℕ) → write-at-lts.Need-same-length-6 (write-at-claims t) (write-at-at t) write-at.Post
 write-at-same-length-6 t c = c .before .before .before .before .trigger-bus-error .kept .1 .1 .0 ∙ c .before .before .before .before .before .before .before .before .before .before .before .before .before .before .try-write .kept .1 .1 .0 ∙ c .before .before .before .before .before .before .before .before .before .before .before .before .before .before .before .before .before .before .before .before .before .before .before .before .before .before .flush-sync .kept .1 .1 .0
 
--- src/cycle.rt:146:1
 write-at-returns-4 : (t : ℕ) → write-at-lts.Need-returns-4 (write-at-claims t) (write-at-at t) write-at.Post
-write-at-returns-4 t c = write-at-way-4 _ _ _ _ _ _ _ _ _ _ _ _ _ _ _ _ _ _ _ _ _ _ (c .before .before .before .before .before .before .before .before .before .before .before .before .before .before .before .before .before .before .before .before .before .before .before .before .before .before .before .before .before .before .faulted .ensures) (c .before .before .before .before .before .before .before .before .before .before .before .before .before .before .before .before .before .before .before .before .before .before .before .before .before .before .before .before .before .if1 .left) (c .before .before .before .before .before .before .before .before .before .before .before .before .before .before .before .before .before .before .before .before .before .before .before .before .before .before .flush-sync .ensures) (c .before .before .before .before .before .before .before .before .before .before .before .before .before .before .before .before .before .before .before .before .before .address .ensures) (c .before .before .before .before .before .before .before .before .before .before .before .before .before .before .before .before .before .before .before .before .refuses-odd .ensures) (c .before .before .before .before .before .before .before .before .before .before .before .before .before .before .before .before .before .before .before .if2 .left) (c .before .before .before .before .before .before .before .before .before .before .before .before .before .before .before .before .before .before .set-wdata .ensures) (c .before .before .before .before .before .before .before .before .before .before .before .before .before .before .before .before .before .with-cpu .ensures) (c .before .before .before .before .before .before .before .before .before .before .before .before .before .before .try-write .ensures) (c .before .before .before .before .before .before .before .before .if3 .left) (c .before .before .before .before .before .before .before .width .ensures) (c .before .before .before .before .trigger-bus-error .ensures)
+write-at-returns-4 t c = write-at-way-4 _ _ _ _ _ _ _ _ _ _ _ _ _ _ _ _ _ _ _ _ _ (c .before .before .before .before .before .before .before .before .before .before .before .before .before .before .before .before .before .before .before .before .before .before .before .before .before .before .before .before .before .if1 .left) (c .before .before .before .before .before .before .before .before .before .before .before .before .before .before .before .before .before .before .before .before .before .before .before .before .before .before .flush-sync .ensures) (c .before .before .before .before .before .before .before .before .before .before .before .before .before .before .before .before .before .before .before .before .before .address .ensures) (c .before .before .before .before .before .before .before .before .before .before .before .before .before .before .before .before .before .before .before .before .refuses-odd .ensures) (c .before .before .before .before .before .before .before .before .before .before .before .before .before .before .before .before .before .before .before .if2 .left) (c .before .before .before .before .before .before .before .before .before .before .before .before .before .before .before .before .before .before .set-wdata .ensures) (c .before .before .before .before .before .before .before .before .before .before .before .before .before .before .before .before .before .with-cpu .ensures) (c .before .before .before .before .before .before .before .before .before .before .before .before .before .before .try-write .ensures) (c .before .before .before .before .before .before .before .before .if3 .left) (c .before .before .before .before .before .before .before .width .ensures) (c .before .before .before .before .trigger-bus-error .ensures)
 
 pub +exception-address-error+exception-bus-error+jump-vector+prefetch-first+prefetch-read+prefetch-second+push-field+push-fields+read-at+trigger-address-error+trigger-bus-error+write-at-spec :
     {M : Type 1} → statement M
@@ -1494,10 +1194,6 @@ pub +exception-address-error+exception-bus-error+jump-vector+prefetch-first+pref
       clear-prefetch-reads.Learnt,
       with-cpu-reads.Asked,
       with-cpu-reads.Learnt,
-      odd-pc-reads.Asked,
-      odd-pc-reads.Learnt,
-      pc-reads.Asked,
-      pc-reads.Learnt,
       prefetch-read-below t,
       prefetch-read.Post,
       low-word-reads.Asked,
@@ -1510,9 +1206,7 @@ pub +exception-address-error+exception-bus-error+jump-vector+prefetch-first+pref
     (prefetch-first-prefetch-enabled-requires t)
     (prefetch-first-clear-prefetch-requires t)
     (prefetch-first-with-cpu-requires t)
-    (prefetch-first-odd-pc-requires t)
     (prefetch-first-returns t)
-    (prefetch-first-pc-requires t)
     (prefetch-first-prefetch-read-requires t)
     (prefetch-first-low-word-requires t)
     (prefetch-first-first-word-requires t)
@@ -1549,14 +1243,6 @@ pub +exception-address-error+exception-bus-error+jump-vector+prefetch-first+pref
     (λ t. prefetch-second-lts.spec (
       prefetch-enabled-reads.Asked,
       prefetch-enabled-reads.Learnt,
-      one-fetched-reads.Asked,
-      one-fetched-reads.Learnt,
-      odd-pc-reads.Asked,
-      odd-pc-reads.Learnt,
-      faulted-reads.Asked,
-      faulted-reads.Learnt,
-      pc-reads.Asked,
-      pc-reads.Learnt,
       wrapping-add-u32-reads.Asked,
       wrapping-add-u32-reads.Learnt,
       prefetch-read-below t,
@@ -1571,12 +1257,8 @@ pub +exception-address-error+exception-bus-error+jump-vector+prefetch-first+pref
     (prefetch-second-at t)
     prefetch-second.Post
     (prefetch-second-prefetch-enabled-requires t)
-    (prefetch-second-one-fetched-requires t)
-    (prefetch-second-odd-pc-requires t)
     (prefetch-second-returns t)
-    (prefetch-second-faulted-requires t)
     (prefetch-second-returns-2 t)
-    (prefetch-second-pc-requires t)
     (prefetch-second-wrapping-add-u32-requires t)
     (prefetch-second-prefetch-read-requires t)
     (prefetch-second-low-word-requires t)
@@ -1597,8 +1279,6 @@ pub +exception-address-error+exception-bus-error+jump-vector+prefetch-first+pref
       lower-a7-reads.Learnt,
       with-cpu-reads.Asked,
       with-cpu-reads.Learnt,
-      a7-reads.Asked,
-      a7-reads.Learnt,
       address-reads.Asked,
       address-reads.Learnt,
       raw-write-reads.Asked,
@@ -1612,7 +1292,7 @@ pub +exception-address-error+exception-bus-error+jump-vector+prefetch-first+pref
     (push-field-lower-a7-requires t)
     (push-field-with-cpu-requires t)
     (push-field-returns t)
-    (push-field-a7-requires t)
+    (push-field-element-copy-out-at t)
     (push-field-address-requires t)
     (push-field-raw-write-requires t)
     (push-field-same-length t)
@@ -1642,8 +1322,6 @@ pub +exception-address-error+exception-bus-error+jump-vector+prefetch-first+pref
     (push-fields-same-length-2 t)
     (push-fields-returns-2 t))
     (λ t. read-at-lts.spec (
-      faulted-reads.Asked,
-      faulted-reads.Learnt,
       flush-sync-reads.Asked,
       flush-sync-reads.Learnt,
       address-reads.Asked,
@@ -1661,7 +1339,6 @@ pub +exception-address-error+exception-bus-error+jump-vector+prefetch-first+pref
     )
     (read-at-at t)
     read-at.Post
-    (read-at-faulted-requires t)
     (read-at-returns t)
     (read-at-flush-sync-requires t)
     (read-at-address-requires t)
@@ -1680,8 +1357,6 @@ pub +exception-address-error+exception-bus-error+jump-vector+prefetch-first+pref
     (read-at-same-length-6 t)
     (read-at-returns-4 t))
     (λ t. trigger-address-error-lts.spec (
-      faulted-reads.Asked,
-      faulted-reads.Learnt,
       halt-reads.Asked,
       halt-reads.Learnt,
       with-cpu-reads.Asked,
@@ -1695,7 +1370,6 @@ pub +exception-address-error+exception-bus-error+jump-vector+prefetch-first+pref
     )
     (trigger-address-error-at t)
     trigger-address-error.Post
-    (trigger-address-error-faulted-requires t)
     (trigger-address-error-returns t)
     (trigger-address-error-halt-requires t)
     (trigger-address-error-with-cpu-requires t)
@@ -1710,16 +1384,10 @@ pub +exception-address-error+exception-bus-error+jump-vector+prefetch-first+pref
     (trigger-address-error-same-length-2 t)
     (trigger-address-error-returns-3 t))
     (λ t. trigger-bus-error-lts.spec (
-      faulted-reads.Asked,
-      faulted-reads.Learnt,
-      in-exception-reads.Asked,
-      in-exception-reads.Learnt,
       halt-reads.Asked,
       halt-reads.Learnt,
       with-cpu-reads.Asked,
       with-cpu-reads.Learnt,
-      pending-fault-cause-reads.Asked,
-      pending-fault-cause-reads.Learnt,
       begin-bus-reads.Asked,
       begin-bus-reads.Learnt,
       exception-bus-error-below t,
@@ -1729,16 +1397,13 @@ pub +exception-address-error+exception-bus-error+jump-vector+prefetch-first+pref
     )
     (trigger-bus-error-at t)
     trigger-bus-error.Post
-    (trigger-bus-error-faulted-requires t)
     (trigger-bus-error-returns t)
-    (trigger-bus-error-in-exception-requires t)
     (trigger-bus-error-halt-requires t)
     (trigger-bus-error-with-cpu-requires t)
     (trigger-bus-error-returns-2 t)
     (trigger-bus-error-halt-requires-2 t)
     (trigger-bus-error-with-cpu-requires-2 t)
     (trigger-bus-error-returns-3 t)
-    (trigger-bus-error-pending-fault-cause-requires t)
     (trigger-bus-error-begin-bus-requires t)
     (trigger-bus-error-with-cpu-requires-3 t)
     (trigger-bus-error-sub-exception-bus-error t)
@@ -1749,8 +1414,6 @@ pub +exception-address-error+exception-bus-error+jump-vector+prefetch-first+pref
     (trigger-bus-error-same-length-2 t)
     (trigger-bus-error-returns-4 t))
     λ t. write-at-lts.spec (
-      faulted-reads.Asked,
-      faulted-reads.Learnt,
       flush-sync-reads.Asked,
       flush-sync-reads.Learnt,
       address-reads.Asked,
@@ -1772,7 +1435,6 @@ pub +exception-address-error+exception-bus-error+jump-vector+prefetch-first+pref
     )
     (write-at-at t)
     write-at.Post
-    (write-at-faulted-requires t)
     (write-at-returns t)
     (write-at-flush-sync-requires t)
     (write-at-address-requires t)
