@@ -103,7 +103,7 @@ log-lent (Push32 v) = refl
 log-lent PrefetchFirst = refl
 log-lent PrefetchSecond = refl
 
--- no event, and room for 63
+-- no event, at most one sync waits, and 60 more have room
 start-book : (w : World) → isFaulted (cpuOf w) ≡ false → 192 ≤ length (w .log) → Booked 60 true (begun w)
 unfolding begun restarted
 start-book w h l =

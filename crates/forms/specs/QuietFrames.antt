@@ -142,15 +142,15 @@ first false t h = h
 
 -- kind 1: address low; then, after steps that change neither A7 nor kind, status and address high
 module _ (m : ℕ) {x : Cpu} {b : Bus} {len n : ℕ} {d : Bool} (w : World) (sp q sr pc : ℕ) (e : d ≡ true → sp ≡ q) where
-  pub low6-tale : Tale x b len (suc n) d w → Tale x b len n (both d (fieldTest b len (kindOf x) q (words6 sr pc) 2)) (writeAt (trigger m) w ((sp + 4) % 2 ^ 32) false (pc % 65536))
+  pub low6-tale : Tale x b len (suc n) d w → Tale x b len n (both d (fieldTest b len (kindOf x) q (words6 sr pc) 2)) (writeAt (trigger m) w ((sp + 4) % 2 ^ 32) false (pc % 0x10000))
   unfolding words6 fieldAt isCounted isRaw frameBytes
-  low6-tale p = word-tale m w (words6 sr pc) 2 ((sp + 4) % 2 ^ 32) (kindOf x) q (pc % 65536) refl (λ h. above sp q 4 (e h)) refl refl refl p
+  low6-tale p = word-tale m w (words6 sr pc) 2 ((sp + 4) % 2 ^ 32) (kindOf x) q (pc % 0x10000) refl (λ h. above sp q 4 (e h)) refl refl refl p
 
   pub rest6-tale : q < 2 ^ 32 → Tale x b len (suc (suc n)) d w
-      → Tale x b len n (both (both d (fieldTest b len (kindOf x) q (words6 sr pc) 0)) (fieldTest b len (kindOf x) q (words6 sr pc) 1)) (writeAt (trigger m) (writeAt (trigger m) w sp false sr) ((sp + 2) % 2 ^ 32) false (pc / 65536))
+      → Tale x b len n (both (both d (fieldTest b len (kindOf x) q (words6 sr pc) 0)) (fieldTest b len (kindOf x) q (words6 sr pc) 1)) (writeAt (trigger m) (writeAt (trigger m) w sp false sr) ((sp + 2) % 2 ^ 32) false (pc / 0x10000))
   unfolding words6 fieldAt isCounted isRaw frameBytes
   rest6-tale l p =
-      word-tale m (writeAt (trigger m) w sp false sr) (words6 sr pc) 1 ((sp + 2) % 2 ^ 32) (kindOf x) q (pc / 65536) refl (λ h. above sp q 2 (e (first d _ h))) refl refl refl
+      word-tale m (writeAt (trigger m) w sp false sr) (words6 sr pc) 1 ((sp + 2) % 2 ^ 32) (kindOf x) q (pc / 0x10000) refl (λ h. above sp q 2 (e (first d _ h))) refl refl refl
       (word-tale m w (words6 sr pc) 0 sp (kindOf x) q sr refl (λ h. at-bottom sp q (e h) l) refl refl refl p)
 
 three-tests : (d a b c : Bool) → both (both (both d c) a) b ≡ both d (both c (both b (both a true)))
@@ -179,11 +179,11 @@ short-tale m w y sr pc n d l e p =
     let z : World = withCpu w (lowerA7 (cpuOf w) 6) in
     let sp : ℕ = a7Of (cpuOf z) in
     let r : Tale x b len (suc (suc (suc n))) d z = tale-turn w (λ c. lowerA7 c 6) (lower-turn 6) (tale-less (omega arith) (gist-tale w y (3 + n) d e p)) in
-    let s : Tale x b len (suc (suc n)) (both d (fieldTest b len (kindOf x) q (words6 sr pc) 2)) (writeAt (trigger m) z ((sp + 4) % 2 ^ 32) false (pc % 65536)) = low6-tale m z sp q sr pc (λ h. under-top (cpuOf y) 6 l (r .scene h)) r in
-    tests6 n d b len (kindOf (cpuOf y)) q sr pc (writeAt (trigger m) (writeAt (trigger m) (writeAt (trigger m) z ((sp + 4) % 2 ^ 32) false (pc % 65536)) sp false sr) ((sp + 2) % 2 ^ 32) false (pc / 65536))
+    let s : Tale x b len (suc (suc n)) (both d (fieldTest b len (kindOf x) q (words6 sr pc) 2)) (writeAt (trigger m) z ((sp + 4) % 2 ^ 32) false (pc % 0x10000)) = low6-tale m z sp q sr pc (λ h. under-top (cpuOf y) 6 l (r .scene h)) r in
+    tests6 n d b len (kindOf (cpuOf y)) q sr pc (writeAt (trigger m) (writeAt (trigger m) (writeAt (trigger m) z ((sp + 4) % 2 ^ 32) false (pc % 0x10000)) sp false sr) ((sp + 2) % 2 ^ 32) false (pc / 0x10000))
     (subst (λ (k : ℕ). Booked n (both (both (both d (fieldTest b len k q (words6 sr pc) 2)) (fieldTest b len k q (words6 sr pc) 0)) (fieldTest b len k q (words6 sr pc) 1))
-    (writeAt (trigger m) (writeAt (trigger m) (writeAt (trigger m) z ((sp + 4) % 2 ^ 32) false (pc % 65536)) sp false sr) ((sp + 2) % 2 ^ 32) false (pc / 65536))) (under-kind (cpuOf y) 6 l)
-    (rest6-tale m (writeAt (trigger m) z ((sp + 4) % 2 ^ 32) false (pc % 65536)) sp q sr pc (λ h. under-top (cpuOf y) 6 l (r .scene (first d _ h))) (minus-below (a7Of (cpuOf y)) 6) s .book))
+    (writeAt (trigger m) (writeAt (trigger m) (writeAt (trigger m) z ((sp + 4) % 2 ^ 32) false (pc % 0x10000)) sp false sr) ((sp + 2) % 2 ^ 32) false (pc / 0x10000))) (under-kind (cpuOf y) 6 l)
+    (rest6-tale m (writeAt (trigger m) z ((sp + 4) % 2 ^ 32) false (pc % 0x10000)) sp q sr pc (λ h. under-top (cpuOf y) 6 l (r .scene (first d _ h))) (minus-below (a7Of (cpuOf y)) 6) s .book))
 
 -- ---- the interrupt of kind 2: the same three words, then the format word
 
@@ -217,12 +217,12 @@ tests8 n d b len kd q sr pc fw w p =
 -- A7 is lowered by 8 already
 pub eight-tale : (m : ℕ) {n : ℕ} (x : Cpu) (b : Bus) (len : ℕ) (d : Bool) (w : World) (sp sr pc fw : ℕ) → 15 < length (x .regs .dar) → (d ≡ true → sp ≡ minus32 (a7Of x) 8) → Tale (under x 8) b len (suc (suc (suc (suc n)))) d w
     → Booked n (both d (fieldsTest b len (kindOf x) (minus32 (a7Of x) 8) (words8 sr pc fw) (words8 sr pc fw .count)))
-    (writeAt (trigger m) (writeAt (trigger m) (writeAt (trigger m) (writeAt (trigger m) w ((sp + 4) % 2 ^ 32) false (pc % 65536)) sp false sr) ((sp + 2) % 2 ^ 32) false (pc / 65536)) ((sp + 6) % 2 ^ 32) false fw)
+    (writeAt (trigger m) (writeAt (trigger m) (writeAt (trigger m) (writeAt (trigger m) w ((sp + 4) % 2 ^ 32) false (pc % 0x10000)) sp false sr) ((sp + 2) % 2 ^ 32) false (pc / 0x10000)) ((sp + 6) % 2 ^ 32) false fw)
 unfolding words8 fieldAt isCounted isRaw frameBytes
 eight-tale m {n} x b len d w sp sr pc fw l e p =
     let q : ℕ = minus32 (a7Of x) 8 in
-    let y : World = writeAt (trigger m) w ((sp + 4) % 2 ^ 32) false (pc % 65536) in
-    let z : World = writeAt (trigger m) (writeAt (trigger m) y sp false sr) ((sp + 2) % 2 ^ 32) false (pc / 65536) in
+    let y : World = writeAt (trigger m) w ((sp + 4) % 2 ^ 32) false (pc % 0x10000) in
+    let z : World = writeAt (trigger m) (writeAt (trigger m) y sp false sr) ((sp + 2) % 2 ^ 32) false (pc / 0x10000) in
     let u : World = writeAt (trigger m) z ((sp + 6) % 2 ^ 32) false fw in
     let k : ℕ = kindOf (under x 8) in
     let t : ℕ → Bool = λ i. fieldTest b len k q (words6 sr pc) i in

@@ -62,12 +62,12 @@ first-68000 w y pc sr level n l e p =
     let t : ℕ → Bool = λ i. fieldTest b len (kindOf x) q (words6 sr pc) i in
     let r : Tale x b len (suc (suc (suc (suc (suc (suc n)))))) true z = tale-turn u (λ c. lowerA7 c 6) (lower-turn 6) (tale-cycles w 6 (tale-less (omega arith) (gist-tale w y (7 + n) true (λ h. e) p))) in
     let k : sp ≡ q = under-top (cpuOf y) 6 l (r .scene refl) in
-    let g : World = writeAt raised z ((sp + 4) % 2 ^ 32) false (pc % 65536) in
+    let g : World = writeAt raised z ((sp + 4) % 2 ^ 32) false (pc % 0x10000) in
     let s : Tale x b len (suc (suc (suc (suc (suc n))))) (t 2) g = low6-tale 2 z sp q sr pc (λ h. k) r in
     let a : World = syncedAcknowledge g 4 level .after in
     let o : World = withCpu a (internalCycles (cpuOf a) 4) in
     let v : Tale x b len (suc (suc n)) (t 2) o = tale-cycles a 4 (tale-synced g 4 level s) in
-    let f : World = writeAt raised (writeAt raised o sp false sr) ((sp + 2) % 2 ^ 32) false (pc / 65536) in
+    let f : World = writeAt raised (writeAt raised o sp false sr) ((sp + 2) % 2 ^ 32) false (pc / 0x10000) in
     let i : Booked n (both (both (t 2) (t 0)) (t 1)) f = rest6-tale 2 o sp q sr pc (λ h. k) (minus-below (a7Of (cpuOf y)) 6) v .book in
     subst (λ (j : ℕ). Booked n (fieldsTest b len j q (words6 sr pc) (words6 sr pc .count)) f) (under-kind (cpuOf y) 6 l) (tests6 n true b len (kindOf x) q sr pc f i)
 

@@ -108,7 +108,7 @@ module _ (m : ℕ) (x : Cpu) (b : Bus) (len n : ℕ) (d : Bool) where
           subst (λ (e : Bool). First e (keptFirst (prefetchRead (trigger m) y (pcOf (cpuOf y)))))
           (both-named d firstServed (wordTest x firstServed) (λ e. even-queue x firstServed (enabled true h e) (odd false k e)))
           (tale-fetch m (λ e z. First e (keptFirst z)) y (pcOf (cpuOf y)) (addressOf x (pcOf x)) (λ e. ap (λ (a : ℕ). addressOf x a) (scene-pc (q .scene e)))
-          (λ z v r. (tale-firstWord z (v % 65536) r, λ e f g. word-queued z (v % 65536))) (λ z r. (r, λ e f g. clash {b = false} e refl)) q)
+          (λ z v r. (tale-firstWord z (v % 0x10000) r, λ e f g. word-queued z (v % 0x10000))) (λ z r. (r, λ e f g. clash {b = false} e refl)) q)
 
   -- the second word, once one is queued
   abbrev secondServed : Bool
@@ -146,7 +146,7 @@ module _ (m : ℕ) (x : Cpu) (b : Bus) (len n : ℕ) (d : Bool) where
           (both-named d secondServed (wordTest x secondServed) (λ e. even-queue x secondServed (enabled true h e) (odd false k e)))
           (tale-fetch m (λ e z. Tale x b len n e (keptSecond z)) w ((pcOf (cpuOf w) + 2) % 2 ^ 32) (addressOf x ((pcOf x + 2) % 2 ^ 32))
           (λ e. ap (λ (a : ℕ). addressOf x ((a + 2) % 2 ^ 32)) (scene-pc (p .0 .scene e)))
-          (λ z v r. tale-secondWord z (v % 65536) r) (λ z r. r) (p .0))
+          (λ z v r. tale-secondWord z (v % 0x10000) r) (λ z r. r) (p .0))
 
 cycles-fetched : (c : Cpu) (v : ℕ) → oneFetched (internalCycles c v) ≡ oneFetched c
 unfolding internalCycles setClocks oneFetched

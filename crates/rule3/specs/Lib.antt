@@ -11,3 +11,4 @@ pub mod Tells
 pub mod Shams
 pub mod Needed
 pub mod Statement
+pub mod Lengths
