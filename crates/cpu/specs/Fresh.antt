@@ -15,11 +15,39 @@ unfoldable pub freshRegs : Regs
 freshRegs = record { dar = replicate 16 0; «dar_save» = replicate 16 0; sp = replicate 8 0 }
 
 unfoldable pub freshFlow : ℕ → Flow
-freshFlow kind = record { ppc = 0; pc = 0; vbr = 0; ir = 0; fpiar = 0; «cpu_type» = kind; «run_mode» = 0; stopped = 0; «exception_processing» = false; «change_of_flow» = false; «loop_mode» = false; «cycles_remaining» = pos 0 }
+freshFlow kind =
+    record {
+      ppc = 0;
+      pc = 0;
+      vbr = 0;
+      ir = 0;
+      fpiar = 0;
+      «cpu_type» = kind;
+      «run_mode» = 0;
+      stopped = 0;
+      «exception_processing» = false;
+      «change_of_flow» = false;
+      «loop_mode» = false;
+      «cycles_remaining» = pos 0;
+    }
 
 -- supervisor state, all interrupts masked, Z clear
 unfoldable pub freshFlags : Flags
-freshFlags = record { «t1_flag» = 0; «t0_flag» = 0; «s_flag» = 4; «m_flag» = 0; «x_flag» = 0; «n_flag» = 0; «not_z_flag» = 1; «v_flag» = 0; «c_flag» = 0; «int_mask» = 0x700; «int_level» = 0; «sr_save» = 0 }
+freshFlags =
+    record {
+      «t1_flag» = 0;
+      «t0_flag» = 0;
+      «s_flag» = 4;
+      «m_flag» = 0;
+      «x_flag» = 0;
+      «n_flag» = 0;
+      «not_z_flag» = 1;
+      «v_flag» = 0;
+      «c_flag» = 0;
+      «int_mask» = 0x700;
+      «int_level» = 0;
+      «sr_save» = 0;
+    }
 
 unfoldable pub freshQueue : Queue
 freshQueue = record { «prefetch_queue» = replicate 2 0; «prefetch_count» = 0; «pending_sync_clocks» = 0; «precise_bus» = true }

@@ -396,16 +396,6 @@ pub fn is_ec020_plus(kind: u8) -> bool
     3 <= kind && kind <= 9
 }
 
-// 24 or 32.
-pub fn address_bits(kind: u8) -> u8
-    ensures { λ r. ⌜ r ≡ addressBits kind ⌝ }
-{
-    if kind < 3 {
-        return 24;
-    }
-    32
-}
-
 pub fn mask_address(kind: u8, a: u32) -> u32
     ensures { λ r. ⌜ r ≡ maskAddress kind a ⌝ }
 {
@@ -442,18 +432,6 @@ pub fn has_m(kind: u8) -> bool
         return false;
     }
     true
-}
-
-pub fn sr_mask(kind: u8) -> u16
-    ensures { λ r. ⌜ r ≡ statusMask kind ⌝ }
-{
-    if has_m(kind) {
-        if has_t0(kind) {
-            return 0xF71F;
-        }
-        return 0xB71F;
-    }
-    0xA71F
 }
 
 // A bit of a status that only some kinds have: kept or dropped.
