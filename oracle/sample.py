@@ -17,7 +17,7 @@ A case is two bytes of length (high byte first) and so many bytes: numbers of on
   log        the words of the events, three each
   rows       the words of the rows, four each; of a return its one row, four words of 0 where it was refused
 Pairs are a count, and for each how far on its place is from the one before (the first: from 0) and its value; log and rows are a count
-and its words. The words' places are those below and in crates/recorded/src/record.rt. Every fourth case starts with a count of events in
+and its words. The words' places are those below and in crates/replay/src/record.rt. Every fourth case starts with a count of events in
 its bus, as an earlier call would leave it: an accepted call does not mind it, a refused one leaves it, returns and walks leave it too.
 """
 import collections

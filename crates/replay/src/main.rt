@@ -1,12 +1,13 @@
 // Replays recorded answers of the oracle (tools/sample.sh makes data/sample.bin): each case is a call, a return or a walk on the proved
 // code, and its answer, the number of events, each event word, each word of a row, the whole record and the whole store must be those
-// that the oracle gave, and log and rows behind them as they were. It uses `boundary`, `recorded` for the form of a case and `same` for the verdict; nothing uses it.
+// that the oracle gave, and log and rows behind them as they were. It uses `boundary` and, for the verdict, `same`; nothing uses it.
 use boundary::RawAnswer;
 use boundary::RawCall;
 use memory::Core;
-use recorded::list;
-use recorded::record;
 use unwind::returns::Row;
+
+mod list; // numbers and lists of a case
+mod record; // words to a record and back
 
 fn call_of(w: [u32; 136]) -> RawCall {
     RawCall {

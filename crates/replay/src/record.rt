@@ -178,7 +178,7 @@ fn bus_of(w: [u32; 136]) -> Bus {
 }
 
 // The core that a case starts from.
-pub fn core_of(w: [u32; 136]) -> Core {
+pub(crate) fn core_of(w: [u32; 136]) -> Core {
     Core {
         cpu: cpu_of(w),
         bus: bus_of(w),
@@ -279,7 +279,7 @@ fn put_cpu(w: &mut [u32; 136], c: Cpu, cycles: u32) {
 }
 
 // The core that a call left, laid over the words of its case. The cycles that remain are held to the word `cycles`.
-pub fn put_core(w: &mut [u32; 136], m: Core, cycles: u32) {
+pub(crate) fn put_core(w: &mut [u32; 136], m: Core, cycles: u32) {
     put_cpu(w, m.cpu, cycles);
     put_bus(w, m.bus);
 }

@@ -1,8 +1,8 @@
--- `recorded::list::fill` is safe and ends: the measure is the places that are left. Assumes nothing.
+-- `replay::list::fill` is safe and ends: the measure is the places that are left. Assumes nothing.
 use Prim.Native.Nat.{_-_}
 use borrow.Author.Needs.{needs}
-use Rattle.recorded.proofs.list.fill.Statement.{statement}
-use Rattle.recorded.proofs.list.fill.Tie as tie
+use Rattle.replay.proofs.list.fill.Statement.{statement}
+use Rattle.replay.proofs.list.fill.Tie as tie
 
 abbrev Inv-loop : tie.InvT-loop
 Inv-loop s₀ fill i₀ s i = Unit

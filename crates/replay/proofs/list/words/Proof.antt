@@ -1,8 +1,8 @@
--- `recorded::list::words` is safe and ends: the measure is the pairs that are left. Assumes nothing.
+-- `replay::list::words` is safe and ends: the measure is the pairs that are left. Assumes nothing.
 use Prim.Native.Nat.{_-_}
 use borrow.Author.Needs.{needs}
-use Rattle.recorded.proofs.list.words.Statement.{statement}
-use Rattle.recorded.proofs.list.words.Tie as tie
+use Rattle.replay.proofs.list.words.Statement.{statement}
+use Rattle.replay.proofs.list.words.Tie as tie
 
 abbrev Inv-loop : tie.InvT-loop
 Inv-loop b at w₀ count p₀ i₀ k₀ w p i k = Unit

@@ -29,7 +29,7 @@ fn plus(at: usize, n: usize) -> usize {
 }
 
 // Two bytes, the high one first.
-pub fn word(b: &[u8], at: usize) -> u32
+pub(crate) fn word(b: &[u8], at: usize) -> u32
     ensures { λ r. ⌜ r < 0x10000 ⌝ }
 {
     byte(b, at) * 256 + byte(b, plus(at, 1))
@@ -40,7 +40,7 @@ fn long(b: &[u8], at: usize) -> u32 {
 }
 
 // A byte below 251 is the number itself; 251 stands for all ones; 252, 253 and 254 come before one, two and four bytes.
-pub fn number(b: &[u8], at: usize) -> Taken {
+pub(crate) fn number(b: &[u8], at: usize) -> Taken {
     let first = byte(b, at);
     let from = plus(at, 1);
     if first < 251 {
@@ -98,7 +98,7 @@ fn set_byte(s: &mut [u8], i: u32, v: u32) {
 }
 
 // So many words of a case, from a place on.
-pub fn row_of_16(w: [u32; 136], at: usize) -> [u32; 16] {
+pub(crate) fn row_of_16(w: [u32; 136], at: usize) -> [u32; 16] {
     let mut row = [0u32; 16];
     let mut i = 0;
     while i < 16 {
@@ -108,7 +108,7 @@ pub fn row_of_16(w: [u32; 136], at: usize) -> [u32; 16] {
     row
 }
 
-pub fn row_of_8(w: [u32; 136], at: usize) -> [u32; 8] {
+pub(crate) fn row_of_8(w: [u32; 136], at: usize) -> [u32; 8] {
     let mut row = [0u32; 8];
     let mut i = 0;
     while i < 8 {
@@ -119,7 +119,7 @@ pub fn row_of_8(w: [u32; 136], at: usize) -> [u32; 8] {
 }
 
 // A row laid over the words of a case, from a place on.
-pub fn put_row(w: &mut [u32; 136], at: usize, row: &[u32]) {
+pub(crate) fn put_row(w: &mut [u32; 136], at: usize, row: &[u32]) {
     let mut i = 0;
     while i < row.len() {
         put_word(w, plus(at, i), row[i]);
@@ -128,7 +128,7 @@ pub fn put_row(w: &mut [u32; 136], at: usize, row: &[u32]) {
 }
 
 // A count, then so many pairs: how far on from the last place, and the word there.
-pub fn words(b: &[u8], at: usize, w: &mut [u32; 136]) -> usize {
+pub(crate) fn words(b: &[u8], at: usize, w: &mut [u32; 136]) -> usize {
     let n = number(b, at);
     let count = n.value;
     let mut p = n.next;
@@ -146,7 +146,7 @@ pub fn words(b: &[u8], at: usize, w: &mut [u32; 136]) -> usize {
 }
 
 // The same of bytes.
-pub fn bytes(b: &[u8], at: usize, s: &mut [u8; 0x10000]) -> usize {
+pub(crate) fn bytes(b: &[u8], at: usize, s: &mut [u8; 0x10000]) -> usize {
     let n = number(b, at);
     let count = n.value;
     let mut p = n.next;
@@ -164,7 +164,7 @@ pub fn bytes(b: &[u8], at: usize, s: &mut [u8; 0x10000]) -> usize {
 }
 
 // A count, then so many words, from the first place on.
-pub fn row(b: &[u8], at: usize, w: &mut [u32]) -> usize {
+pub(crate) fn row(b: &[u8], at: usize, w: &mut [u32]) -> usize {
     let n = number(b, at);
     let count = n.value;
     let mut p = n.next;
@@ -187,7 +187,7 @@ fn filler(i: u32, fill: u32) -> u32 {
     n ^ (i / 256)
 }
 
-pub fn fill(s: &mut [u8; 0x10000], fill: u32) {
+pub(crate) fn fill(s: &mut [u8; 0x10000], fill: u32) {
     let mut i: u32 = 0;
     while i < 0x10000 {
         set_byte(s, i, filler(i, fill));
@@ -203,7 +203,7 @@ fn unwritten(i: u32, fill: u32) -> u32
 }
 
 // So many words that no call has written.
-pub fn fill_words(w: &mut [u32], count: u32, fill: u32) {
+pub(crate) fn fill_words(w: &mut [u32], count: u32, fill: u32) {
     let mut i: u32 = 0;
     while i < count {
         set_word(w, i, unwritten(i, fill));

@@ -1,31 +1,28 @@
--- `recorded::list::row` is safe and ends: the list stays as long as it is, and the measure is the words that are left. Assumes nothing.
+-- `replay::list::fill_words` is safe and ends: the list stays as long as it is, and the measure is the places that are left. Assumes nothing.
 use Prim.Native.Nat.{_-_}
 use mathlib.Core.Path.{_≡_, refl, _∙_}
 use lib.ListN.{length}
 use borrow.Author.Needs.{needs}
-use Rattle.recorded.proofs.list.row.Statement.{statement}
-use Rattle.recorded.proofs.list.row.Tie as tie
+use Rattle.replay.proofs.list.fill_words.Statement.{statement}
+use Rattle.replay.proofs.list.fill_words.Tie as tie
 
 abbrev Inv-loop : tie.InvT-loop
-Inv-loop b at w₀ count p₀ k₀ w p k = length w ≡ length w₀
+Inv-loop w₀ count fill i₀ w i = length w ≡ length w₀
 
 abbrev μ-loop : tie.MeasureT-loop
-μ-loop b at w₀ count p₀ k₀ w p k = count - k
-
-number-requires : tie.Need-number-requires Inv-loop μ-loop
-number-requires c κs = search needs
+μ-loop w₀ count fill i₀ w i = count - i
 
 loop-holds : tie.Need-loop-holds Inv-loop μ-loop
 loop-holds c = refl
 
-number-requires-2 : tie.Need-number-requires-2 Inv-loop μ-loop
-number-requires-2 c κs = search needs
+unwritten-requires : tie.Need-unwritten-requires Inv-loop μ-loop
+unwritten-requires c κs = search needs
 
 set-word-requires : tie.Need-set-word-requires Inv-loop μ-loop
 set-word-requires c κs = search needs
 
-add-k : tie.Need-add-k Inv-loop μ-loop
-add-k c = search needs
+add-i : tie.Need-add-i Inv-loop μ-loop
+add-i c = search needs
 
 loop-less : tie.Need-loop-less Inv-loop μ-loop
 loop-less c = search needs
@@ -39,17 +36,16 @@ same-length c = c .before .loop .inv
 returns : tie.Need-returns Inv-loop μ-loop
 returns c = search needs
 
-pub row-spec : {M : Type 1} → statement M
-row-spec =
+pub fill-words-spec : {M : Type 1} → statement M
+fill-words-spec =
     tie.close
     (tie.spec
     Inv-loop
     μ-loop
-    number-requires
     loop-holds
-    number-requires-2
+    unwritten-requires
     set-word-requires
-    add-k
+    add-i
     loop-less
     loop-again
     same-length

@@ -1,9 +1,9 @@
--- `recorded::list::put_row` is safe and ends: the measure is the words that are left. Assumes nothing.
+-- `replay::list::put_row` is safe and ends: the measure is the words that are left. Assumes nothing.
 use lib.ListN.{length}
 use Prim.Native.Nat.{_-_}
 use borrow.Author.Needs.{needs}
-use Rattle.recorded.proofs.list.put_row.Statement.{statement}
-use Rattle.recorded.proofs.list.put_row.Tie as tie
+use Rattle.replay.proofs.list.put_row.Statement.{statement}
+use Rattle.replay.proofs.list.put_row.Tie as tie
 
 abbrev Inv-loop : tie.InvT-loop
 Inv-loop w₀ at row i₀ w i = Unit

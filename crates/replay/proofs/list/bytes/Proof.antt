@@ -1,8 +1,8 @@
--- `recorded::list::bytes` is safe and ends: the measure is the pairs that are left. Assumes nothing.
+-- `replay::list::bytes` is safe and ends: the measure is the pairs that are left. Assumes nothing.
 use Prim.Native.Nat.{_-_}
 use borrow.Author.Needs.{needs}
-use Rattle.recorded.proofs.list.bytes.Statement.{statement}
-use Rattle.recorded.proofs.list.bytes.Tie as tie
+use Rattle.replay.proofs.list.bytes.Statement.{statement}
+use Rattle.replay.proofs.list.bytes.Tie as tie
 
 abbrev Inv-loop : tie.InvT-loop
 Inv-loop b at s₀ count p₀ i₀ k₀ s p i k = Unit
