@@ -1,6 +1,6 @@
 #!/usr/bin/env bash
 # measure.sh SOURCE: counts the instructions of an entry, through the exported function and through the lifted Rust at SOURCE, and
-# prints the tables of docs/PERFORMANCE.md. Needs cargo and valgrind. It fails where the two sides answer differently.
+# prints the tables of docs/PERFORMANCE.md. Needs cargo, valgrind and objdump. It fails where the two sides answer differently.
 set -euo pipefail
 cd "$(dirname "${BASH_SOURCE[0]}")/.."
 source_of_rust=$(cd "$1" && pwd)

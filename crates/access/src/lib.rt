@@ -1,5 +1,5 @@
-// Guarded accesses and what they raise: triggers, error entries, pushes, the vector jump and the prefetch call each other, and
-// the fault levels that remain fall. It uses `steps` and everything below; `exceptions` and `interrupts` push their frames and
+// Guarded accesses and what they raise: triggers, error entries, pushes, the vector jump and the prefetch call each other, with
+// one fault level less at each trigger. It uses `steps` and everything below; `exceptions` and `interrupts` push their frames and
 // jump through it. Here are the Rust's names over the functions that call each other, with two levels: inside the domain more
 // change nothing.
 use frames::Frame;

@@ -1,6 +1,7 @@
 // The C boundary: a call by number on a record and a bus by value and lent slices, return and walk, and the leaf functions of the
-// record, exported for programs in other languages. The numbers are those of the case format. It uses `calls` and `unwind`, and what it
-// exports is proved equal to the public functions there; programs in other languages and `replay` use it.
+// record, exported for programs in other languages. The numbers are those of the case format. It uses `calls`, `unwind` and,
+// for the leaf functions, `status`, `cpu` and `pending`; what it exports is proved equal to their definitions. Programs in other languages
+// and `replay` use it.
 use calls::Answer;
 use calls::Call;
 use calls::Performed;

@@ -1,5 +1,5 @@
 // The exceptions that are no errors: `take_exception` and the wrappers around it, the group 2 exceptions, trace, and the two
-// floating-point entries of the 68060. It uses `access` and everything below; `calls` uses it.
+// floating-point entries of the 68060. It uses `access` and everything below; `interrupts` and `calls` use it.
 use memory::Core;
 
 pub mod formats; // their frames

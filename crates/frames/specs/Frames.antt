@@ -62,7 +62,7 @@ frame2 sr ppc address = framed (rawWord sr ∷ rawLong ppc ∷ rawWord 0x200C �
 
 -- format 0 of an address error, 8 bytes
 unfoldable pub frame0 : ℕ → ℕ → Frame
-frame0 sr ppc = framed (rawWord sr ∷ rawLong ppc ∷ rawWord 12 ∷ [])
+frame0 sr ppc = framed (rawWord sr ∷ rawLong ppc ∷ rawWord 0x000C ∷ [])
 
 -- format 4, 16 bytes: fault address and fault status long word
 unfoldable pub frame4 : ℕ → ℕ → ℕ → ℕ → Frame

@@ -42,7 +42,7 @@ typed-inside r s t =
       bytes = λ e. t .bytes;
     }
 
--- inside, and refused by 1, 2, 4, 6
+-- inside, and refused by 1, 2, 4, 5, 6
 abbrev r₁ : Cpu
 r₁ = withSFlag (start 4 0x2000 0x180 0 0 0 0) 2
 

@@ -1,6 +1,6 @@
 // What follows from the kind of processor and from constants alone: the kinds by the numbers of `CpuType`, the families
 // that the Rust tests, vector numbers by their Rust names, the fault causes, the table of cycles by vector and the table of
-// frame lengths by kind and format. It uses nothing of the repository; every other crate uses it.
+// frame lengths by kind and format. It uses nothing of the repository; every crate that knows the record uses it.
 ghost use mathlib.Core.Path.{_≡_};
 ghost use Prim.Native.Nat.{_<_, _≤_};
 ghost use Rattle.types.specs.Kinds.{is040, is060, isPre68020, isEc020Plus, addressBits, maskAddress, statusMask, maskStatus, hasT0, hasM, pick};
