@@ -87,7 +87,10 @@ abbrev pub secondFor : Cpu → ℕ → Frame
 secondFor c v = record { at = lower (view (regsOf c) .isp) 8; len = 8; status = withSet (regsOf c .status); address = c .flow .pc; word = wordFor 1 v }
 
 abbrev pub interruptFor : Cpu → ℕ → Stacked
-interruptFor c v = cond (nonzero (c .flags .«m_flag») && (leb 3 (kind c) && leb (kind c) 9)) (two (secondFor c v) (frameFor c 0 v (c .flow .pc))) (one (frameFor c 0 v (c .flow .pc)))
+interruptFor c v =
+    cond (nonzero (c .flags .«m_flag») && (leb 3 (kind c) && leb (kind c) 9))
+    (two (secondFor c v) (frameFor c 0 v (c .flow .pc)))
+    (one (frameFor c 0 v (c .flow .pc)))
 
 -- the frames of a call; what is no direct entry makes none, and its line is never read
 unfoldable pub paper : World → Call → Stacked
