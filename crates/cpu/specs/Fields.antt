@@ -5,7 +5,7 @@ use lib.Dec.{eqb}
 use lib.ListN.{set, getD}
 use Rattle.types.specs.Kinds.{both, isPre68020, maskAddress}
 use Rattle.cpu.specs.declared.Cpu.{Cpu}
-use Rattle.cpu.specs.Setters.{withDar, withExceptionProcessing, withFpiar, withInstructionExceptionVector, withLastExceptionVector, withLoopMode, withMmuFcOverride, withPc, withPendingFaultCause, withPendingFaultWdata, withRunMode, withStopped}
+use Rattle.cpu.specs.Setters.{withDar, withExceptionProcessing, withFpiar, withInstructionExceptionVector, withLastExceptionVector, withLoopMode, withMmuFcOverride, withPc, withPendingFaultCause, withPendingFaultWdata, withPpc, withRunMode, withStopped}
 
 -- the kind of processor
 unfoldable pub kindOf : Cpu → ℕ
@@ -70,6 +70,10 @@ setA7 c v = withDar c (set (c .regs .dar) 15 v)
 -- PC is v
 unfoldable pub setPc : Cpu → ℕ → Cpu
 setPc c v = withPc c v
+
+-- PPC is v
+unfoldable pub setPpc : Cpu → ℕ → Cpu
+setPpc c v = withPpc c v
 
 -- PC is back at the instruction that runs
 unfoldable pub rewindPc : Cpu → Cpu

@@ -29,6 +29,24 @@ withSp c x =
       sp = x;
     })
 
+abbrev pub withPpc : Cpu → ℕ → Cpu
+withPpc c x =
+    withFlow c
+    (record {
+      ppc = x;
+      pc = c .flow .pc;
+      vbr = c .flow .vbr;
+      ir = c .flow .ir;
+      fpiar = c .flow .fpiar;
+      «cpu_type» = c .flow .«cpu_type»;
+      «run_mode» = c .flow .«run_mode»;
+      stopped = c .flow .stopped;
+      «exception_processing» = c .flow .«exception_processing»;
+      «change_of_flow» = c .flow .«change_of_flow»;
+      «loop_mode» = c .flow .«loop_mode»;
+      «cycles_remaining» = c .flow .«cycles_remaining»;
+    })
+
 abbrev pub withPc : Cpu → ℕ → Cpu
 withPc c x =
     withFlow c

@@ -3,7 +3,7 @@ use crate::Cpu;
 use crate::OptionalCode;
 use crate::OptionalVector;
 ghost use mathlib.Core.Path.{_≡_};
-ghost use Rattle.cpu.specs.Fields.{kindOf, ppcOf, irOf, a7Of, addressOf, wdataOf, hasFcOverride, fcOverrideOf, setA7, setPc, rewindPc, noteFpiar, halted, setException, clearStopped, leaveStop, restoreRegisters, setWdata, clearCause, clearFcOverride, startVector, lowerA7, minus32};
+ghost use Rattle.cpu.specs.Fields.{kindOf, ppcOf, irOf, a7Of, addressOf, wdataOf, hasFcOverride, fcOverrideOf, setA7, setPc, setPpc, rewindPc, noteFpiar, halted, setException, clearStopped, leaveStop, restoreRegisters, setWdata, clearCause, clearFcOverride, startVector, lowerA7, minus32};
 
 // the kind of processor
 pub fn kind(c: Cpu) -> u8
@@ -84,6 +84,17 @@ pub fn set_pc(c: Cpu, v: u32) -> Cpu
 {
     let mut flow = c.flow;
     flow.pc = v;
+    let mut d = c;
+    d.flow = flow;
+    d
+}
+
+// PPC is v
+pub fn set_ppc(c: Cpu, v: u32) -> Cpu
+    ensures { λ r. ⌜ r ≡ setPpc c v ⌝ }
+{
+    let mut flow = c.flow;
+    flow.ppc = v;
     let mut d = c;
     d.flow = flow;
     d

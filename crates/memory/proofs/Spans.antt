@@ -4,11 +4,13 @@ use mathlib.Core.Path.{_≡_, refl, ap}
 use mathlib.Core.Bool.{Bool, true, false}
 use native.Mathlib.Omega.{arith}
 use lib.Dec.{ltb, leb}
-use lib.ListN.{getD}
 use borrow.Author.Tests.{eq-eqb, ne-eqb, lt-ltb, le-ltb, ltb-false, leb-true}
 use Rattle.types.specs.Kinds.{pick}
 use Rattle.memory.specs.declared.Bus.{Bus}
-use Rattle.memory.specs.World.{World, Attempt, tried, tryWrite, rawWrite, widthOf}
+use mathlib.Core.List.{List}
+use lib.ListN.{getD, length}
+use Rattle.memory.specs.Bytes.{putLong}
+use Rattle.memory.specs.World.{World, Attempt, tried, tryWrite, rawWrite, widthOf, pokeLong}
 use Rattle.memory.specs.Served.{meets, inStore, servedOf, clearOf, windowsInUse, placeOf}
 
 pub window-empty : (b : Bus) (k a n z : ℕ) → z ≡ getD (b .lengths) k 0 → z ≡ 0 → false ≡ meets b k a n
@@ -49,3 +51,12 @@ module _ (b : Bus) (len a n p : ℕ) (g t : Bool) (h0 : n ≡ widthOf g) (h1 : t
 pub raw-of-try : (w x : World) (a v : ℕ) (g k : Bool) → tried x k ≡ tryWrite w a g v → x ≡ rawWrite w a g v
 unfolding tryWrite
 raw-of-try w x a v g k h = ap (λ (y : Attempt). y .after) h
+
+-- a long that is served is laid at its place; one that is not changes nothing
+pub poked : (b : Bus) (s s' : List ℕ) (a v p : ℕ) (t : Bool) → t ≡ servedOf b (length s) a 4 → t ≡ true → p ≡ placeOf b a → s' ≡ putLong s p v → (true ≡ servedOf b (length s) a 4) × (s' ≡ pokeLong b s a v)
+unfolding pokeLong
+poked b s s' a v p t h0 h1 h2 h3 = rw (← h0, h1, h3, h2) (refl, refl)
+
+pub not-poked : (b : Bus) (s : List ℕ) (a v : ℕ) (t : Bool) → t ≡ servedOf b (length s) a 4 → t ≡ false → (false ≡ servedOf b (length s) a 4) × (s ≡ pokeLong b s a v)
+unfolding pokeLong
+not-poked b s a v t h0 h1 = rw (← h0, h1) (refl, refl)

@@ -71,6 +71,10 @@ written w a long v = pick long (putLong (w .store) (placeOf (w .core .bus) a) v)
 unfoldable pub fetched : World → ℕ → Bool → ℕ
 fetched w a long = pick long (getLong (w .store) (placeOf (w .core .bus) a)) (getWord (w .store) (placeOf (w .core .bus) a))
 
+-- a long laid into the store of a bus without an event, where it is served
+unfoldable pub pokeLong : Bus → List ℕ → ℕ → ℕ → List ℕ
+pokeLong b s a v = pick (servedOf b (length s) a 4) (putLong s (placeOf b a) v) s
+
 -- a raw write: stored and logged where it is served, else logged with 16 more, and it goes on
 unfoldable pub rawWrite : World → ℕ → Bool → ℕ → World
 rawWrite w a long v = pick (served w a long) (noted (stored w (written w a long v)) (pick long 4 3) a v) (noted w (pick long 20 19) a v)

@@ -8,7 +8,9 @@ mod log; // one event at its place of the log
 pub mod windows; // whether an access is served
 
 ghost use mathlib.Core.Path.{_≡_};
-ghost use Rattle.memory.specs.World.{world, tried, reply, tryWrite, tryRead, rawWrite, flush, release, acknowledged, noted, putCpu, widthOf, responseOf};
+ghost use Rattle.memory.specs.World.{world, tried, reply, tryWrite, tryRead, rawWrite, flush, release, acknowledged, noted, putCpu, widthOf, responseOf, pokeLong};
+ghost use Rattle.memory.specs.Served.{servedOf};
+ghost use lib.ListN.{length};
 ghost use mathlib.Core.Bool.{true};
 ghost use Rattle.memory.specs.Log.{counted};
 
@@ -88,6 +90,17 @@ pub fn width(long: bool) -> u32
         return 4;
     }
     2
+}
+
+// A long laid into the store without an event, where it is served: what is there before a program runs. Says whether it is.
+pub fn poke_long(b: Bus, store: &mut [u8], address: u32, value: u32) -> bool
+    ensures { λ r. ⌜ (r ≡ servedOf b (length (now (store .entry))) address 4) × (now (store .exit) ≡ pokeLong b (now (store .entry)) address value) ⌝ }
+{
+    if windows::is_served(b, store.len(), address, 4) {
+        bytes::put_long(store, windows::place(b, address), value);
+        return true;
+    }
+    false
 }
 
 // A guarded write: stored and logged where it is served, else logged with 16 more.
