@@ -28,7 +28,8 @@ use Rattle.entered.specs.Paper.{paper, paperTakes}
 use Rattle.entered.specs.Entered.{errorCall}
 use Rattle.entered.specs.Machines.{Room, enterBy, takesBy, CleanCall}
 use Rattle.instances.specs.Computed.{computed}
-use Rattle.rule3.specs.Rows.{rowsFrom, told}
+use Rattle.unwind.specs.Rows.{rowsFrom}
+use Rattle.rule3.specs.Rows.{told}
 use Rattle.rule3.specs.Rule3.{giveBack, walk}
 
 unfoldable pub nested : Cpu → Room → Returned Cpu
