@@ -1,0 +1,4 @@
+pub mod Ways
+pub mod Walks
+pub mod Lines
+pub mod Acts
