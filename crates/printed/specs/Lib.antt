@@ -1,0 +1,9 @@
+pub mod Steps
+pub mod Follows
+pub mod Told
+pub mod Lines
+pub mod Bytes
+pub mod Texts
+pub mod Computed
+pub mod Worked
+pub mod Example
