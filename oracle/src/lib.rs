@@ -3,6 +3,7 @@
 //! `parse` reads a case, `run` answers it, `format` writes the answer. `core` is the lifted text;
 //! the rest is written from the project's papers.
 
+pub mod against;
 pub mod bus;
 pub mod calls;
 pub mod case;
@@ -12,8 +13,11 @@ pub mod measure;
 pub mod nest;
 pub mod record;
 pub mod rng;
+pub mod session;
+pub mod sessions;
 pub mod stubs;
 pub mod text;
+pub mod transcript;
 pub mod unwind;
 
 pub use calls::run;

@@ -2,13 +2,16 @@
 
 use oracle::rng::Rng;
 use oracle::text::changed;
-use oracle::{Case, Record, format, format_case, generate, leaf, nest, parse, run};
+use oracle::{
+    Case, Record, against, format, format_case, generate, leaf, nest, parse, run, session,
+    sessions, transcript,
+};
 use std::collections::BTreeMap;
 use std::io::{BufRead, BufReader, BufWriter, Read, Write};
 use std::process::ExitCode;
 
 const USAGE: &str = "usage: oracle gen SEED COUNT | nests SEED COUNT | run | replay FILE|- | replay --first FILE|- \
-                     | cover SEED COUNT | tables";
+                     | cover SEED COUNT | tables | session | transcript FILE | sessions FILE SEED COUNT | against PROGRAM SEED COUNT";
 
 fn main() -> ExitCode {
     // The Rust prints on address errors where this is set. No other thread runs yet.
@@ -23,6 +26,10 @@ fn main() -> ExitCode {
         ["replay", file] => replay(file, false),
         ["replay", "--first", file] => replay(file, true),
         ["tables"] => tables(),
+        ["session"] => play(),
+        ["sessions", file, seed, count] => numbers(seed, count, |s, n| recorded(file, s, n)),
+        ["transcript", file] => transcript(file),
+        ["against", program, seed, count] => numbers(seed, count, |s, n| against(program, s, n)),
         _ => Err(USAGE.into()),
     };
     match done {
@@ -101,6 +108,52 @@ fn answers() -> Done {
     }
     out.flush().map_err(text)?;
     Ok(true)
+}
+
+/// The session program. An output that is closed ends it quietly.
+fn play() -> Done {
+    match session::play(std::io::stdin().lock(), std::io::stdout().lock()) {
+        Err(e) if e.kind() != std::io::ErrorKind::BrokenPipe => Err(format!("session: {e}")),
+        _ => Ok(true),
+    }
+}
+
+fn file_text(file: &str) -> Result<String, String> {
+    std::fs::read_to_string(file).map_err(|e| format!("{file}: {e}"))
+}
+
+/// The input of a transcript, then COUNT random sessions; the last line has no feed.
+fn recorded(file: &str, seed: u64, count: u64) -> Done {
+    let mut input = transcript::input(&file_text(file)?)?;
+    input.extend(sessions::list(&mut Rng::new(seed), count));
+    input.extend_from_slice(b"ret");
+    std::io::stdout().write_all(&input).map_err(text)?;
+    Ok(true)
+}
+
+/// A transcript with the answers of this build.
+fn transcript(file: &str) -> Done {
+    print!("{}", transcript::answered(&file_text(file)?)?);
+    Ok(true)
+}
+
+/// Another session program on COUNT random sessions.
+fn against(program: &str, seed: u64, count: u64) -> Done {
+    let tally = against::compare(program, seed, count, true)?;
+    if tally.sessions == 0 {
+        return Err("sessions: nothing was compared".into());
+    }
+    println!(
+        "{} batches, {} of them in pieces too; {} lines",
+        tally.batches, tally.cut, tally.lines
+    );
+    println!("answers: {}, refused (number count): {:?}", tally.answers, tally.refused);
+    let (sessions, differences) = (tally.sessions, tally.differences);
+    if differences > 0 {
+        println!("first difference: {}", tally.first);
+    }
+    println!("sessions: {sessions} sessions, {differences} differences, seed {seed}");
+    Ok(differences == 0)
 }
 
 /// Compares recorded answers with those of this build; all of them, or up to the first difference.
