@@ -21,7 +21,7 @@ if ! cargo build -q --release --offline --manifest-path "$here/Cargo.toml"; then
     echo "host: error: the build failed"
     exit 1
 fi
-echo "host: built target/host/release/cases and compare"
+echo "host: built target/host/release/cases, compare and show"
 [ "$1" = test ] || exit 0
 
 if ! cargo test -q --release --offline --manifest-path "$here/Cargo.toml"; then

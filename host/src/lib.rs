@@ -4,7 +4,8 @@
 //! crate has the types, the conversions and the places where the library is called. [`call`]
 //! performs a call on a [`Record`] and a [`Bus`]; [`return_from`] and [`walk`] read the frames that
 //! entries left; [`leaf`] has small functions on the record alone; [`cases`] answers test cases in
-//! text; [`measure`] makes one call over and over.
+//! text; [`measure`] makes one call over and over; [`session`] plays sessions, [`stack`] finds their
+//! frames, [`view`] shows them in the words of [`words`].
 //!
 //! ```
 //! use m68k_host::{Record, leaf};
@@ -25,7 +26,11 @@ pub mod leaf;
 pub mod measure;
 mod mirror;
 mod record;
+pub mod session;
+pub mod stack;
 mod unwind;
+pub mod view;
+pub mod words;
 
 pub use bus::{Bus, Window};
 pub use call::{Answer, Call, Refusal, call};
