@@ -2,8 +2,9 @@
 """crossings.py [--most N]: counts how often one call crosses crates; with --most exit status 1 where it is more than N times.
 
 Walks the source (crates/*/src) from `m68k_call` on the input of a recorded example, TRAP #15 on a 68010, and counts the calls from a
-function of one crate to a function of another, `std` among them. Prints the number, then a table by pair of crates. The answer, the log
-and the store must come out as the example says, else it prints no number and the exit status is 1.
+function of one crate to a function of another. Calls of `std`, the toolchain's wrapping functions, are counted apart. Prints both numbers,
+then a table by pair of crates. The answer, the log and the store must come out as the example says, else it prints no number and the exit
+status is 1.
 
 Each function that is reached is translated to Python and run. The translation knows the part of Rattle that the port uses; anything else
 is an error. That no number leaves its type is proved, so casts and overflow need nothing here.
@@ -32,7 +33,10 @@ WORD = re.compile(r"\s+|//[^\n]*|(\d\w*|[A-Za-z_]\w*(?:::\w+)*|\.len\(\)|=>|==|!
 LEVELS = ("||",), ("&&",), ("==", "!=", "<", "<=", ">", ">="), ("+", "-"), ("*", "/", "%")  # the loosest first
 PYTHON = {"||": "or", "&&": "and", "/": "//", "!": "not"}  # where Python writes an operator otherwise
 NUMBERS = ("u8", "u16", "u32", "u64", "usize")
-STD = {"std::num::wrapping_add_u32": lambda a, b: (a + b) % 2**32}
+STD = {
+    "std::num::wrapping_add_u32": lambda a, b: (a + b) % 2**32,
+    "std::num::wrapping_sub_u32": lambda a, b: (a - b) % 2**32,
+}
 
 Variant = collections.namedtuple("Variant", "name fields")
 
@@ -338,8 +342,8 @@ def main():
         counted = crossings()
     except Bad as error:
         sys.exit(f"crossings: {error}")
-    total = sum(counted.values())
-    print(f"crossings {total}\n\n| From | To | Crossings |\n|---|---|---|")
+    total = sum(count for (_, called), count in counted.items() if called != "std")
+    print(f"crossings {total}, and {sum(counted.values()) - total} calls of std\n\n| From | To | Crossings |\n|---|---|---|")
     for (caller, called), count in sorted(counted.items(), key=lambda row: (-row[1], row[0])):
         print(f"| {caller} | {called} | {count} |")
     if most is not None and total > most:

@@ -21,8 +21,8 @@ pub fn internal_cycles(c: Cpu, n: u32) -> Cpu
     ensures { λ r. ⌜ r ≡ internalCycles c n ⌝ }
 {
     if prefetch_enabled(c) {
-        let total = c.queue.pending_sync_clocks as u64 + n as u64;
-        return set_clocks(c, (total % 0x100000000) as u32);
+        let total = std::num::wrapping_add_u32(c.queue.pending_sync_clocks, n);
+        return set_clocks(c, total);
     }
     c
 }

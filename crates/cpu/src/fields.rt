@@ -251,6 +251,5 @@ pub fn lower_a7(c: Cpu, n: u32) -> Cpu
 pub fn minus(a: u32, n: u32) -> u32
     ensures { λ r. ⌜ r ≡ minus32 a n ⌝ }
 {
-    let far = a as u64 + 0x100000000 - n as u64;
-    (far % 0x100000000) as u32
+    std::num::wrapping_sub_u32(a, n)
 }

@@ -4,24 +4,20 @@ use Rattle.cpu.specs.Clocks.{internalCycles}
 use borrow.Author.Needs.{needs}
 use Rattle.cpu.proofs.clocks.internal_cycles.Statement.{statement}
 use Rattle.cpu.proofs.clocks.internal_cycles.Tie as tie
+use Rattle.cpu.proofs.clocks.internal_cycles.Reads as reads
+use Rattle.cpu.proofs.clocks.internal_cycles.Lts as lts
 
 prefetch-enabled-requires : tie.Need-prefetch-enabled-requires
 prefetch-enabled-requires c κs = search needs
 
-cast-total : tie.Need-cast-total
-cast-total c = search needs
-
-add-total : tie.Need-add-total
-add-total c = search needs
-
-cast-set-clocks : tie.Need-cast-set-clocks
-cast-set-clocks c = search needs
+wrapping-add-u32-requires : tie.Need-wrapping-add-u32-requires
+wrapping-add-u32-requires c κs = search needs
 
 set-clocks-requires : tie.Need-set-clocks-requires
 set-clocks-requires c κs = search needs
 
 returns : tie.Need-returns
-returns c = cycles-added _ _ _ _ (c .before .before .before .prefetch-enabled .ensures) (c .before .before .if1 .taken) (c .set-clocks .ensures)
+returns c = cycles-added _ _ _ _ _ (c .before .before .before .prefetch-enabled .ensures) (c .before .before .if1 .taken) (c .before .wrapping-add-u32 .ensures) (c .set-clocks .ensures)
 
 returns-2 : tie.Need-returns-2
 unfolding internalCycles
@@ -32,9 +28,7 @@ internal-cycles-spec =
     tie.close
     (tie.spec
     prefetch-enabled-requires
-    cast-total
-    add-total
-    cast-set-clocks
+    wrapping-add-u32-requires
     set-clocks-requires
     returns
     returns-2)

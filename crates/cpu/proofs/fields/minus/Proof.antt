@@ -1,20 +1,15 @@
-use Rattle.cpu.specs.Fields.{minus32}
+use Rattle.cpu.proofs.Ways.{wrapped-back}
 use borrow.Author.Needs.{needs}
 use Rattle.cpu.proofs.fields.minus.Statement.{statement}
 use Rattle.cpu.proofs.fields.minus.Tie as tie
+use Rattle.cpu.proofs.fields.minus.Reads as reads
+use Rattle.cpu.proofs.fields.minus.Lts as lts
 
-add-far : tie.Need-add-far
-add-far c = search needs
-
-sub-far : tie.Need-sub-far
-sub-far c = search needs
-
-cast-result : tie.Need-cast-result
-cast-result c = search needs
+wrapping-sub-u32-requires : tie.Need-wrapping-sub-u32-requires
+wrapping-sub-u32-requires c κs = search needs
 
 returns : tie.Need-returns
-unfolding minus32
-returns c = search needs
+returns c = wrapped-back _ _ _ (search needs) (search needs) (c .wrapping-sub-u32 .ensures)
 
 pub minus-spec : {M : Type 1} → statement M
-minus-spec = tie.close (tie.spec add-far sub-far cast-result returns)
+minus-spec = tie.close (tie.spec wrapping-sub-u32-requires returns)
