@@ -14,7 +14,7 @@ use Rattle.lines.specs.declared.Command.the-variants.{Walk}
 use Rattle.lines.specs.Numbers.{digitOf, reading, numberOf}
 use Rattle.lines.specs.Commands.{walkName, startsWith, walkIn, wordIn, commandOf}
 use Rattle.prints.specs.Prints.{decimalOf}
-use Rattle.sessions.specs.Printed.{before, linesOf}
+use Rattle.sessions.specs.Printed.{inFront, linesOf}
 
 -- ---- lines in bytes
 
@@ -51,17 +51,17 @@ record HasLine (ls : List (List ℕ)) : Type 0 where
   is : ls ≡ first ∷ others
 
 has-line : (bs : List ℕ) → HasLine (linesOf (withFeed bs))
-unfolding linesOf before
+unfolding linesOf inFront
 has-line [] = record { first = []; others = []; is = refl }
 has-line (b ∷ bs) = go (has-line bs) (eqb b 10)
   where
-    go : HasLine (linesOf (withFeed bs)) → (t : Bool) → HasLine (pick t ([] ∷ linesOf (withFeed bs)) (before b (linesOf (withFeed bs))))
+    go : HasLine (linesOf (withFeed bs)) → (t : Bool) → HasLine (pick t ([] ∷ linesOf (withFeed bs)) (inFront b (linesOf (withFeed bs))))
     go h true = record { first = []; others = linesOf (withFeed bs); is = refl }
-    go h false = record { first = b ∷ h .first; others = h .others; is = ap (before b) (h .is) }
+    go h false = record { first = b ∷ h .first; others = h .others; is = ap (inFront b) (h .is) }
 
-before-append : (b : ℕ) (ls ms : List (List ℕ)) → HasLine ls → before b (ls ++ ms) ≡ before b ls ++ ms
-unfolding before
-before-append b ls ms h = rw (h .is)
+in-front-append : (b : ℕ) (ls ms : List (List ℕ)) → HasLine ls → inFront b (ls ++ ms) ≡ inFront b ls ++ ms
+unfolding inFront
+in-front-append b ls ms h = rw (h .is)
 
 -- the lines of an input that ends with a line feed and of what follows it
 pub lines-append : (bs cs : List ℕ) → linesOf (withFeed bs ++ cs) ≡ linesOf (withFeed bs) ++ linesOf cs
@@ -70,19 +70,19 @@ lines-append [] cs = refl
 lines-append (b ∷ bs) cs = go (lines-append bs cs) (eqb b 10)
   where
     go : linesOf (withFeed bs ++ cs) ≡ linesOf (withFeed bs) ++ linesOf cs → (t : Bool)
-        → pick t ([] ∷ linesOf (withFeed bs ++ cs)) (before b (linesOf (withFeed bs ++ cs))) ≡ pick t ([] ∷ linesOf (withFeed bs)) (before b (linesOf (withFeed bs))) ++ linesOf cs
+        → pick t ([] ∷ linesOf (withFeed bs ++ cs)) (inFront b (linesOf (withFeed bs ++ cs))) ≡ pick t ([] ∷ linesOf (withFeed bs)) (inFront b (linesOf (withFeed bs))) ++ linesOf cs
     go h true = ap (λ (ls : List (List ℕ)). [] ∷ ls) h
-    go h false = ap (before b) h ∙ before-append b (linesOf (withFeed bs)) (linesOf cs) (has-line bs)
+    go h false = ap (inFront b) h ∙ in-front-append b (linesOf (withFeed bs)) (linesOf cs) (has-line bs)
 
 -- a line without a line feed is the first line
 line-first : (l : List ℕ) → feedless l ≡ true → linesOf (withFeed l) ≡ l ∷ []
-unfolding linesOf before
+unfolding linesOf inFront
 line-first [] = λ e. refl
 line-first (b ∷ l) = go (line-first l) (eqb b 10)
   where
-    go : (feedless l ≡ true → linesOf (withFeed l) ≡ l ∷ []) → (t : Bool) → pick t false (feedless l) ≡ true → pick t ([] ∷ linesOf (withFeed l)) (before b (linesOf (withFeed l))) ≡ (b ∷ l) ∷ []
+    go : (feedless l ≡ true → linesOf (withFeed l) ≡ l ∷ []) → (t : Bool) → pick t false (feedless l) ≡ true → pick t ([] ∷ linesOf (withFeed l)) (inFront b (linesOf (withFeed l))) ≡ (b ∷ l) ∷ []
     go h true e = none-of e
-    go h false e = ap (before b) (h e)
+    go h false e = ap (inFront b) (h e)
 
 -- lines without line feeds come back from their bytes
 pub lines-text : (ls : List (List ℕ)) → allFeedless ls ≡ true → linesOf (text ls) ≡ ls

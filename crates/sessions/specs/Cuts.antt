@@ -17,7 +17,7 @@ use Rattle.lines.specs.Commands.{commandOf, wordIn}
 use Rattle.prints.specs.Prints.{more}
 use Rattle.prints.specs.Laws.{more-none}
 use Rattle.sessions.specs.Sessions.{Session, session, say, freshCore, cleared, entered, interrupted, returned, act, step}
-use Rattle.sessions.specs.Printed.{before, linesOf, steps, started, printed}
+use Rattle.sessions.specs.Printed.{inFront, linesOf, steps, started, printed}
 use Rattle.sessions.specs.Input.{Under, under, kept, take1, takeAll, finished}
 
 -- ---- cuts
@@ -146,57 +146,57 @@ kept-take l b = go (ltb (length l) 81) refl
         let h : 81 ≤ length l = ltb-false (length l) 81 e in
         rw (length-take-le 81 l h, take-append-le 81 l (b ∷ []) h)
 
--- bytes before the first line
-unfoldable pub allBefore : List ℕ → List (List ℕ) → List (List ℕ)
-allBefore [] ls = ls
-allBefore (b ∷ l) ls = before b (allBefore l ls)
+-- bytes in front of the first line
+unfoldable pub allInFront : List ℕ → List (List ℕ) → List (List ℕ)
+allInFront [] ls = ls
+allInFront (b ∷ l) ls = inFront b (allInFront l ls)
 
-before-feed : (l : List ℕ) (ls : List (List ℕ)) → allBefore l ([] ∷ ls) ≡ l ∷ ls
-unfolding allBefore before
-before-feed [] ls = refl
-before-feed (b ∷ l) ls = ap (λ (ms : List (List ℕ)). before b ms) (before-feed l ls)
+in-front-feed : (l : List ℕ) (ls : List (List ℕ)) → allInFront l ([] ∷ ls) ≡ l ∷ ls
+unfolding allInFront inFront
+in-front-feed [] ls = refl
+in-front-feed (b ∷ l) ls = ap (λ (ms : List (List ℕ)). inFront b ms) (in-front-feed l ls)
 
-before-byte : (l : List ℕ) (b : ℕ) (ls : List (List ℕ)) → allBefore (l ++ (b ∷ [])) ls ≡ allBefore l (before b ls)
-unfolding allBefore
-before-byte [] b ls = refl
-before-byte (a ∷ l) b ls = ap (λ (ms : List (List ℕ)). before a ms) (before-byte l b ls)
+in-front-byte : (l : List ℕ) (b : ℕ) (ls : List (List ℕ)) → allInFront (l ++ (b ∷ [])) ls ≡ allInFront l (inFront b ls)
+unfolding allInFront
+in-front-byte [] b ls = refl
+in-front-byte (a ∷ l) b ls = ap (λ (ms : List (List ℕ)). inFront a ms) (in-front-byte l b ls)
 
-before-end : (a : ℕ) (l : List ℕ) → allBefore (a ∷ l) [] ≡ (a ∷ l) ∷ []
-unfolding allBefore before
-before-end a [] = refl
-before-end a (b ∷ l) = ap (λ (ms : List (List ℕ)). before a ms) (before-end b l)
+in-front-end : (a : ℕ) (l : List ℕ) → allInFront (a ∷ l) [] ≡ (a ∷ l) ∷ []
+unfolding allInFront inFront
+in-front-end a [] = refl
+in-front-end a (b ∷ l) = ap (λ (ms : List (List ℕ)). inFront a ms) (in-front-end b l)
 
 -- the end of the input ends a line that has bytes
 finished-line : (s : Session) (a : ℕ) (l : List ℕ) → finished (under s (a ∷ l)) ≡ step s (a ∷ l)
 unfolding finished
 finished-line s a l = ap (λ (t : Bool). pick t s (step s (a ∷ l))) (ne-eqb (suc (length l)) 0 (λ e. omega arith))
 
-end-line : (s : Session) (l : List ℕ) → finished (under s (take 81 l)) ≡ steps s (allBefore l [])
-unfolding finished steps allBefore
+end-line : (s : Session) (l : List ℕ) → finished (under s (take 81 l)) ≡ steps s (allInFront l [])
+unfolding finished steps allInFront
 end-line s [] = refl
-end-line s (a ∷ l) = finished-line s a (take 80 l) ∙ step-kept s (a ∷ l) ∙ ap (λ (ls : List (List ℕ)). steps s ls) (sym (before-end a l))
+end-line s (a ∷ l) = finished-line s a (take 80 l) ∙ step-kept s (a ∷ l) ∙ ap (λ (ls : List (List ℕ)). steps s ls) (sym (in-front-end a l))
 
 -- a session in the middle of the line l goes on as one that has l before the lines that come
-pub lines-under : (s : Session) (l bs : List ℕ) → finished (takeAll (under s (take 81 l)) bs) ≡ steps s (allBefore l (linesOf bs))
-unfolding takeAll take1 linesOf steps allBefore
+pub lines-under : (s : Session) (l bs : List ℕ) → finished (takeAll (under s (take 81 l)) bs) ≡ steps s (allInFront l (linesOf bs))
+unfolding takeAll take1 linesOf steps allInFront
 lines-under s l [] = end-line s l
 lines-under s l (b ∷ bs) = go (eqb b 10) (lines-under (step s l) [] bs) (lines-under s (l ++ (b ∷ [])) bs)
   where
     go : (t : Bool) →
         finished (takeAll (under (step s l) []) bs) ≡ steps (step s l) (linesOf bs) →
-        finished (takeAll (under s (take 81 (l ++ (b ∷ [])))) bs) ≡ steps s (allBefore (l ++ (b ∷ [])) (linesOf bs)) →
+        finished (takeAll (under s (take 81 (l ++ (b ∷ [])))) bs) ≡ steps s (allInFront (l ++ (b ∷ [])) (linesOf bs)) →
         finished (takeAll (pick t (under (step s (take 81 l)) []) (under s (kept (take 81 l) b))) bs)
-        ≡ steps s (allBefore l (pick t ([] ∷ linesOf bs) (before b (linesOf bs))))
+        ≡ steps s (allInFront l (pick t ([] ∷ linesOf bs) (inFront b (linesOf bs))))
     go true f g =
         ap (λ (r : Session). finished (takeAll (under r []) bs)) (step-kept s l) ∙ f
-        ∙ ap (λ (ls : List (List ℕ)). steps s ls) (sym (before-feed l (linesOf bs)))
+        ∙ ap (λ (ls : List (List ℕ)). steps s ls) (sym (in-front-feed l (linesOf bs)))
     go false f g =
         ap (λ (k : List ℕ). finished (takeAll (under s k) bs)) (kept-take l b) ∙ g
-        ∙ ap (λ (ls : List (List ℕ)). steps s ls) (before-byte l b (linesOf bs))
+        ∙ ap (λ (ls : List (List ℕ)). steps s ls) (in-front-byte l b (linesOf bs))
 
 -- the bytes of an input, one at a time, print what its lines print
 pub by-lines : (input : List ℕ) → finished (takeAll (under started []) input) .printed ≡ printed input
-unfolding printed allBefore
+unfolding printed allInFront
 by-lines input = ap (λ (s : Session). s .printed) (lines-under started [] input)
 
 -- ---- reads

@@ -42,7 +42,7 @@ use Rattle.lines.specs.Commands.{commandOf}
 use Rattle.prints.specs.Prints.{more}
 use Rattle.prints.specs.Laws.{more-none}
 use Rattle.sessions.specs.Sessions.{Session, session, say, freshCore, cleared, answerTold, entered, interrupted, returned, act, step as line}
-use Rattle.sessions.specs.Printed.{before, linesOf, steps, started, printed}
+use Rattle.sessions.specs.Printed.{inFront, linesOf, steps, started, printed}
 use Rattle.sessions.specs.Cuts.{steps-onto}
 
 -- ---- runs that differ in the log
@@ -642,15 +642,15 @@ kind-anew bs k l ls e =
 
 -- what a line feed ends, before whatever comes
 lines-ended : (xs : List ℕ) → (m : List ℕ) × (ms : List (List ℕ)) × ((ys : List ℕ) → linesOf (xs ++ (10 ∷ ys)) ≡ (m ∷ ms) ++ linesOf ys)
-unfolding linesOf before
+unfolding linesOf inFront
 lines-ended [] = ([], [], λ ys. refl)
 lines-ended (b ∷ xs) = go (eqb b 10) (lines-ended xs)
   where
     go : (t : Bool) → (m : List ℕ) × (ms : List (List ℕ)) × ((ys : List ℕ) → linesOf (xs ++ (10 ∷ ys)) ≡ (m ∷ ms) ++ linesOf ys) →
         (m : List ℕ) × (ms : List (List ℕ))
-        × ((ys : List ℕ) → pick t ([] ∷ linesOf (xs ++ (10 ∷ ys))) (before b (linesOf (xs ++ (10 ∷ ys)))) ≡ (m ∷ ms) ++ linesOf ys)
+        × ((ys : List ℕ) → pick t ([] ∷ linesOf (xs ++ (10 ∷ ys))) (inFront b (linesOf (xs ++ (10 ∷ ys)))) ≡ (m ∷ ms) ++ linesOf ys)
     go true (m, ms, h) = ([], m ∷ ms, λ ys. ap (λ (ls : List (List ℕ)). [] ∷ ls) (h ys))
-    go false (m, ms, h) = (b ∷ m, ms, λ ys. ap (λ (ls : List (List ℕ)). before b ls) (h ys))
+    go false (m, ms, h) = (b ∷ m, ms, λ ys. ap (λ (ls : List (List ℕ)). inFront b ls) (h ys))
 
 lines-split : (xs ys : List ℕ) → linesOf (xs ++ (10 ∷ ys)) ≡ linesOf (xs ++ (10 ∷ [])) ++ linesOf ys
 unfolding linesOf

@@ -7,15 +7,15 @@ use Rattle.types.specs.Kinds.{pick}
 use Rattle.memory.specs.World.{world}
 use Rattle.sessions.specs.Sessions.{Session, session, freshCore, step}
 
--- a byte before the first line
-unfoldable pub before : ℕ → List (List ℕ) → List (List ℕ)
-before b [] = (b ∷ []) ∷ []
-before b (l ∷ ls) = (b ∷ l) ∷ ls
+-- a byte in front of the first line
+unfoldable pub inFront : ℕ → List (List ℕ) → List (List ℕ)
+inFront b [] = (b ∷ []) ∷ []
+inFront b (l ∷ ls) = (b ∷ l) ∷ ls
 
 -- "A line ends with a line feed, not counted in its bytes, or with the input": the lines of the input; of 0 bytes there are none
 unfoldable pub linesOf : List ℕ → List (List ℕ)
 linesOf [] = []
-linesOf (b ∷ bs) = pick (eqb b 10) ([] ∷ linesOf bs) (before b (linesOf bs))
+linesOf (b ∷ bs) = pick (eqb b 10) ([] ∷ linesOf bs) (inFront b (linesOf bs))
 
 -- "The session goes on": one line after the other
 unfoldable pub steps : Session → List (List ℕ) → Session
