@@ -24,7 +24,7 @@ use Rattle.bounds.specs.Skeleton.{pick-one}
 use Rattle.bounds.specs.ErrorFrames.{busWrites, addressWrites}
 use Rattle.bounds.specs.Levels.{Domain, clash}
 use Rattle.bounds.specs.Ledger.{Written}
-use Rattle.bounds.specs.Events.{guardCost, underCost, guardCost-most, addressCost-most, bus-most, queue-most, few-more, none, guardRead-events, guardWrite-events, pushed-events, prefetchFirst-events, prefetchSecond-events, entryBus-events, entryAddress-events, bus-events, address-events}
+use Rattle.bounds.specs.Events.{guardCost, guardCost-most, addressCost-most, bus-most, queue-most, few-more, none, guardRead-events, guardWrite-events, pushed-events, prefetchFirst-events, prefetchSecond-events, entryBus-events, entryAddress-events, bus-events, address-events}
 use Rattle.refusals.specs.Refusals.{shortLog, badKind, testsOf}
 use Rattle.refusals.specs.Laws.{outcomes}
 use Rattle.calls.specs.declared.Call.{Call}
@@ -32,32 +32,32 @@ use Rattle.calls.specs.declared.Call.the-variants.{TakeException, Trap, TakeGro
 use Rattle.calls.specs.declared.Answer.the-variants.{Cycles, Flag, Refused}
 use Rattle.calls.specs.Matters.{matterOf}
 use Rattle.calls.specs.Calls.{bit, refusedBy, valueOf, countOf, Performed, answered, eventsOf, cycles, flag, plain, ofEntry, ofRead, ofService, ofTrace, run, restarted, begun, refusal, perform}
-use Rattle.promises.specs.Entries.{entryCost, group2Writes, on-written, taken-most, group2-most, takeException-events, takeGroup2-events, exceptionTrace-events, takeFpUnimp060-events, takeFpDisabled060-events, trap-events, takeRewound-events}
+use Rattle.promises.specs.Entries.{entryCost, group2Writes, on-written, group2-most, takeGroup2-events, exceptionTrace-events, takeFpUnimp060-events, takeFpDisabled060-events}
+use Rattle.promises.specs.Taken.{takeException-16, trap-16, takeRewound-16}
 use Rattle.promises.specs.Interrupts.{interrupt-most, checkAndService-events, Due, due-exactly, answer-decides, untaken-unchanged, taken-after}
 use Rattle.promises.specs.Cycles.{takeException-cycles, takeRewound-cycles, trap-cycles}
 use Rattle.promises.specs.Refusals.{holds, refusal-exact, refusal-none, accepted-runs, accepted-domain}
 
 -- ---- events
 
--- no accepted call makes more events than this, on any kind that accepts it; `Sharp` has worlds that make just so many, but for
--- the calls of `take_exception`
+-- no accepted call makes more events than this, on any kind that accepts it; `Sharp` has a world for each call that makes just so many
 unfoldable pub mostEvents : Call → ℕ
-mostEvents (TakeException v) = 22
-mostEvents (Trap n) = 22
+mostEvents (TakeException v) = 16
+mostEvents (Trap n) = 16
 mostEvents (TakeGroup2Exception v) = 37
 mostEvents ExceptionChk = 37
 mostEvents ExceptionZeroDivide = 37
-mostEvents ExceptionPrivilege = 22
+mostEvents ExceptionPrivilege = 16
 mostEvents ExceptionTrace = 37
 mostEvents (ExceptionAddressError a wr i) = 36
 mostEvents (ExceptionBusError a wr i z cause) = 61
 mostEvents (TakeFpUnimp060 ea) = 14
 mostEvents TakeFpDisabled060 = 15
-mostEvents TakeAlineException = 22
-mostEvents TakeFlineException = 22
-mostEvents (TakeTrapException n) = 22
-mostEvents TakeBkptException = 22
-mostEvents TakeIllegalException = 22
+mostEvents TakeAlineException = 16
+mostEvents TakeFlineException = 16
+mostEvents (TakeTrapException n) = 16
+mostEvents TakeBkptException = 16
+mostEvents TakeIllegalException = 16
 mostEvents (TriggerAddressError a wr i) = 36
 mostEvents (TriggerBusError a wr i z) = 31
 mostEvents CheckTrace = 0
@@ -152,9 +152,6 @@ disabled-060 k e = rw e (omega arith)
 
 -- the bounds by kind, as numbers
 module _ (w : World) (s : w .core .bus .events ≡ 0) (d : Domain w) {l : List ℕ} {x : World} where
-  taken-bound : Written (pick (inException (cpuOf w)) 0 (entryCost (kindOf (cpuOf w)) (underCost (kindOf (cpuOf w))) 3)) l x → Written 22 l x
-  taken-bound = few-more (pick-one (λ y. y ≤ 22) (inException (cpuOf w)) (omega arith) (taken-most (kindOf (cpuOf w))))
-
   group2-bound : Written (entryCost (kindOf (cpuOf w)) (guardCost (kindOf (cpuOf w))) (group2Writes (kindOf (cpuOf w)))) l x → Written 37 l x
   group2-bound = few-more (group2-most (kindOf (cpuOf w)))
 
@@ -164,22 +161,22 @@ module _ (w : World) (s : w .core .bus .events ≡ 0) (d : Domain w) {l : List �
 -- a call that runs, from a world without events inside the domain; a floating-point entry on kind 11
 run-events : (c : Call) (w : World) → w .core .bus .events ≡ 0 → Domain w → (matterOf c .floating ≡ true → kindOf (cpuOf w) ≡ 11) → Written (mostEvents c) (w .log) (run w c .after)
 unfolding mostEvents run matterOf ofEntry ofRead ofService ofTrace cycles flag plain
-run-events (TakeException v) w s d k = taken-bound w s d (takeException-events w s d v)
-run-events (Trap n) w s d k = taken-bound w s d (trap-events w s d n)
+run-events (TakeException v) w s d k = takeException-16 w s d v
+run-events (Trap n) w s d k = trap-16 w s d n
 run-events (TakeGroup2Exception v) w s d k = group2-bound w s d (takeGroup2-events w s d v)
 run-events ExceptionChk w s d k = group2-bound w s d (takeGroup2-events w s d 6)
 run-events ExceptionZeroDivide w s d k = group2-bound w s d (takeGroup2-events w s d 5)
-run-events ExceptionPrivilege w s d k = taken-bound w s d (takeException-events w s d 8)
+run-events ExceptionPrivilege w s d k = takeException-16 w s d 8
 run-events ExceptionTrace w s d k = group2-bound w s d (exceptionTrace-events w s d)
 run-events (ExceptionAddressError a wr i) w s d k = few-more (let e = addressCost-most (kindOf (cpuOf w)) in omega arith) (entryAddress-events w s d a wr i)
 run-events (ExceptionBusError a wr i z cause) w s d k = few-more (let e = bus-most (kindOf (cpuOf w)) in omega arith) (entryBus-events w s d a wr i z (causeNumber cause))
 run-events (TakeFpUnimp060 ea) w s d k = few-more (unimp-060 _ (k refl)) (takeFpUnimp060-events w s d ea)
 run-events TakeFpDisabled060 w s d k = few-more (disabled-060 _ (k refl)) (takeFpDisabled060-events w s d)
-run-events TakeAlineException w s d k = taken-bound w s d (takeRewound-events w s d 10)
-run-events TakeFlineException w s d k = taken-bound w s d (takeRewound-events w s d 11)
-run-events (TakeTrapException n) w s d k = taken-bound w s d (trap-events w s d n)
-run-events TakeBkptException w s d k = taken-bound w s d (takeRewound-events w s d 4)
-run-events TakeIllegalException w s d k = taken-bound w s d (takeRewound-events w s d 4)
+run-events TakeAlineException w s d k = takeRewound-16 w s d 10
+run-events TakeFlineException w s d k = takeRewound-16 w s d 11
+run-events (TakeTrapException n) w s d k = trap-16 w s d n
+run-events TakeBkptException w s d k = takeRewound-16 w s d 4
+run-events TakeIllegalException w s d k = takeRewound-16 w s d 4
 run-events (TriggerAddressError a wr i) w s d k = few-more (let e = addressCost-most (kindOf (cpuOf w)) in omega arith) (address-events w s d a wr i)
 run-events (TriggerBusError a wr i z) w s d k = few-more (let e = bus-most (kindOf (cpuOf w)) in omega arith) (bus-events w s d a wr i z)
 run-events CheckTrace w s d k = on-written 0 (w .log) w (checkTrace (cpuOf w) .cpu) (none w s d)
@@ -300,6 +297,10 @@ module _ (w : World) (c : Call) (h : refusal w c ≡ 0) where
       let p : Written (mostEvents c) (w .log) (run (begun w) c .after) = run-events c (begun w) refl (accepted-domain w c h) accepted-060 in
       subst (Told (mostEvents c) (w .log)) (sym (accepted-runs w c h))
       (record { es = p .es; few = p .few; answers = run-count c (begun w) ∙ p .count; count = p .count; log = p .log (room c (length (w .log)) accepted-room) })
+
+  -- as its answer counts them
+  pub events-most : countOf (perform w c .answer) ≤ mostEvents c
+  events-most = let p = events in subst (λ n. n ≤ mostEvents c) (sym (p .answers)) (p .few)
 
   -- so it makes no more than 64
   pub events-64 : Told 64 (w .log) (perform w c)
@@ -440,7 +441,7 @@ module _ (w : World) (h : refusal w CheckAndServiceInterrupts ≡ 0) where
   abbrev X : Performed
   X = perform w CheckAndServiceInterrupts
 
-  performed : X ≡ ofService (checkAndService (begun w))
+  pub performed : X ≡ ofService (checkAndService (begun w))
   unfolding run
   performed = accepted-runs w CheckAndServiceInterrupts h
 
@@ -460,7 +461,7 @@ module _ (w : World) (h : refusal w CheckAndServiceInterrupts ≡ 0) where
       one true e = refl
       one false e = absurd (omega arith)
 
-  decided : (b : Bool) → valueOf (X .answer) ≡ bit b → checkAndService (begun w) .ok ≡ b
+  pub decided : (b : Bool) → valueOf (X .answer) ≡ bit b → checkAndService (begun w) .ok ≡ b
   unfolding valueOf begun restarted
   decided b e = answer-decides (begun w) ∙ same (takesInterrupt (cpuOf w)) b (sym (ap valueOf service-answers) ∙ e)
     where

@@ -1,27 +1,26 @@
 -- THE EVENTS OF AN ENTRY: how many each entry of `exceptions` makes, by the kind, from a world without events inside the domain.
-use Prim.Native.Nat.{ℕ, suc, _+_, _%_, _^_, _≤_, _<_}
+use Prim.Native.Nat.{ℕ, suc, _+_, _^_, _≤_, _<_}
 use mathlib.Core.Path.{_≡_, refl}
 use mathlib.Core.Bool.{Bool, true, false}
 use mathlib.Core.List.{List}
 use native.Mathlib.Omega.{arith}
 use lib.Dec.{eqb}
 use Rattle.types.specs.Kinds.{pick, either, isPre68020, isPrefetchKind, is040, is060}
-use Rattle.types.specs.Tables.{exceptionCycles}
 use Rattle.cpu.specs.declared.Cpu.{Cpu}
-use Rattle.cpu.specs.Fields.{kindOf, vbrOf, pcOf, ppcOf, inException, halted, setException, rewindPc, noteFpiar, leaveStop}
+use Rattle.cpu.specs.Fields.{kindOf, vbrOf, pcOf, ppcOf, inException, noteFpiar, leaveStop}
 use Rattle.status.specs.Status.{getSr}
 use Rattle.cpu.specs.Clocks.{setClocks, internalCycles}
 use Rattle.memory.specs.World.{World, putCpu, cpuOf, withCpu, step}
 use Rattle.frames.specs.Frames.{fieldAt, isCounted}
-use Rattle.steps.specs.Steps.{stackedAddress, beginEntry, beginTrace}
+use Rattle.steps.specs.Steps.{beginTrace}
 use Rattle.access.specs.Access.{raised, jumpVector, pushFrame}
 use Rattle.exceptions.specs.Frames.{formatWord, offsetWord, shortFrame, longFrame, disabledFrame}
-use Rattle.exceptions.specs.Exceptions.{entry, supervised, stackShort, finished, taken, takeException, stackGroup2, takeGroup2, trap, exceptionTrace, takeRewound, stackUnimp, takeFpUnimp060, stackDisabled, takeFpDisabled060}
+use Rattle.exceptions.specs.Exceptions.{supervised, stackShort, stackGroup2, takeGroup2, exceptionTrace, stackUnimp, takeFpUnimp060, stackDisabled, takeFpDisabled060}
 use Rattle.bounds.specs.Skeleton.{Raises, afterFields, refills, pick-one, clocks-ways, pushShort-good, stacked-good, jump-good}
 use Rattle.bounds.specs.ErrorFrames.{busWrites, addressWrites}
-use Rattle.bounds.specs.Levels.{Domain, Kept, Any, Either, Set, inside, under, super-kept}
+use Rattle.bounds.specs.Levels.{Domain, Kept, Any, Either, inside, super-kept}
 use Rattle.bounds.specs.Ledger.{Written, written, start, super-books}
-use Rattle.bounds.specs.Events.{Bill, bill-steps, rate, guardCost, underCost, refills-sum, raises-any, raises-set, none}
+use Rattle.bounds.specs.Events.{Bill, bill-steps, rate, guardCost, refills-sum, raises-any}
 
 -- ---- the steps of an entry, each with its cost
 
@@ -101,18 +100,7 @@ module _ (k : ℕ) (l : List ℕ) where
       let r = refills-sum (isPrefetchKind k) (suc (suc n)) in
       written (refills (isPrefetchKind k) (suc (suc n))) m l (jumpVector raised w v) (omega arith) b (jump-bill k Exc c l T n w v p .1)
 
--- the largest, over all kinds: while an entry is under way
-pub under-most : (k : ℕ) → underCost k + rate k ≤ 16
-unfolding addressWrites isPre68020 isPrefetchKind
-under-most k = go (eqb k 1) (eqb k 2) (eqb k 10) (is040 k)
-  where
-    go : (a b c e : Bool) → pick (either a (either b c)) (pick a 5 (pick (either a (either b c)) 8 (pick e 4 3)) + 2 + pick (either a b) 3 0) 0 + pick (either a b) 3 0 ≤ 16
-    go true b c e = omega arith
-    go false true c e = omega arith
-    go false false true e = omega arith
-    go false false false e = omega arith
-
--- and else
+-- what a guarded access may raise, and the refill: the largest over all kinds
 pub guard-most : (k : ℕ) → guardCost k + rate k ≤ 30
 unfolding busWrites addressWrites isPre68020 isPrefetchKind
 guard-most k = go (eqb k 1) (eqb k 2) (eqb k 10) (is060 k) (is040 k)
@@ -128,32 +116,6 @@ guard-most k = go (eqb k 1) (eqb k 2) (eqb k 10) (is060 k) (is040 k)
 module _ (w : World) (s : w .core .bus .events ≡ 0) (d : Domain w) where
   abbrev K : ℕ
   K = kindOf (cpuOf w)
-
-  -- an entry that is taken: while it is under way a bus fault halts, so an address fault is all that may cost
-  taken-events : (v : ℕ) → Written (entryCost K (underCost K) 3) (w .log) (taken (step beginEntry w) v)
-  unfolding taken finished beginEntry setException putCpu kindOf vbrOf inException
-  taken-events v =
-      let m = under-most K in
-      let c : ℕ = underCost K in
-      let l : List ℕ = w .log in
-      let T = raises-set K l 1 in
-      let x : World = withCpu w (setException (cpuOf w) true) in
-      let y : World = withCpu x (internalCycles (cpuOf x) 4) in
-      let p : Bill K Set c l (suc c) y = clocks-start K Set c x 4 s (record { same = refl; base = d; state = refl }) in
-      let z : World = stackShort y (stackedAddress (cpuOf y) v) (offsetWord v) in
-      on-written (entryCost K c 3) l (jumpVector raised z v) _ (jump-events K l Set c (suc (suc (suc (suc c)))) (entryCost K c 3) z v (omega arith) (omega arith) T (stackShort-bill K Set c l T (suc c) y (stackedAddress (cpuOf y) v) (offsetWord v) p))
-
-  -- `take_exception`: nothing but a halt while an entry is under way
-  pub takeException-events : (v : ℕ) → Written (pick (inException (cpuOf w)) 0 (entryCost K (underCost K) 3)) (w .log) (takeException w v .after)
-  unfolding takeException
-  takeException-events v = go (inException (cpuOf w))
-    where
-      stopped : Written 0 (w .log) (step halted w)
-      stopped = on-written 0 (w .log) w (halted (cpuOf w)) (none w s d)
-
-      go : (b : Bool) → Written (pick b 0 (entryCost K (underCost K) 3)) (w .log) (pick b (entry (step halted w) 0) (entry (taken (step beginEntry w) v) (exceptionCycles v)) .after)
-      go true = stopped
-      go false = taken-events v
 
   -- a group 2 frame and its jump, where the bill at the start is that of a guarded access
   group2-events : (x : World) (v : ℕ) → Bill K Either (guardCost K) (w .log) (suc (guardCost K)) x → Written (entryCost K (guardCost K) (group2Writes K)) (w .log) (takeGroup2 x v .after)
@@ -203,20 +165,7 @@ module _ (w : World) (s : w .core .bus .events ≡ 0) (d : Domain w) where
       let T = raises-any K l 0 in
       jump-events K l Either c (suc (suc (suc (suc (suc (suc c)))))) (entryCost K c 5) (stackDisabled w) 11 (omega arith) (omega arith) T (disabled-bill K Either c l T (suc c) (supervised w) (getSr (cpuOf w)) (ppcOf (cpuOf w)) (formatWord 4 11) 0 (ppcOf (cpuOf w)) (super-bill K Either c l (suc c) w (inside w d, start c w s)))
 
--- `trap` and the wrappers that take PC back are `take_exception`
-module _ (w : World) (s : w .core .bus .events ≡ 0) (d : Domain w) where
-  pub trap-events : (n : ℕ) → Written (pick (inException (cpuOf w)) 0 (entryCost (kindOf (cpuOf w)) (underCost (kindOf (cpuOf w))) 3)) (w .log) (trap w n .after)
-  unfolding trap
-  trap-events n = takeException-events w s d (32 + n % 16)
-
-  pub takeRewound-events : (v : ℕ) → Written (pick (inException (cpuOf w)) 0 (entryCost (kindOf (cpuOf w)) (underCost (kindOf (cpuOf w))) 3)) (w .log) (takeRewound w v .after)
-  unfolding takeRewound rewindPc putCpu kindOf vbrOf inException
-  takeRewound-events v = takeException-events (step rewindPc w) s d v
-
--- THE BOUNDS over all kinds: 22 where the entry is under way while it stacks (kind 2), else 37 and 38 (kinds 0, 3 to 6)
-pub taken-most : (k : ℕ) → entryCost k (underCost k) 3 ≤ 22
-taken-most k = let m = under-most k in omega arith
-
+-- THE BOUNDS over all kinds: 37 and 38 (kinds 0, 3 to 6)
 pub group2-most : (k : ℕ) → entryCost k (guardCost k) (group2Writes k) ≤ 37
 group2-most k = let m = guard-most k in let g : group2Writes k ≤ 4 = pick-one (λ y. y ≤ 4) (isPre68020 k) (omega arith) (omega arith) in omega arith
 

@@ -2,6 +2,10 @@ pub mod Entries
 pub mod Interrupts
 pub mod Cycles
 pub mod Refusals
+pub mod Taken
 pub mod Calls
+pub mod Over
 pub mod Sharp
-pub mod Promises
+pub mod Serviced
+pub mod Levels
+pub mod Charged
