@@ -1,0 +1,210 @@
+-- WHAT IS CLAIMED, in the papers' words, each stated in full. A reader stops here: the proof is the name on the right, and what the words
+-- of a statement mean is in the `specs` of the crate that they are taken from. The contract of the calls is an equation with `perform`, those
+-- of return and walk with `returnFrom` and `walkFrom`, and that of a block of a session's input with `takeAll`, which `answers` is made of.
+use Prim.Native.Nat.{ℕ, _+_, _*_, _%_, _^_, _≤_, _<_}
+use mathlib.Core.Path.{_≡_}
+use mathlib.Core.Bool.{Bool, true, false}
+use mathlib.Core.List.{List, [], _∷_, _++_, flatten}
+use mathlib.Core.Logic.{_⊎_, _↔_}
+use mathlib.Core.Option.{none, some}
+use lib.Dec.{eqb}
+use lib.IntN.{pos, negsuc, _-ℤ_}
+use lib.Signed.{_<ℤ_}
+use lib.ListN.{length, getD, drop, replicate}
+use Rattle.types.specs.Kinds.{pick, maskStatus}
+use Rattle.cpu.specs.declared.Cpu.{Cpu}
+use Rattle.cpu.specs.Fields.{kindOf, vbrOf, ppcOf, inException, isFaulted, hasFcOverride, fcOverrideOf, wdataOf}
+use Rattle.status.specs.Status.{getSr}
+use Rattle.pending.specs.Interrupts.{pendingLevel, maskLevel}
+use Rattle.memory.specs.declared.Core.{Core}
+use Rattle.memory.specs.LogLaws.{Event, spell}
+use Rattle.memory.specs.World.{World, cpuOf, step, readValue}
+use Rattle.frames.specs.Frames.{busFrame, fieldAt, isCounted}
+use Rattle.steps.specs.Steps.{enterBusError}
+use Rattle.access.specs.Access.{Raise, raised, pushFrame, exceptionBusError}
+use Rattle.calls.specs.declared.Call.{Call}
+use Rattle.calls.specs.declared.Call.the-variants.{CheckAndServiceInterrupts}
+use Rattle.calls.specs.declared.Answer.the-variants.{Cycles, Refused}
+use Rattle.calls.specs.Matters.{matterOf}
+use Rattle.calls.specs.Calls.{answered, refusal, perform, begun, eventsOf, valueOf, countOf}
+use Rattle.unwind.specs.Returns.{takeFrame, walkOf}
+use Rattle.unwind.specs.declared.frames.Frame.{Frame as Taken}
+use Rattle.unwind.specs.Frames.{Sight}
+use Rattle.unwind.specs.Unwind.{returnFrom, walkFrom}
+use Rattle.unwind.specs.Laws as unwind
+use Rattle.bounds.specs.Levels.{Unrolls}
+use Rattle.bounds.specs.Unique as unique
+use Rattle.images.specs.Images.{Ready, bottom, frameBytes}
+use Rattle.images.specs.Jumps.{Reachable}
+use Rattle.images.specs.Values as values
+use Rattle.forms.specs.Gist.{gist}
+use Rattle.forms.specs.Plans.{Plan, planned}
+use Rattle.forms.specs.Tests.{Whole, cleanTest}
+use Rattle.forms.specs.Quiet.{Quiet}
+use Rattle.forms.specs.Forms.{planOf}
+use Rattle.forms.specs.Forms as forms
+use Rattle.forms.specs.Adequate as adequacy
+use Rattle.instances.specs.Rows.{P1, P2, P3, P4, P5, P6, P7, P8, P9, P10, P11, Also}
+use Rattle.instances.specs.Instances as table
+use Rattle.promises.specs.Over.{performBy}
+use Rattle.promises.specs.Refusals.{holds, Past}
+use Rattle.promises.specs.Refusals as refusals
+use Rattle.promises.specs.Calls.{mostEvents, isEntry, cyclesOf}
+use Rattle.promises.specs.Calls as calls
+use Rattle.promises.specs.Charged as charged
+use Rattle.promises.specs.Levels as levels
+use Rattle.nest.specs.Nest.{Step, Premises, Alike, end, depth, rows, restored, restoredBy}
+use Rattle.entered.specs.Machines.{Room}
+use Rattle.rule3.specs.Rows.{told}
+use Rattle.rule3.specs.Rule3.{coreOf, Real}
+use Rattle.rule3.specs.Rule3 as rule3
+use Rattle.lines.specs.Commands.{retName}
+use Rattle.sessions.specs.Printed.{started, printed}
+use Rattle.sessions.specs.Cuts.{answers}
+use Rattle.sessions.specs.Cuts as cuts
+use Rattle.printed.specs.Lines.{withFeed, text, walkLine}
+use Rattle.printed.specs.Steps.{Meets, bookOf, depthOf}
+use Rattle.printed.specs.Told.{rowsText, returnsText}
+use Rattle.printed.specs.Bytes.{linesIn}
+use Rattle.printed.specs.Bytes as bytes
+
+-- ---- rule 3
+
+-- "However deep handlers nest, the stack tells all": a walk of the depth "gives exactly the rows of document 01's book, latest first", for
+-- every row buffer that number 10 does not refuse, "and as many returns restore in turn exactly each status, stacked address (as PC) and
+-- A7 in it". `Premises` has the demand's premises one by one
+pub stack-tells-all : (xs : List (Step Real)) (r : Cpu) (s : Room) → Premises Real xs r s → 0 < depth Real (end Real xs r s)
+    → ((ws : List ℕ) → 4 * depth Real (end Real xs r s) ≤ length ws
+    → told (walkFrom (coreOf (end Real xs r s .rec) (end Real xs r s .sto)) (end Real xs r s .sto .bytes) (depth Real (end Real xs r s)) ws) ≡ record { rows = rows (end Real xs r s .book); number = none })
+    × (restored Real (depth Real (end Real xs r s)) (end Real xs r s .rec) (end Real xs r s .sto) ≡ some (restoredBy (end Real xs r s .book)))
+stack-tells-all xs r s p d = let t = rule3.rule3 .tells xs r s p d in (rule3.any-buffer (end Real xs r s) t, t .returns)
+
+-- "Kind, depth, S, M, pointers and stacked bytes alone settle this: two lists alike in them at the end have the same rows and restored
+-- values"
+pub stack-settles : (xs ys : List (Step Real)) (r r′ : Cpu) (s s′ : Room) → Premises Real xs r s → Premises Real ys r′ s′ → Alike Real (end Real xs r s) (end Real ys r′ s′)
+    → (rows (end Real xs r s .book) ≡ rows (end Real ys r′ s′ .book))
+    × (restored Real (depth Real (end Real xs r s)) (end Real xs r s .rec) (end Real xs r s .sto) ≡ restored Real (depth Real (end Real ys r′ s′)) (end Real ys r′ s′ .rec) (end Real ys r′ s′ .sto))
+stack-settles xs ys r r′ s s′ p q a = let t = rule3.rule3 .settles xs ys r r′ s s′ p q a in (t .sameRows, t .sameValues)
+
+-- rule 3 from the bytes of a session's input to the bytes that it prints: after lines that meet the premises and leave 1 to 4096 entries
+-- open, `walk` of the depth and as many `ret`s print the rows of the book and its addresses, statuses and A7s, and nothing else
+pub printed-book : (input : List ℕ) → Meets started (linesIn input) → 0 < depthOf started (linesIn input) → depthOf started (linesIn input) ≤ 4096
+    → printed (withFeed input ++ text (walkLine (depthOf started (linesIn input)) ∷ replicate (depthOf started (linesIn input)) retName))
+    ≡ printed (withFeed input) ++ rowsText (rows (bookOf started (linesIn input))) ++ returnsText (restoredBy (bookOf started (linesIn input)))
+printed-book = bytes.printed-book
+
+-- "A line ends with a line feed, not counted in its bytes, or with the input": however the input is cut into reads, the answers to them make
+-- what the session of its lines prints
+pub read-by-read : (parts : List (List ℕ)) → answers (started .after) [] parts ≡ printed (flatten parts)
+read-by-read = cuts.read-by-read
+
+-- ---- refusals
+
+-- "the lowest is answered": number n exactly if condition n holds and none below it does
+pub refusal-exact : (w : World) (c : Call) (n : ℕ) → 0 < n → (refusal w c ≡ n) ↔ ((holds w c n ≡ true) × ((m : ℕ) → m < n → holds w c m ≡ false))
+refusal-exact = refusals.refusal-exact
+
+-- "Who can cause each number": what each condition says
+pub refusal-conditions : (w : World) (c : Call)
+    → ((holds w c 1 ≡ true) ↔ (((cpuOf w .flags .«s_flag» ≡ 0) ⊎ (cpuOf w .flags .«s_flag» ≡ 4)) × ((cpuOf w .flags .«m_flag» ≡ 0) ⊎ (cpuOf w .flags .«m_flag» ≡ 2)) → ⊥))
+    × ((holds w c 2 ≡ true) ↔ (((kindOf (cpuOf w) ≡ 1) ⊎ ((kindOf (cpuOf w) ≡ 2) ⊎ (kindOf (cpuOf w) ≡ 10))) × (vbrOf (cpuOf w) % 2 ≡ 1)))
+    × ((holds w c 3 ≡ true) ↔ ((matterOf c .interrupt ≡ true) × (cpuOf w .flow .«cycles_remaining» <ℤ negsuc 2147483601)))
+    × ((holds w c 4 ≡ true) ↔ ((hasFcOverride (cpuOf w) ≡ true) × (7 < fcOverrideOf (cpuOf w))))
+    × ((holds w c 5 ≡ true) ↔ ((matterOf c .store ≡ true) × ((65536 < length (w .store)) ⊎ (2 ^ 32 < w .core .bus .base + length (w .store)))))
+    × ((holds w c 6 ≡ true) ↔ ((matterOf c .store ≡ true) × ((8 < w .core .bus .windows) ⊎ Past (w .core .bus) (w .core .bus .windows))))
+    × ((holds w c 7 ≡ true) ↔ ((matterOf c .log ≡ true) × (length (w .log) < 192)))
+    × ((holds w c 8 ≡ true) ↔ (255 < matterOf c .vector))
+    × ((holds w c 9 ≡ true) ↔ ((11 < kindOf (cpuOf w)) ⊎ ((matterOf c .floating ≡ true) × (kindOf (cpuOf w) ≡ 11 → ⊥))))
+refusal-conditions w c =
+    (refusals.condition-1 w c, refusals.condition-2 w c, refusals.condition-3 w c, refusals.condition-4 w c, refusals.condition-5 w c, refusals.condition-6 w c, refusals.condition-7 w c, refusals.condition-8 w c, refusals.condition-9 w c)
+
+-- "Refused by number, with record, store and log as they came"
+pub refused-unchanged : (w : World) (c : Call) → (refusal w c ≡ 0 → ⊥) → perform w c ≡ answered w (Refused (refusal w c))
+refused-unchanged = refusals.refused-unchanged
+
+-- ---- events and cycles
+
+-- "the answer counts events; words beyond are untouched": an accepted call makes 64 at most, and the log is their words, three each, and
+-- then what it held
+pub events-64 : (w : World) (c : Call) → refusal w c ≡ 0
+    → (es : List Event) × (length es ≤ 64) × (countOf (perform w c .answer) ≡ length es) × (perform w c .after .log ≡ spell es ++ drop (length es * 3) (w .log))
+events-64 w c h = let t = calls.events-64 w c h in (t .es, t .few, t .answers, t .log)
+
+-- by the call: `mostEvents` is 61 for a bus error entry, 40 for the interrupt call, 16 for `take_exception`, and so on. Each of these numbers
+-- is met: `promises/specs/Sharp` has a world for each
+pub events-most : (w : World) (c : Call) → refusal w c ≡ 0 → countOf (perform w c .answer) ≤ mostEvents c
+events-most = calls.events-most
+
+-- "Cycle answers stand in a table of 256 entries": an accepted entry answers those of its vector, and 0 where one is under way
+pub cycles-of-the-table : (w : World) (c : Call) → refusal w c ≡ 0 → isEntry c ≡ true
+    → perform w c .answer ≡ Cycles (cyclesOf (inException (cpuOf w)) c) (eventsOf (perform w c .after .core))
+cycles-of-the-table = calls.cycles-of-the-table
+
+-- ---- the interrupt call
+
+-- "Taken exactly if L = 7 or L > (`int_mask` >> 8) & 7"
+pub service-exactly : (w : World) → refusal w CheckAndServiceInterrupts ≡ 0
+    → (valueOf (perform w CheckAndServiceInterrupts .answer) ≡ 1) ↔ ((pendingLevel (cpuOf w) ≡ 7) ⊎ (maskLevel (cpuOf w) < pendingLevel (cpuOf w)))
+service-exactly = calls.service-exactly
+
+-- "the signed `cycles_remaining` falls by 46 on kind 2, else 44"
+pub service-charges : (w : World) → refusal w CheckAndServiceInterrupts ≡ 0 → valueOf (perform w CheckAndServiceInterrupts .answer) ≡ 1
+    → cpuOf (perform w CheckAndServiceInterrupts .after) .flow .«cycles_remaining» ≡ cpuOf w .flow .«cycles_remaining» -ℤ pos (pick (eqb (kindOf (cpuOf w)) 2) 46 44)
+service-charges = charged.service-charges
+
+-- where it is not taken nothing changes, and there is no event
+pub service-untaken : (w : World) → refusal w CheckAndServiceInterrupts ≡ 0 → valueOf (perform w CheckAndServiceInterrupts .answer) ≡ 0 → perform w CheckAndServiceInterrupts .after ≡ begun w
+service-untaken = calls.service-untaken
+
+-- ---- a fault inside an entry
+
+-- "The unbounded fault chain: a level count that falls": whatever `t` meets the equations of the recursion, which have no levels, every
+-- call over it is the public call, which has two
+pub perform-unrolled : (t : Raise) → Unrolls t t → (w : World) (c : Call) → performBy t w c ≡ perform w c
+perform-unrolled = levels.perform-unrolled
+
+-- there is such a `t`: the two levels themselves
+pub levels-unroll : Unrolls raised raised
+levels-unroll = unique.solves
+
+-- ---- what an entry leaves
+
+-- a direct entry that is accepted and taken, and whose closed test holds, leaves what its plan says, of all but queue, clocks, fault fields
+-- and log
+pub entry-tested : (w : World) (c : Call) (p : Plan) → refusal w c ≡ 0 → planOf (begun w) c ≡ some p → Whole (cpuOf w) → cleanTest (gist w) p ≡ true → gist (perform w c .after) ≡ planned (gist w) p
+entry-tested = forms.entry-tested
+
+-- and the test holds exactly if no event of the call has a code of 16 or more and the record comes out not faulted
+pub adequate : (w : World) (c : Call) (p : Plan) → refusal w c ≡ 0 → planOf (begun w) c ≡ some p → Whole (cpuOf w)
+    → (cleanTest (gist w) p ≡ true) ↔ (Quiet (perform w c .after) × (isFaulted (cpuOf (perform w c .after)) ≡ false))
+adequate = adequacy.adequate
+
+-- "Contents are as `exception_bus_error` and its neighbours push them": where all accesses are served, each written field of a bus error
+-- frame is read at its offset above the new A7
+pub bus-fields : (w : World) (a : ℕ) (write instruction : Bool) (z cause : ℕ) → ppcOf (cpuOf w) < 2 ^ 32 → a < 2 ^ 32 → wdataOf (cpuOf w) < 2 ^ 32
+    → Ready (step enterBusError w) (busFrame (cpuOf w) a write instruction z cause)
+    → Reachable (pushFrame raised (step enterBusError w) (busFrame (cpuOf w) a write instruction z cause)) 2
+    → (i : ℕ) → i < busFrame (cpuOf w) a write instruction z cause .count → isCounted (fieldAt (busFrame (cpuOf w) a write instruction z cause) i) ≡ false
+    → readValue (exceptionBusError raised w a write instruction z cause) (bottom (step enterBusError w) (busFrame (cpuOf w) a write instruction z cause) + frameBytes (busFrame (cpuOf w) a write instruction z cause) i) (fieldAt (busFrame (cpuOf w) a write instruction z cause) i .long)
+    ≡ fieldAt (busFrame (cpuOf w) a write instruction z cause) i .value
+bus-fields w a write instruction z cause p q d = values.bus-fields raised w a write instruction p q z cause d
+
+-- ---- return and walk
+
+-- "Every refusal leaves record, store and log alone"
+pub return-refused : (m : Core) (s : List ℕ) → (returnFrom m s .refused ≡ 0 → ⊥) → returnFrom m s .core ≡ m
+return-refused = unwind.return-refused
+
+-- a return "sets status under the kind's mask with M as stacked"
+pub return-status : (c : Cpu) (f : Taken) → getSr (takeFrame c f) ≡ maskStatus (kindOf c) (f .status)
+return-status = unwind.take-status
+
+-- "the walk keeps the rows read so far and gives their count": no word behind them is touched
+pub walk-behind : (n : ℕ) (v : Sight) (c : Cpu) (ws : List ℕ) (j : ℕ) → walkOf n v c ws .count * 4 ≤ j → getD (walkOf n v c ws .words) j 0 ≡ getD ws j 0
+walk-behind = unwind.walk-behind
+
+-- ---- the instances of document 01
+
+-- "Cases marked P become one proved table under one theorem", with the line after them
+pub instances : P1 × P2 × P3 × P4 × P5 × P6 × P7 × P8 × P9 × P10 × P11 × Also
+instances = table.instances
