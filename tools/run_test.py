@@ -55,6 +55,9 @@ class Run(unittest.TestCase):
         self.write("tree/host/afternoon/session.txt", "kind 2\n")
         self.write("tree/host/afternoon/words.txt", "a kind\n")
         shutil.copy(os.path.join(ROOT, "run"), self.root)
+        self.write("tree/toolchain", "kit 1\n")
+        os.mkdir(os.path.join(self.root, "tools"))
+        shutil.copy(os.path.join(ROOT, "tools/toolchain.sh"), os.path.join(self.root, "tools"))
         self.write("bin/rt", RT, 0o755)
         self.write("bin/cargo", "#!/bin/sh\n", 0o755)
         self.session = self.write("my session.txt", "ret\n")
@@ -87,7 +90,7 @@ class Run(unittest.TestCase):
         self.assertTrue(out.startswith(f"show --program {program} --words {afternoon}words.txt {afternoon}session.txt\n"), out)
         self.assertIn("docs/SESSION.md", out)
         for said in ["first run", "minutes for the session program and", "for what shows it", "1 of 2: types proved", "2 of 2: session proved", "2 of 2: boundary proved",
-                     "stage 1", "stage 2", "stage 3"]:
+                     "stage 1 of 3", "stage 2 of 3", "stage 3 of 3"]:
             self.assertIn(said, err)
         self.assertNotIn("library", err)
         self.assertNotIn("unchanged", err)
@@ -136,6 +139,15 @@ class Run(unittest.TestCase):
         self.write("kit", "kit 2\n")
         self.assertEqual(self.run_it()[3], self.ALL)
 
+    def test_another_toolchain_is_told(self):
+        self.write("kit", "kit 2\n")
+        for _ in "first run", "later run":
+            code, _, err, _ = self.run_it("--raw", self.session)
+            first = err.splitlines()[0]
+            self.assertEqual((code, err.count("warning")), (0, 1))
+            self.assertIn("warning: rt is 'kit 2'", first)
+            self.assertIn("'kit 1'", first)
+
     def test_a_change_while_building_is_noticed(self):
         edit = self.write("calls.edit", "")
         self.run_it("--raw")
@@ -154,6 +166,7 @@ class Run(unittest.TestCase):
     def test_raw_prints_what_the_program_prints(self):
         code, out, err, calls = self.run_it("--raw", self.session)
         self.assertEqual((code, out, calls), (0, "printed\nret\n", self.ALL[:1]))
+        self.assertIn("stage 1 of 1", err)
         self.assertIn("session proved", err)
         self.assertNotIn("what shows", err)
         self.assertEqual(self.run_it("--raw")[:3], (0, "printed\nkind 2\n", ""))
@@ -171,11 +184,11 @@ class Run(unittest.TestCase):
 
     def test_without_cargo(self):
         os.remove(os.path.join(self.folder, "bin/cargo"))
+        code, out, err, calls = self.run_it("--html", "page.html", self.session)
+        self.assertEqual((code, out, calls, os.path.exists(os.path.join(self.folder, "page.html"))), (1, "", [], False))
+        self.assertIn("needs cargo", err)
         code, out, err, calls = self.run_it(self.session)
         self.assertEqual((code, out, calls), (0, "printed\nret\n", self.ALL[:1]))
-        self.assertIn("needs cargo", err)
-        code, out, err, _ = self.run_it("--html", "page.html", self.session)
-        self.assertEqual((code, out, os.path.exists(os.path.join(self.folder, "page.html"))), (1, "", False))
         self.assertIn("needs cargo", err)
 
     def test_without_rt(self):
@@ -183,6 +196,7 @@ class Run(unittest.TestCase):
         code, out, err, calls = self.run_it()
         self.assertEqual((code, out, calls), (1, "", []))
         self.assertIn("rt, the Rattle toolchain, is not there", err)
+        self.assertEqual(self.run_it("--help")[0], 0)
 
     def test_a_page_is_written_whole_or_not(self):
         page = os.path.join(self.folder, "page.html")
