@@ -27,6 +27,7 @@ fn is_same(input: &str, recorded: &str) -> bool {
     let differences = if done.status.success() { 0 } else { 1 };
     assert_eq!(done.status.code(), Some(differences), "{text}");
     assert!(text.contains(&format!("compare: 1 cases, {differences} differences, ")), "{text}");
+    assert!(text.contains("compare: compared kinds: 2 1\n"), "{text}");
     done.status.success()
 }
 

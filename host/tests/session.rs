@@ -19,6 +19,13 @@ fn the_papers_example() {
     assert_eq!(printed(input.trim_end()), expected, "the last line ends with the input");
 }
 
+/// The sessions that the oracle recorded for the session program.
+#[test]
+fn the_recorded_sessions() {
+    let expected = include_bytes!("../../crates/session/stdout");
+    assert!(predict(include_bytes!("../../crates/session/stdin")) == expected);
+}
+
 /// As the real Rust answered it.
 #[test]
 fn the_afternoon() {

@@ -149,6 +149,8 @@ struct Tally {
     lists: u64,
     /// By the name of the call.
     calls: BTreeMap<String, u64>,
+    /// By the kind of processor.
+    kinds: BTreeMap<String, u64>,
     /// By the number that the recorded answer has.
     refused: BTreeMap<String, u64>,
     differing: BTreeMap<String, u64>,
@@ -223,6 +225,7 @@ impl Shared<'_> {
         cases.answer(input, found);
         tally.compared += 1;
         count(&mut tally.calls, name, 1);
+        count(&mut tally.kinds, value_of(line, "kind="), 1);
         if let Some(number) = expected.strip_prefix("refused=").and_then(|e| e.split(' ').next())
             && number != "0"
         {
@@ -261,6 +264,7 @@ impl Shared<'_> {
         let tally = self.tally.lock().map_err(|e| e.to_string())?;
         let lists = [
             ("compared calls", &tally.calls),
+            ("compared kinds", &tally.kinds),
             ("compared refusals", &tally.refused),
             ("different", &tally.differing),
         ];
@@ -289,6 +293,7 @@ impl Tally {
         self.lists += other.lists;
         let lists = [
             (&mut self.calls, other.calls),
+            (&mut self.kinds, other.kinds),
             (&mut self.refused, other.refused),
             (&mut self.differing, other.differing),
         ];
@@ -311,6 +316,10 @@ fn count(list: &mut BTreeMap<String, u64>, name: &str, n: u64) {
 
 /// The name of the call of a line.
 fn call_name(line: &str) -> &str {
-    let value = line.split(' ').find_map(|part| part.strip_prefix("call=")).unwrap_or("?");
-    value.split(':').next().unwrap_or("?")
+    value_of(line, "call=").split(':').next().unwrap_or("?")
+}
+
+/// What stands after a name in a line.
+fn value_of<'a>(line: &'a str, name: &str) -> &'a str {
+    line.split(' ').find_map(|part| part.strip_prefix(name)).unwrap_or("?")
 }
