@@ -203,7 +203,7 @@ return-status = unwind.take-status
 pub walk-behind : (n : ℕ) (v : Sight) (c : Cpu) (ws : List ℕ) (j : ℕ) → walkOf n v c ws .count * 4 ≤ j → getD (walkOf n v c ws .words) j 0 ≡ getD ws j 0
 walk-behind = unwind.walk-behind
 
--- ---- the instances of document 01
+-- ---- the instances of paper 01
 
 -- "Cases marked P become one proved table under one theorem", with the line after them
 pub instances : P1 × P2 × P3 × P4 × P5 × P6 × P7 × P8 × P9 × P10 × P11 × Also

@@ -1,5 +1,5 @@
-// One line of a session to a command: names, numbers with their digits, one space between fields. It uses no other crate;
-// `sessions` acts on what it answers.
+// One line of a session to a command: names, numbers with their digits, one space between fields. It uses `types` for its
+// definitions; `sessions` acts on what it answers.
 use numbers::Number;
 
 mod numbers; // digits to a number

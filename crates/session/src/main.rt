@@ -9,7 +9,7 @@ struct Run {
     more: bool,
 }
 
-// Writes what was printed; a write that fails ends the program.
+// Writes what was printed; after a write that fails nothing more is read.
 fn write_out(x: Fed, out: &[u8]) -> Run {
     let at = x.at;
     if at <= out.len() {

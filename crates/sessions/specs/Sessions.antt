@@ -59,7 +59,7 @@ stateOf m cycles = stateLine cycles (pcOf (m .cpu)) (getSr (m .cpu)) (a7Of (m .c
 unfoldable pub chargeOf : Core → Bool → ℕ
 chargeOf m taken = pick taken (pick (eqb (kindOf (m .cpu)) 2) 46 44) 0
 
--- what an acting call prints; no command makes a call that answers a value or nothing
+-- what an acting call prints; of the calls whose answer is printed none answers a value or nothing
 unfoldable pub answerTold : Core → Answer → List ℕ
 answerTold m (Cycles n e) = stateOf m n
 answerTold m (Flag b e) = stateOf m (chargeOf m b)

@@ -1,6 +1,6 @@
-// What a session does on a line and on the bytes of its input: a command acts on record, bus and store through the public call, return
-// and walk, and what it prints is laid into a buffer. It uses `lines`, `prints`, `calls`, `unwind` and the record's crates; the
-// program `session` lends it the buffers, reads and writes.
+// What a session does on a line and on the bytes of its input: entries, returns and walks go through the public call, return and walk
+// alone, other commands set fields and bytes, and what is printed is laid into a buffer. It uses `lines`, `prints`, `calls`, `unwind` and
+// the record's crates; the program `session` lends it the buffers, reads and writes.
 use calls::Answer;
 use calls::Call;
 use calls::Performed;
