@@ -1,5 +1,6 @@
 #!/usr/bin/env bash
-# compare.sh SOURCE SEED COUNT [LISTS]: builds the oracle from the Rust at SOURCE and the archive of the proved code, and compares them:
+# compare.sh SOURCE SEED COUNT [LISTS]: builds the oracle from the Rust at SOURCE and the archive of the proved code, runs the tests of
+# oracle/ and host/, and compares the two:
 # the leaf functions on random records, the examples, then COUNT generated cases, refused ones too, and LISTS nests: lists of
 # entries, returns and handlers whose walk and returns are held to the book. Any difference fails.
 set -euo pipefail
