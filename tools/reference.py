@@ -14,7 +14,7 @@ import sys
 
 ROOT = os.path.dirname(os.path.dirname(os.path.abspath(__file__)))
 REFERENCE, CASES = "docs/REFERENCE.md", "docs/CASES.md"
-FILES = ["types/specs/Kinds", "types/specs/Tables", "frames/specs/Frames", "exceptions/specs/Frames"]
+FILES = ["types/specs/Kinds", "types/specs/Tables", "frames/specs/Frames", "formats/specs/Formats"]
 KINDS, FORMATS, VECTORS = range(12), range(16), range(256)
 COMPARES = {"eqb": int.__eq__, "ltb": int.__lt__, "leb": int.__le__}
 FIELD = {"word": 2, "rawWord": 2, "gapWord": 2, "long": 4, "rawLong": 4, "gapLong": 4}

@@ -23,7 +23,7 @@ esac
 """
 TOOLS = ["generate.py", "drawing.py", "crossings.py", "assurance.py", "reference.py", "run_test.py", "test_test.py", "long_test.py", "sample.sh",
          "sessions.sh", "compare.sh"]
-FIRST = ["generate.py --check", "drawing.py --check", "crossings.py --most 80", "assurance.py --check",
+FIRST = ["generate.py --check", "drawing.py --check", "crossings.py --most 85", "assurance.py --check",
          "reference.py --check", "run_test.py", "test_test.py", "long_test.py"]
 
 

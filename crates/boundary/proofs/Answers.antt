@@ -5,10 +5,10 @@ use mathlib.Core.Bool.{Bool}
 use mathlib.Core.List.{List}
 use Rattle.memory.specs.declared.Core.{Core}
 use Rattle.memory.specs.World.{world}
-use Rattle.calls.specs.declared.Answer.{Answer}
-use Rattle.calls.specs.declared.Answer.the-variants.{Flag}
-use Rattle.calls.specs.declared.Performed.{Performed}
-use Rattle.calls.specs.Calls.{Performed as Result, answered, bit, refusedBy, valueOf, countOf}
+use Rattle.answers.specs.declared.Answer.{Answer}
+use Rattle.answers.specs.declared.Answer.the-variants.{Flag}
+use Rattle.answers.specs.declared.Performed.{Performed}
+use Rattle.answers.specs.Answers.{Performed as Result, answered, bit, refusedBy, valueOf, countOf}
 use Rattle.boundary.specs.declared.RawAnswer.{RawAnswer}
 use Rattle.boundary.specs.Calls.{outcome, ofPerformed}
 

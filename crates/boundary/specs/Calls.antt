@@ -4,12 +4,13 @@ use Prim.Native.Nat.{ℕ, _+_, _%_}
 use mathlib.Core.Bool.{Bool, true, false, not}
 use lib.Dec.{eqb}
 use mathlib.Core.List.{List, [], _∷_}
-use Rattle.calls.specs.declared.Call.{Call}
+use Rattle.answers.specs.declared.Call.{Call}
 use Rattle.types.specs.Kinds.{pick}
 use Rattle.types.specs.Causes.{causeOf}
 use Rattle.memory.specs.World.{World}
-use Rattle.calls.specs.declared.Call.the-variants.{TakeException, Trap, TakeGroup2Exception, ExceptionChk, ExceptionZeroDivide, ExceptionPrivilege, ExceptionTrace, ExceptionAddressError, ExceptionBusError, TakeFpUnimp060, TakeFpDisabled060, TakeAlineException, TakeFlineException, TakeTrapException, TakeBkptException, TakeIllegalException, TriggerAddressError, TriggerBusError, CheckTrace, SetIrq, CheckInterrupts, CheckAndServiceInterrupts, Read16, Read32, Write16, Write32, Push16, Push32, PrefetchFirst, PrefetchSecond}
-use Rattle.calls.specs.Calls.{Performed, refusedBy, valueOf, countOf, perform}
+use Rattle.answers.specs.declared.Call.the-variants.{TakeException, Trap, TakeGroup2Exception, ExceptionChk, ExceptionZeroDivide, ExceptionPrivilege, ExceptionTrace, ExceptionAddressError, ExceptionBusError, TakeFpUnimp060, TakeFpDisabled060, TakeAlineException, TakeFlineException, TakeTrapException, TakeBkptException, TakeIllegalException, TriggerAddressError, TriggerBusError, CheckTrace, SetIrq, CheckInterrupts, CheckAndServiceInterrupts, Read16, Read32, Write16, Write32, Push16, Push32, PrefetchFirst, PrefetchSecond}
+use Rattle.answers.specs.Answers.{Performed, refusedBy, valueOf, countOf}
+use Rattle.calls.specs.Calls.{perform}
 use Rattle.boundary.specs.declared.RawCall.{RawCall}
 use Rattle.boundary.specs.declared.Decoded.{Decoded}
 use Rattle.boundary.specs.declared.Decoded.the-variants.{Known, Unknown}

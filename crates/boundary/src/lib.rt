@@ -2,9 +2,9 @@
 // record, exported for programs in other languages. The numbers are those of the case format. It uses `calls`, `unwind` and,
 // for the leaf functions, `status`, `cpu` and `pending`; what it exports is proved equal to their definitions. Programs in other languages
 // and `replay` use it.
-use calls::Answer;
-use calls::Call;
-use calls::Performed;
+use answers::Answer;
+use answers::Call;
+use answers::Performed;
 use cpu::Cpu;
 use memory::Core;
 use unwind::Returned;
@@ -15,7 +15,7 @@ ghost use lib.Dec.{eqb};
 ghost use Prim.Native.Nat.{_%_};
 ghost use Rattle.memory.specs.World.{world};
 ghost use Rattle.types.specs.Causes.{causeOf};
-ghost use Rattle.calls.specs.Calls.{bit, refusedBy, valueOf, countOf};
+ghost use Rattle.answers.specs.Answers.{bit, refusedBy, valueOf, countOf};
 ghost use Rattle.boundary.specs.Calls.{outcome, flag, decode, rawOf, rawCall};
 ghost use Rattle.unwind.specs.Returns.{walk};
 ghost use Rattle.unwind.specs.Unwind.{returnFrom, walkFrom};

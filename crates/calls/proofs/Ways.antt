@@ -15,14 +15,15 @@ use Rattle.access.specs.Access.{raised, exceptionBusError}
 use Rattle.exceptions.specs.declared.Entered.{Entered}
 use Rattle.exceptions.specs.Exceptions.{Entry, entry}
 use Rattle.interrupts.specs.declared.Serviced.{Serviced}
-use Rattle.calls.specs.declared.Performed.{Performed}
-use Rattle.calls.specs.declared.Answer.{Answer}
-use Rattle.calls.specs.declared.Answer.the-variants.{Cycles, Flag, Value, Done, Refused}
-use Rattle.calls.specs.declared.Call.{Call}
+use Rattle.answers.specs.declared.Performed.{Performed}
+use Rattle.answers.specs.declared.Answer.{Answer}
+use Rattle.answers.specs.declared.Answer.the-variants.{Cycles, Flag, Value, Done, Refused}
+use Rattle.answers.specs.declared.Call.{Call}
 use Rattle.refusals.specs.declared.Matter.{Matter}
-use Rattle.calls.specs.Matters.{matterOf}
+use Rattle.answers.specs.Matters.{matterOf}
 use Rattle.refusals.specs.Refusals.{refusalOf}
-use Rattle.calls.specs.Calls.{Performed as Result, answered, eventsOf, cycles, flag, plain, ofEntry, ofRead, ofService, ofTrace, run, restarted, begun, refusal, perform}
+use Rattle.answers.specs.Answers.{Performed as Result, answered, eventsOf, cycles, flag, plain, ofEntry, ofRead, ofService, ofTrace}
+use Rattle.calls.specs.Calls.{restarted, run, begun, refusal, perform}
 
 pub perform-way : (m : Core) {d : Core} (s l : List ℕ) {n : ℕ} (x : Matter) (call : Call) {b : Bool} {e : Result} → x ≡ matterOf call → n ≡ refusalOf m (length s) (length l) x → b ≡ eqb n 0 → b ≡ true → d ≡ restarted m → e ≡ run (world d s l) call → e ≡ perform (world m s l) call
 unfolding perform refusal begun
@@ -31,18 +32,6 @@ perform-way m s l x call h0 h1 h2 h3 h4 h5 = cc
 pub perform-way-2 : (m : Core) (s l : List ℕ) {n : ℕ} (x : Matter) (call : Call) {b : Bool} {r : Performed} → x ≡ matterOf call → n ≡ refusalOf m (length s) (length l) x → b ≡ eqb n 0 → b ≡ false → r ≡ record { core = m; answer = Refused n } → answered (world (r .core) s l) (r .answer) ≡ perform (world m s l) call
 unfolding perform refusal
 perform-way-2 m s l x call h0 h1 h2 h3 h4 = cc
-
--- a record replaced and answered
-abbrev made : Core → Answer → Performed
-made m a = record { core = m; answer = a }
-
-pub replaced-made : (m : Core) (c : Cpu) {d : Core} {r : Performed} → d ≡ putCpu m c → r ≡ record { core = d; answer = Done (eventsOf d) } → r ≡ record { core = putCpu m c; answer = Done (eventsOf m) }
-unfolding putCpu
-replaced-made m c h k = k ∙ ap (λ d. made d (Done (eventsOf d))) h
-
-pub traced-made : (m : Core) (c : Cpu) (b : Bool) {d : Core} {r : Performed} → d ≡ putCpu m c → r ≡ record { core = d; answer = Flag b (eventsOf d) } → r ≡ record { core = putCpu m c; answer = Flag b (eventsOf m) }
-unfolding putCpu
-traced-made m c b h k = k ∙ ap (λ d. made d (Flag b (eventsOf d))) h
 
 -- the answers of `run`: what the call of an arm ensures, and what is made of its result
 pub entered-way : {x : Entered} {r : Performed} {s l : List ℕ} {e : Entry} → entry (world (x .core) s l) (x .cycles) ≡ e → r ≡ record { core = x .core; answer = Cycles (x .cycles) (eventsOf (x .core)) } → answered (world (r .core) s l) (r .answer) ≡ ofEntry e

@@ -22,11 +22,12 @@ use Rattle.memory.specs.World.{World, cpuOf, step, readValue}
 use Rattle.frames.specs.Frames.{busFrame, fieldAt, isCounted}
 use Rattle.steps.specs.Steps.{enterBusError}
 use Rattle.access.specs.Access.{Raise, raised, pushFrame, exceptionBusError}
-use Rattle.calls.specs.declared.Call.{Call}
-use Rattle.calls.specs.declared.Call.the-variants.{CheckAndServiceInterrupts}
-use Rattle.calls.specs.declared.Answer.the-variants.{Cycles, Refused}
-use Rattle.calls.specs.Matters.{matterOf}
-use Rattle.calls.specs.Calls.{answered, refusal, perform, begun, eventsOf, valueOf, countOf}
+use Rattle.answers.specs.declared.Call.{Call}
+use Rattle.answers.specs.declared.Call.the-variants.{CheckAndServiceInterrupts}
+use Rattle.answers.specs.declared.Answer.the-variants.{Cycles, Refused}
+use Rattle.answers.specs.Matters.{matterOf}
+use Rattle.answers.specs.Answers.{answered, eventsOf, valueOf, countOf}
+use Rattle.calls.specs.Calls.{refusal, perform, begun}
 use Rattle.unwind.specs.Returns.{takeFrame, walkOf}
 use Rattle.unwind.specs.declared.frames.Frame.{Frame as Taken}
 use Rattle.unwind.specs.Frames.{Sight}

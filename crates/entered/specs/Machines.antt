@@ -23,12 +23,13 @@ use Rattle.steps.specs.Steps.{beginEntry}
 use Rattle.exceptions.specs.Exceptions.{taken as done}
 use Rattle.interrupts.specs.Interrupts.{checkAndService, serviced, serviceInterrupt}
 use Rattle.refusals.specs.Refusals.{badFlags, oddBase, badCode, badStore, pastTop, anyPast, badWindows}
-use Rattle.calls.specs.declared.Call.{Call}
-use Rattle.calls.specs.declared.Call.the-variants.{TakeException, Trap, TakeGroup2Exception, ExceptionChk, ExceptionZeroDivide, ExceptionPrivilege, ExceptionTrace, ExceptionAddressError, ExceptionBusError, TakeFpUnimp060, TakeFpDisabled060, TakeAlineException, TakeFlineException, TakeTrapException, TakeBkptException, TakeIllegalException, TriggerAddressError, TriggerBusError, CheckTrace, SetIrq, CheckInterrupts, CheckAndServiceInterrupts, Read16, Read32, Write16, Write32, Push16, Push32, PrefetchFirst, PrefetchSecond}
-use Rattle.calls.specs.Matters.{matterOf}
-use Rattle.calls.specs.declared.Answer.{Answer}
-use Rattle.calls.specs.declared.Answer.the-variants.{Cycles, Flag, Value, Done, Refused}
-use Rattle.calls.specs.Calls.{Performed, answered, cycles, flag, ofEntry, ofService, run, restarted, begun, refusal, perform}
+use Rattle.answers.specs.declared.Call.{Call}
+use Rattle.answers.specs.declared.Call.the-variants.{TakeException, Trap, TakeGroup2Exception, ExceptionChk, ExceptionZeroDivide, ExceptionPrivilege, ExceptionTrace, ExceptionAddressError, ExceptionBusError, TakeFpUnimp060, TakeFpDisabled060, TakeAlineException, TakeFlineException, TakeTrapException, TakeBkptException, TakeIllegalException, TriggerAddressError, TriggerBusError, CheckTrace, SetIrq, CheckInterrupts, CheckAndServiceInterrupts, Read16, Read32, Write16, Write32, Push16, Push32, PrefetchFirst, PrefetchSecond}
+use Rattle.answers.specs.Matters.{matterOf}
+use Rattle.answers.specs.declared.Answer.{Answer}
+use Rattle.answers.specs.declared.Answer.the-variants.{Cycles, Flag, Value, Done, Refused}
+use Rattle.answers.specs.Answers.{Performed, answered, cycles, flag, ofEntry, ofService}
+use Rattle.calls.specs.Calls.{restarted, run, begun, refusal, perform}
 use Rattle.images.specs.Pushes.{calm}
 use Rattle.forms.specs.Gist.{gist}
 use Rattle.forms.specs.Plans.{Plan, Clean, excPlan, rewoundPlan, group2Plan, tracePlan, fpUnimpPlan, fpDisabledPlan, interruptPlan}

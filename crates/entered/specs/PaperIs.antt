@@ -14,11 +14,11 @@ use Rattle.status.specs.Status.{getSr, mIsSet}
 use Rattle.pending.specs.Interrupts.{pendingLevel}
 use Rattle.memory.specs.declared.Bus.{Bus}
 use Rattle.memory.specs.World.{World, responseOf, cpuOf}
-use Rattle.exceptions.specs.Frames.{formatWord, offsetWord}
+use Rattle.formats.specs.Formats.{formatWord, offsetWord}
 use Rattle.steps.specs.Steps.{stackedAddress, stacksNext, withS, iackVector}
-use Rattle.calls.specs.declared.Call.{Call}
-use Rattle.calls.specs.declared.Call.the-variants.{TakeException, Trap, TakeGroup2Exception, ExceptionChk, ExceptionZeroDivide, ExceptionPrivilege, ExceptionTrace, ExceptionAddressError, ExceptionBusError, TakeFpUnimp060, TakeFpDisabled060, TakeAlineException, TakeFlineException, TakeTrapException, TakeBkptException, TakeIllegalException, TriggerAddressError, TriggerBusError, CheckTrace, SetIrq, CheckInterrupts, CheckAndServiceInterrupts, Read16, Read32, Write16, Write32, Push16, Push32, PrefetchFirst, PrefetchSecond}
-use Rattle.calls.specs.Matters.{matterOf}
+use Rattle.answers.specs.declared.Call.{Call}
+use Rattle.answers.specs.declared.Call.the-variants.{TakeException, Trap, TakeGroup2Exception, ExceptionChk, ExceptionZeroDivide, ExceptionPrivilege, ExceptionTrace, ExceptionAddressError, ExceptionBusError, TakeFpUnimp060, TakeFpDisabled060, TakeAlineException, TakeFlineException, TakeTrapException, TakeBkptException, TakeIllegalException, TriggerAddressError, TriggerBusError, CheckTrace, SetIrq, CheckInterrupts, CheckAndServiceInterrupts, Read16, Read32, Write16, Write32, Push16, Push32, PrefetchFirst, PrefetchSecond}
+use Rattle.answers.specs.Matters.{matterOf}
 use Rattle.calls.specs.Calls.{refusal}
 use Rattle.forms.specs.Plans.{interruptVector}
 use Rattle.forms.specs.Accepted.{accepted-vector}

@@ -15,7 +15,7 @@ use Rattle.memory.specs.ByteLaws.{AllBytes}
 use Rattle.memory.specs.World.{World, cpuOf}
 use Rattle.refusals.specs.Refusals.{badStore, badWindows}
 use Rattle.images.specs.Pushes.{calm}
-use Rattle.calls.specs.declared.Call.{Call}
+use Rattle.answers.specs.declared.Call.{Call}
 use Rattle.calls.specs.Calls.{begun, refusal, perform}
 use Rattle.forms.specs.Plans.{Plan}
 use Rattle.forms.specs.Forms.{planOf}

@@ -12,8 +12,8 @@ use Rattle.access.specs.Access.{jumpVector, pushExceptionFrame68000, pushFrame,
 use Rattle.cpu.specs.Fields.{halted, inException, kindOf, noteFpiar, pcOf, ppcOf, rewindPc, setException}
 use Rattle.cpu.specs.declared.Cpu.{Cpu}
 use Rattle.exceptions.specs.Exceptions.{entry, exceptionTrace, finished, stackDisabled, stackGroup2, stackShort, stackUnimp, takeException, takeFpDisabled060, takeFpUnimp060, takeGroup2, takeRewound, taken, trap}
-use Rattle.exceptions.specs.Frames.{disabledFrame, formatWord, longFrame, offsetWord, shortFrame}
 use Rattle.exceptions.specs.declared.Entered.{Entered}
+use Rattle.formats.specs.Formats.{disabledFrame, formatWord, longFrame, offsetWord, shortFrame}
 use Rattle.frames.specs.declared.Frame.{Frame}
 use Rattle.memory.specs.World.{putCpu, world}
 use Rattle.memory.specs.declared.Core.{Core}

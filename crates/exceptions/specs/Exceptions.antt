@@ -11,7 +11,7 @@ use Rattle.status.specs.Banks.{enterSupervisor}
 use Rattle.memory.specs.World.{World, cpuOf, step}
 use Rattle.steps.specs.Steps.{stackedAddress, beginEntry, beginTrace}
 use Rattle.access.specs.Access.{raised, pushFrame, pushExceptionFrame68000, jumpVector}
-use Rattle.exceptions.specs.Frames.{formatWord, offsetWord, shortFrame, longFrame, disabledFrame}
+use Rattle.formats.specs.Formats.{formatWord, offsetWord, shortFrame, longFrame, disabledFrame}
 
 -- an entry's world and the cycles that it answers
 pub record Entry : Type 0 where

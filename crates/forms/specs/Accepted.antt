@@ -12,8 +12,8 @@ use Rattle.cpu.specs.Fields.{kindOf}
 use Rattle.memory.specs.World.{World, cpuOf}
 use Rattle.refusals.specs.Refusals.{badFlags, oddBase, badCode, badVector, badKind, testsOf, badStore, badWindows, shortLog}
 use Rattle.refusals.specs.Laws.{outcomes, refusal-place, place-none}
-use Rattle.calls.specs.declared.Call.{Call}
-use Rattle.calls.specs.Matters.{matterOf}
+use Rattle.answers.specs.declared.Call.{Call}
+use Rattle.answers.specs.Matters.{matterOf}
 use Rattle.calls.specs.Calls.{refusal}
 
 none : {A : Type 0} → true ≡ false → A

@@ -12,10 +12,11 @@ use Rattle.cpu.specs.Fields.{isFaulted}
 use Rattle.cpu.specs.Clocks.{hasClocks}
 use Rattle.memory.specs.World.{World, cpuOf}
 use Rattle.exceptions.specs.Exceptions.{trap}
-use Rattle.calls.specs.declared.Call.{Call}
-use Rattle.calls.specs.declared.Call.the-variants.{TakeException, Trap, TakeGroup2Exception, ExceptionChk, ExceptionZeroDivide, ExceptionPrivilege, ExceptionTrace, ExceptionAddressError, ExceptionBusError, TakeFpUnimp060, TakeFpDisabled060, TakeAlineException, TakeFlineException, TakeTrapException, TakeBkptException, TakeIllegalException, TriggerAddressError, TriggerBusError, CheckTrace, SetIrq, CheckInterrupts, CheckAndServiceInterrupts, Read16, Read32, Write16, Write32, Push16, Push32, PrefetchFirst, PrefetchSecond}
-use Rattle.calls.specs.Matters.{matterOf}
-use Rattle.calls.specs.Calls.{Performed, cycles, flag, ofEntry, ofService, run, restarted, begun, refusal, perform}
+use Rattle.answers.specs.declared.Call.{Call}
+use Rattle.answers.specs.declared.Call.the-variants.{TakeException, Trap, TakeGroup2Exception, ExceptionChk, ExceptionZeroDivide, ExceptionPrivilege, ExceptionTrace, ExceptionAddressError, ExceptionBusError, TakeFpUnimp060, TakeFpDisabled060, TakeAlineException, TakeFlineException, TakeTrapException, TakeBkptException, TakeIllegalException, TriggerAddressError, TriggerBusError, CheckTrace, SetIrq, CheckInterrupts, CheckAndServiceInterrupts, Read16, Read32, Write16, Write32, Push16, Push32, PrefetchFirst, PrefetchSecond}
+use Rattle.answers.specs.Matters.{matterOf}
+use Rattle.answers.specs.Answers.{Performed, cycles, flag, ofEntry, ofService}
+use Rattle.calls.specs.Calls.{restarted, run, begun, refusal, perform}
 use Rattle.bounds.specs.Ledger.{one}
 use Rattle.bounds.specs.Levels.{clash}
 use Rattle.images.specs.Images.{mostStore}

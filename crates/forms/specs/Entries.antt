@@ -16,7 +16,7 @@ use Rattle.frames.specs.declared.Frame.{Frame}
 use Rattle.frames.specs.Frames.{addressFrame, busFrame}
 use Rattle.steps.specs.Steps.{enterBusError, stackedAddress, beginEntry, beginTrace}
 use Rattle.access.specs.Access.{Raise, raised, pushFrame, pushExceptionFrame68000, jumpVector, exceptionAddressError, exceptionBusError}
-use Rattle.exceptions.specs.Frames.{formatWord, offsetWord, shortFrame, longFrame, disabledFrame}
+use Rattle.formats.specs.Formats.{formatWord, offsetWord, shortFrame, longFrame, disabledFrame}
 use Rattle.exceptions.specs.Exceptions.{supervised, stackShort, finished, taken, takeException, stackGroup2, takeGroup2, exceptionTrace, takeRewound, stackUnimp, takeFpUnimp060, stackDisabled, takeFpDisabled060}
 use Rattle.images.specs.Pushes.{calm}
 use Rattle.images.specs.Images.{Ready}

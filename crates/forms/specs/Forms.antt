@@ -14,11 +14,12 @@ use Rattle.pending.specs.Interrupts.{takesInterrupt}
 use Rattle.memory.specs.World.{World, putCpu, cpuOf}
 use Rattle.refusals.specs.Refusals.{oddBase, badCode}
 use Rattle.exceptions.specs.Exceptions.{trap}
-use Rattle.calls.specs.declared.Call.{Call}
-use Rattle.calls.specs.declared.Call.the-variants.{TakeException, Trap, TakeGroup2Exception, ExceptionChk, ExceptionZeroDivide, ExceptionPrivilege, ExceptionTrace, ExceptionAddressError, ExceptionBusError, TakeFpUnimp060, TakeFpDisabled060, TakeAlineException, TakeFlineException, TakeTrapException, TakeBkptException, TakeIllegalException, TriggerAddressError, TriggerBusError, CheckTrace, SetIrq, CheckInterrupts, CheckAndServiceInterrupts, Read16, Read32, Write16, Write32, Push16, Push32, PrefetchFirst, PrefetchSecond}
+use Rattle.answers.specs.declared.Call.{Call}
+use Rattle.answers.specs.declared.Call.the-variants.{TakeException, Trap, TakeGroup2Exception, ExceptionChk, ExceptionZeroDivide, ExceptionPrivilege, ExceptionTrace, ExceptionAddressError, ExceptionBusError, TakeFpUnimp060, TakeFpDisabled060, TakeAlineException, TakeFlineException, TakeTrapException, TakeBkptException, TakeIllegalException, TriggerAddressError, TriggerBusError, CheckTrace, SetIrq, CheckInterrupts, CheckAndServiceInterrupts, Read16, Read32, Write16, Write32, Push16, Push32, PrefetchFirst, PrefetchSecond}
 use Rattle.frames.specs.declared.Frame.{Frame}
-use Rattle.calls.specs.Matters.{matterOf}
-use Rattle.calls.specs.Calls.{cycles, flag, ofEntry, ofService, run, restarted, begun, refusal, perform}
+use Rattle.answers.specs.Matters.{matterOf}
+use Rattle.answers.specs.Answers.{cycles, flag, ofEntry, ofService}
+use Rattle.calls.specs.Calls.{restarted, run, begun, refusal, perform}
 use Rattle.images.specs.Pushes.{calm}
 use Rattle.forms.specs.Gist.{gist, gistCpu, framedBy}
 use Rattle.forms.specs.Jumps.{jumped}

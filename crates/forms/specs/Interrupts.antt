@@ -16,7 +16,7 @@ use Rattle.memory.specs.World.{World, Attempt, noted, stored, putCpu, flush, re
 use Rattle.frames.specs.declared.Frame.{Frame}
 use Rattle.frames.specs.Frames.{fieldAt}
 use Rattle.access.specs.Access.{raised, writeAt, pushFrame, jumpVector}
-use Rattle.exceptions.specs.Frames.{formatWord, offsetWord, shortFrame}
+use Rattle.formats.specs.Formats.{formatWord, offsetWord, shortFrame}
 use Rattle.steps.specs.Steps.{iackVector, enterLevel, withS, closeInterrupt}
 use Rattle.interrupts.specs.Interrupts.{vectorFrom, acknowledgeLevel, syncedAcknowledge, rest68000, from68000, writes68010, rest68010, restOther, firstFrame, throwaway, secondFrame, ended, dispatched, serviceInterrupt, serviced, checkAndService, pushInterrupt68000, pushInterrupt68010, pushInterruptOther}
 use Rattle.images.specs.Pushes.{calm}

@@ -16,7 +16,7 @@ use Rattle.frames.specs.declared.Frame.{Frame}
 use Rattle.frames.specs.Frames.{addressFrame, busFrame, frame68000, frame8, frame2, frame0, frame4, frame7, frame11}
 use Rattle.steps.specs.Steps.{enterBusError, stackedAddress, beginEntry, beginTrace}
 use Rattle.access.specs.Access.{raised, pushFrame, pushExceptionFrame68000, jumpVector, exceptionAddressError, exceptionBusError}
-use Rattle.exceptions.specs.Frames.{formatWord, offsetWord, shortFrame, longFrame, disabledFrame}
+use Rattle.formats.specs.Formats.{formatWord, offsetWord, shortFrame, longFrame, disabledFrame}
 use Rattle.exceptions.specs.Exceptions.{supervised, stackShort, finished, taken, takeException, stackGroup2, takeGroup2, exceptionTrace, takeRewound, stackUnimp, takeFpUnimp060, stackDisabled, takeFpDisabled060}
 use Rattle.bounds.specs.Skeleton.{pick-one}
 use Rattle.images.specs.Images.{Ready, mostStore, newA7}

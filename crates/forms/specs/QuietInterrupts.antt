@@ -19,7 +19,7 @@ use Rattle.frames.specs.declared.Frame.{Frame}
 use Rattle.frames.specs.Frames.{fieldAt, isCounted, isRaw}
 use Rattle.steps.specs.Steps.{enterLevel, withS, closeInterrupt}
 use Rattle.access.specs.Access.{raised, writeAt, pushFrame, jumpVector}
-use Rattle.exceptions.specs.Frames.{formatWord, offsetWord, shortFrame}
+use Rattle.formats.specs.Formats.{formatWord, offsetWord, shortFrame}
 use Rattle.interrupts.specs.Interrupts.{vectorFrom, acknowledgeLevel, syncedAcknowledge, rest68000, from68000, writes68010, rest68010, restOther, firstFrame, throwaway, secondFrame, ended, dispatched, serviceInterrupt, serviced, checkAndService, pushInterrupt68000, pushInterrupt68010, pushInterruptOther}
 use Rattle.bounds.specs.Skeleton.{pick-one}
 use Rattle.bounds.specs.Levels.{clash}

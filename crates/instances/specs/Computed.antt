@@ -17,12 +17,13 @@ use Rattle.frames.specs.Frames.{fieldAt, frame4, frame7, frame11, writeData, bu
 use Rattle.steps.specs.Steps.{refusesOdd, vectorAddress, beginBus, enterBusError, stacksNext, stackedAddress, beginEntry, iackVector, enterLevel, withS, closeInterrupt}
 use Rattle.images.specs.Images.{frameBytes}
 use Rattle.exceptions.specs.Exceptions.{stackShort, finished, taken, takeException, stackGroup2, takeGroup2, trap}
-use Rattle.exceptions.specs.Frames.{formatWord, offsetWord, shortFrame, longFrame}
+use Rattle.formats.specs.Formats.{formatWord, offsetWord, shortFrame, longFrame}
 use Rattle.interrupts.specs.Interrupts.{vectorFrom, acknowledgeLevel, syncedAcknowledge, rest68000, from68000, writes68010, rest68010, restOther, firstFrame, throwaway, secondFrame, ended, dispatched, serviceInterrupt, serviced, checkAndService, pushInterrupt68000, pushInterrupt68010, pushInterruptOther}
 use Rattle.refusals.specs.Refusals.{badFlags, oddBase, badCycles, badCode, badStore, pastTop, anyPast, badWindows, shortLog, badVector, badKind, testsOf, firstOf, refusalOf}
-use Rattle.calls.specs.Calls.{Performed, valueOf, cycles, flag, ofEntry, ofService, run, restarted, begun, refusal, perform}
-use Rattle.calls.specs.Matters.{matterOf}
-use Rattle.calls.specs.declared.Call.{Call}
+use Rattle.answers.specs.Answers.{Performed, valueOf, cycles, flag, ofEntry, ofService}
+use Rattle.calls.specs.Calls.{restarted, run, begun, refusal, perform}
+use Rattle.answers.specs.Matters.{matterOf}
+use Rattle.answers.specs.declared.Call.{Call}
 use Rattle.instances.specs.Start.{setPpc, setVbr, setSaved, start, startAt, pending, holding, lent, fresh, laid}
 use Rattle.instances.specs.Rows.{seen, logged}
 

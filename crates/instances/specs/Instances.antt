@@ -6,7 +6,7 @@ use mathlib.Core.List.{List}
 use native.Mathlib.Omega.{arith}
 use lib.ListN.{length}
 use Rattle.types.specs.declared.FaultCause.the-variants.{Absent, PageFault}
-use Rattle.calls.specs.declared.Call.the-variants.{ExceptionBusError}
+use Rattle.answers.specs.declared.Call.the-variants.{ExceptionBusError}
 use Rattle.instances.specs.Start.{auto, start}
 use Rattle.instances.specs.Rows.{P1, P2, P3, P4, P5, P6, P7, P8, P9, P10, P11, Also, EntersInEachOrder, Leaves, user}
 use Rattle.instances.specs.Computed.{computed}

@@ -13,11 +13,12 @@ use Rattle.pending.specs.Interrupts.{setIrq}
 use Rattle.memory.specs.World.{World, readValue}
 use Rattle.frames.specs.Codes.{functionCode, ssw020, ssw040, wb3s, fslw060}
 use Rattle.steps.specs.Steps.{iackVector}
-use Rattle.calls.specs.declared.Call.{Call}
-use Rattle.calls.specs.declared.Call.the-variants.{TakeException, Trap, ExceptionChk, ExceptionZeroDivide, ExceptionBusError, CheckAndServiceInterrupts}
-use Rattle.calls.specs.declared.Answer.{Answer}
-use Rattle.calls.specs.declared.Answer.the-variants.{Cycles, Flag, Refused}
-use Rattle.calls.specs.Calls.{Performed, answered, valueOf, perform}
+use Rattle.answers.specs.declared.Call.{Call}
+use Rattle.answers.specs.declared.Call.the-variants.{TakeException, Trap, ExceptionChk, ExceptionZeroDivide, ExceptionBusError, CheckAndServiceInterrupts}
+use Rattle.answers.specs.declared.Answer.{Answer}
+use Rattle.answers.specs.declared.Answer.the-variants.{Cycles, Flag, Refused}
+use Rattle.answers.specs.Answers.{Performed, answered, valueOf}
+use Rattle.calls.specs.Calls.{perform}
 use Rattle.instances.specs.Start.{setVbr, setSaved, start, startAt, pending, auto, holding, zeros, lent, fresh, laid, EveryKind}
 
 -- what an entry is told by: its answer, A7, PC and the whole store

@@ -20,8 +20,9 @@ use Rattle.access.specs.Access.{raised, pushFrame, exceptionBusError}
 use Rattle.images.specs.Images.{frameBytes, bottom, Ready, Sound, ready-whole}
 use Rattle.images.specs.Jumps.{Reachable, vectorPlace, handler, reachable-after}
 use Rattle.images.specs.Values.{bus-fields}
-use Rattle.calls.specs.declared.Call.the-variants.{ExceptionBusError}
-use Rattle.calls.specs.Calls.{perform, run, cycles, begun, restarted, refusal}
+use Rattle.answers.specs.declared.Call.the-variants.{ExceptionBusError}
+use Rattle.answers.specs.Answers.{cycles}
+use Rattle.calls.specs.Calls.{restarted, perform, run, begun, refusal}
 use Rattle.instances.specs.Start.{holding, auto}
 
 no : {A : Type 0} → false ≡ true → A

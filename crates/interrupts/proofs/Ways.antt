@@ -12,7 +12,7 @@ use Rattle.access.specs.Access.{jumpVector, pushFrame, raised, writeAt}
 use Rattle.cpu.specs.Clocks.{internalCycles}
 use Rattle.cpu.specs.Fields.{a7Of, kindOf, lowerA7, pcOf}
 use Rattle.cpu.specs.declared.Cpu.{Cpu}
-use Rattle.exceptions.specs.Frames.{formatWord, offsetWord, shortFrame}
+use Rattle.formats.specs.Formats.{formatWord, offsetWord, shortFrame}
 use Rattle.frames.specs.declared.Frame.{Frame}
 use Rattle.interrupts.specs.Interrupts.{acknowledgeLevel, checkAndService, dispatched, ended, firstFrame, from68000, pushInterrupt68000, pushInterrupt68010, pushInterruptOther, rest68000, rest68010, restOther, secondFrame, serviceInterrupt, serviced, syncedAcknowledge, throwaway, vectorFrom, writes68010}
 use Rattle.interrupts.specs.declared.Stacked.{Stacked}

@@ -11,7 +11,7 @@ use Rattle.pending.specs.Interrupts.{pendingLevel, takesInterrupt, clearLevel}
 use Rattle.memory.specs.World.{World, Attempt, reply, tried, cpuOf, step, flush, acknowledged}
 use Rattle.steps.specs.Steps.{iackVector, enterLevel, closeInterrupt, withS}
 use Rattle.access.specs.Access.{raised, writeAt, pushFrame, jumpVector}
-use Rattle.exceptions.specs.Frames.{formatWord, offsetWord, shortFrame}
+use Rattle.formats.specs.Formats.{formatWord, offsetWord, shortFrame}
 
 -- the acknowledge cycle: the world after it, and the vector as its value
 unfoldable pub vectorFrom : ℕ → Attempt → Attempt

@@ -3,7 +3,7 @@ use Prim.Native.Nat.{ℕ}
 use mathlib.Core.List.{List}
 use Rattle.cpu.specs.Fields.{setPpc}
 use Rattle.memory.specs.World.{pokeLong}
-use Rattle.calls.specs.Calls.{plain}
+use Rattle.answers.specs.Answers.{plain}
 use Rattle.lines.specs.Numbers.{digitOf, reading, numberOf}
 use Rattle.lines.specs.Commands.{startsWith, spaceIn, kindIn, irqIn, trapIn, walkIn, pcIn, ppcIn, a7In, excIn, longIn, longFields, retIn, wordIn, commandOf}
 use Rattle.prints.specs.Prints.{more, hexByte, hex1, hex2, hex3, hex4, hex8, decimalOf, stateLine, rowLine, refusedLine}

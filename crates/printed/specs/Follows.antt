@@ -10,10 +10,11 @@ use lib.ListN.{length}
 use Rattle.types.specs.Kinds.{pick}
 use Rattle.memory.specs.declared.Core.{Core}
 use Rattle.memory.specs.World.{World, cpuOf, putCpu}
-use Rattle.calls.specs.declared.Call.{Call}
-use Rattle.calls.specs.declared.Call.the-variants as call
-use Rattle.calls.specs.declared.Answer.the-variants.{Refused}
-use Rattle.calls.specs.Calls.{answered, begun, refusal, perform}
+use Rattle.answers.specs.declared.Call.{Call}
+use Rattle.answers.specs.declared.Call.the-variants as call
+use Rattle.answers.specs.declared.Answer.the-variants.{Refused}
+use Rattle.answers.specs.Answers.{answered}
+use Rattle.calls.specs.Calls.{begun, refusal, perform}
 use Rattle.calls.specs.Calls.{run as performed}
 use Rattle.unwind.specs.Returns.{back, refusedBack}
 use Rattle.unwind.specs.Unwind.{sightOf, returned, returnFrom}

@@ -3,7 +3,7 @@ use Prim.Native.Nat.{ℕ}
 use mathlib.Core.Path.{refl}
 use mathlib.Core.List.{List, [], _∷_, _++_}
 use Rattle.memory.specs.World.{World, cpuOf}
-use Rattle.calls.specs.declared.Call.the-variants as call
+use Rattle.answers.specs.declared.Call.the-variants as call
 use Rattle.calls.specs.Calls.{perform}
 use Rattle.nest.specs.Nest.{Step, return, handlers, State, Page, Premises, end, depth}
 use Rattle.entered.specs.Machines.{roomOf}

@@ -27,11 +27,12 @@ use Rattle.bounds.specs.Ledger.{Written}
 use Rattle.bounds.specs.Events.{guardCost, guardCost-most, addressCost-most, bus-most, queue-most, few-more, none, guardRead-events, guardWrite-events, pushed-events, prefetchFirst-events, prefetchSecond-events, entryBus-events, entryAddress-events, bus-events, address-events}
 use Rattle.refusals.specs.Refusals.{shortLog, badKind, testsOf}
 use Rattle.refusals.specs.Laws.{outcomes}
-use Rattle.calls.specs.declared.Call.{Call}
-use Rattle.calls.specs.declared.Call.the-variants.{TakeException, Trap, TakeGroup2Exception, ExceptionChk, ExceptionZeroDivide, ExceptionPrivilege, ExceptionTrace, ExceptionAddressError, ExceptionBusError, TakeFpUnimp060, TakeFpDisabled060, TakeAlineException, TakeFlineException, TakeTrapException, TakeBkptException, TakeIllegalException, TriggerAddressError, TriggerBusError, CheckTrace, SetIrq, CheckInterrupts, CheckAndServiceInterrupts, Read16, Read32, Write16, Write32, Push16, Push32, PrefetchFirst, PrefetchSecond}
-use Rattle.calls.specs.declared.Answer.the-variants.{Cycles, Flag, Refused}
-use Rattle.calls.specs.Matters.{matterOf}
-use Rattle.calls.specs.Calls.{bit, refusedBy, valueOf, countOf, Performed, answered, eventsOf, cycles, flag, plain, ofEntry, ofRead, ofService, ofTrace, run, restarted, begun, refusal, perform}
+use Rattle.answers.specs.declared.Call.{Call}
+use Rattle.answers.specs.declared.Call.the-variants.{TakeException, Trap, TakeGroup2Exception, ExceptionChk, ExceptionZeroDivide, ExceptionPrivilege, ExceptionTrace, ExceptionAddressError, ExceptionBusError, TakeFpUnimp060, TakeFpDisabled060, TakeAlineException, TakeFlineException, TakeTrapException, TakeBkptException, TakeIllegalException, TriggerAddressError, TriggerBusError, CheckTrace, SetIrq, CheckInterrupts, CheckAndServiceInterrupts, Read16, Read32, Write16, Write32, Push16, Push32, PrefetchFirst, PrefetchSecond}
+use Rattle.answers.specs.declared.Answer.the-variants.{Cycles, Flag, Refused}
+use Rattle.answers.specs.Matters.{matterOf}
+use Rattle.answers.specs.Answers.{bit, refusedBy, valueOf, countOf, Performed, answered, eventsOf, cycles, flag, plain, ofEntry, ofRead, ofService, ofTrace}
+use Rattle.calls.specs.Calls.{restarted, run, begun, refusal, perform}
 use Rattle.promises.specs.Entries.{entryCost, group2Writes, on-written, group2-most, takeGroup2-events, exceptionTrace-events, takeFpUnimp060-events, takeFpDisabled060-events}
 use Rattle.promises.specs.Taken.{takeException-16, trap-16, takeRewound-16}
 use Rattle.promises.specs.Interrupts.{interrupt-most, checkAndService-events, Due, due-exactly, answer-decides, untaken-unchanged, taken-after}

@@ -21,9 +21,10 @@ use Rattle.bounds.specs.Skeleton.{Steps, Raises, pick-one, flush-ways, write-wa
 use Rattle.bounds.specs.Levels.{Any, clash}
 use Rattle.refusals.specs.Refusals.{badCycles, testsOf}
 use Rattle.refusals.specs.Laws.{outcomes}
-use Rattle.calls.specs.declared.Call.the-variants.{CheckAndServiceInterrupts}
-use Rattle.calls.specs.Matters.{matterOf}
-use Rattle.calls.specs.Calls.{valueOf, flag, ofService, restarted, begun, refusal, perform}
+use Rattle.answers.specs.declared.Call.the-variants.{CheckAndServiceInterrupts}
+use Rattle.answers.specs.Matters.{matterOf}
+use Rattle.answers.specs.Answers.{valueOf, flag, ofService}
+use Rattle.calls.specs.Calls.{restarted, begun, refusal, perform}
 use Rattle.promises.specs.Refusals.{refusal-none}
 use Rattle.promises.specs.Interrupts.{answer-decides}
 use Rattle.promises.specs.Calls.{performed, decided}

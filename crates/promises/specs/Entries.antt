@@ -14,7 +14,7 @@ use Rattle.memory.specs.World.{World, putCpu, cpuOf, withCpu, step}
 use Rattle.frames.specs.Frames.{fieldAt, isCounted}
 use Rattle.steps.specs.Steps.{beginTrace}
 use Rattle.access.specs.Access.{raised, jumpVector, pushFrame}
-use Rattle.exceptions.specs.Frames.{formatWord, offsetWord, shortFrame, longFrame, disabledFrame}
+use Rattle.formats.specs.Formats.{formatWord, offsetWord, shortFrame, longFrame, disabledFrame}
 use Rattle.exceptions.specs.Exceptions.{supervised, stackShort, stackGroup2, takeGroup2, exceptionTrace, stackUnimp, takeFpUnimp060, stackDisabled, takeFpDisabled060}
 use Rattle.bounds.specs.Skeleton.{Raises, afterFields, refills, pick-one, clocks-ways, pushShort-good, stacked-good, jump-good}
 use Rattle.bounds.specs.ErrorFrames.{busWrites, addressWrites}

@@ -17,7 +17,7 @@ use Rattle.pending.specs.Interrupts.{pendingLevel, maskLevel, takesInterrupt, c
 use Rattle.pending.specs.Laws.{seven-taken, taken-above, taken-exceeds, exceeding-taken}
 use Rattle.memory.specs.World.{World, Attempt, tried, putCpu, noted, flush, responseOf, acknowledged, cpuOf, withCpu, step}
 use Rattle.access.specs.Access.{raised, writeAt, jumpVector}
-use Rattle.exceptions.specs.Frames.{formatWord, offsetWord}
+use Rattle.formats.specs.Formats.{formatWord, offsetWord}
 use Rattle.steps.specs.Steps.{enterLevel, withS, closeInterrupt}
 use Rattle.interrupts.specs.Interrupts.{vectorFrom, acknowledgeLevel, syncedAcknowledge, rest68000, from68000, writes68010, rest68010, restOther, firstFrame, throwaway, secondFrame, ended, dispatched, serviceInterrupt, serviced, checkAndService, pushInterrupt68000, pushInterrupt68010, pushInterruptOther}
 use Rattle.bounds.specs.Skeleton.{Raises, more, pick-one, clocks-ways, guardWrite-good}

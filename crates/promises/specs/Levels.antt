@@ -17,16 +17,17 @@ use Rattle.frames.specs.declared.Frame.{Frame}
 use Rattle.frames.specs.Frames.{word, long}
 use Rattle.steps.specs.Steps.{stackedAddress, beginEntry, beginTrace, enterLevel}
 use Rattle.access.specs.Access.{Raise, Fault, busError, addressError, raised, trigger, pushFrame, jumpVector}
-use Rattle.exceptions.specs.Frames.{formatWord, offsetWord, shortFrame, longFrame, disabledFrame}
+use Rattle.formats.specs.Formats.{formatWord, offsetWord, shortFrame, longFrame, disabledFrame}
 use Rattle.exceptions.specs.Exceptions.{entry, supervised, finished}
 use Rattle.interrupts.specs.Interrupts.{vectorFrom, acknowledgeLevel, serviced}
 use Rattle.bounds.specs.Skeleton.{Raises, pick-if, clocks-ways, guardRead-good, guardWrite-good, pushed-good, stacked-good, pushShort-good, jump-good, prefetchFirst-good, prefetchSecond-good}
 use Rattle.bounds.specs.Levels.{Domain, Safe, Kept, Any, Either, inside, steps, vector-safe, super-kept, entryAddress-good, entryBus-good, Unrolls, unrolled-halts, level-halts, level-unrolls, level-any, levels, raises-in, raises-bus, raises-any}
 use Rattle.bounds.specs.Unique.{unique}
-use Rattle.calls.specs.declared.Call.{Call}
-use Rattle.calls.specs.declared.Call.the-variants.{TakeException, Trap, TakeGroup2Exception, ExceptionChk, ExceptionZeroDivide, ExceptionPrivilege, ExceptionTrace, ExceptionAddressError, ExceptionBusError, TakeFpUnimp060, TakeFpDisabled060, TakeAlineException, TakeFlineException, TakeTrapException, TakeBkptException, TakeIllegalException, TriggerAddressError, TriggerBusError, CheckTrace, SetIrq, CheckInterrupts, CheckAndServiceInterrupts, Read16, Read32, Write16, Write32, Push16, Push32, PrefetchFirst, PrefetchSecond}
-use Rattle.calls.specs.declared.Answer.the-variants.{Refused}
-use Rattle.calls.specs.Calls.{answered, cycles, plain, ofEntry, ofRead, ofService, begun, refusal, perform}
+use Rattle.answers.specs.declared.Call.{Call}
+use Rattle.answers.specs.declared.Call.the-variants.{TakeException, Trap, TakeGroup2Exception, ExceptionChk, ExceptionZeroDivide, ExceptionPrivilege, ExceptionTrace, ExceptionAddressError, ExceptionBusError, TakeFpUnimp060, TakeFpDisabled060, TakeAlineException, TakeFlineException, TakeTrapException, TakeBkptException, TakeIllegalException, TriggerAddressError, TriggerBusError, CheckTrace, SetIrq, CheckInterrupts, CheckAndServiceInterrupts, Read16, Read32, Write16, Write32, Push16, Push32, PrefetchFirst, PrefetchSecond}
+use Rattle.answers.specs.declared.Answer.the-variants.{Refused}
+use Rattle.answers.specs.Answers.{answered, cycles, plain, ofEntry, ofRead, ofService}
+use Rattle.calls.specs.Calls.{begun, refusal, perform}
 use Rattle.promises.specs.Refusals.{accepted-domain}
 use Rattle.promises.specs.Serviced.{Serves, serviceInterrupt-same}
 use Rattle.promises.specs.Over.{stackShortBy, takenBy, takeExceptionBy, stackGroup2By, takeGroup2By, trapBy, exceptionTraceBy, takeRewoundBy, stackUnimpBy, takeFpUnimp060By, stackDisabledBy, takeFpDisabled060By, checkAndServiceBy, runBy, performBy, performBy-raised}

@@ -18,13 +18,14 @@ use Rattle.memory.specs.World.{World, Attempt, reply, tried, cpuOf, step}
 use Rattle.frames.specs.Frames.{word, long}
 use Rattle.steps.specs.Steps.{stackedAddress, beginEntry, beginTrace, withS, enterLevel}
 use Rattle.access.specs.Access.{Raise, raised, busError, addressError, readAt, writeAt, pushField, pushFrame, pushExceptionFrame68000, jumpVector, prefetchFirst, prefetchSecond, exceptionBusError, exceptionAddressError}
-use Rattle.exceptions.specs.Frames.{formatWord, offsetWord, shortFrame, longFrame, disabledFrame}
+use Rattle.formats.specs.Formats.{formatWord, offsetWord, shortFrame, longFrame, disabledFrame}
 use Rattle.exceptions.specs.Exceptions.{Entry, entry, supervised, finished, stackShort, taken, takeException, stackGroup2, takeGroup2, trap, exceptionTrace, takeRewound, stackUnimp, takeFpUnimp060, stackDisabled, takeFpDisabled060}
 use Rattle.interrupts.specs.Interrupts.{acknowledgeLevel, syncedAcknowledge, ended, serviced, rest68000, from68000, writes68010, rest68010, restOther, throwaway, pushInterrupt68000, pushInterrupt68010, pushInterruptOther, firstFrame, secondFrame, dispatched, serviceInterrupt, checkAndService}
-use Rattle.calls.specs.declared.Call.{Call}
-use Rattle.calls.specs.declared.Call.the-variants.{TakeException, Trap, TakeGroup2Exception, ExceptionChk, ExceptionZeroDivide, ExceptionPrivilege, ExceptionTrace, ExceptionAddressError, ExceptionBusError, TakeFpUnimp060, TakeFpDisabled060, TakeAlineException, TakeFlineException, TakeTrapException, TakeBkptException, TakeIllegalException, TriggerAddressError, TriggerBusError, CheckTrace, SetIrq, CheckInterrupts, CheckAndServiceInterrupts, Read16, Read32, Write16, Write32, Push16, Push32, PrefetchFirst, PrefetchSecond}
-use Rattle.calls.specs.declared.Answer.the-variants.{Refused}
-use Rattle.calls.specs.Calls.{Performed, answered, cycles, flag, plain, ofEntry, ofRead, ofService, ofTrace, run, begun, refusal, perform}
+use Rattle.answers.specs.declared.Call.{Call}
+use Rattle.answers.specs.declared.Call.the-variants.{TakeException, Trap, TakeGroup2Exception, ExceptionChk, ExceptionZeroDivide, ExceptionPrivilege, ExceptionTrace, ExceptionAddressError, ExceptionBusError, TakeFpUnimp060, TakeFpDisabled060, TakeAlineException, TakeFlineException, TakeTrapException, TakeBkptException, TakeIllegalException, TriggerAddressError, TriggerBusError, CheckTrace, SetIrq, CheckInterrupts, CheckAndServiceInterrupts, Read16, Read32, Write16, Write32, Push16, Push32, PrefetchFirst, PrefetchSecond}
+use Rattle.answers.specs.declared.Answer.the-variants.{Refused}
+use Rattle.answers.specs.Answers.{Performed, answered, cycles, flag, plain, ofEntry, ofRead, ofService, ofTrace}
+use Rattle.calls.specs.Calls.{run, begun, refusal, perform}
 
 module _ (t : Raise) where
   -- exceptions

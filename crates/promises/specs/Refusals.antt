@@ -18,10 +18,11 @@ use Rattle.memory.specs.World.{World, cpuOf}
 use Rattle.bounds.specs.Levels.{Domain, clash}
 use Rattle.refusals.specs.Refusals.{badFlags, oddBase, badCycles, badCode, badStore, pastTop, anyPast, badWindows, shortLog, badVector, badKind, testsOf, refusalOf}
 use Rattle.refusals.specs.Laws.{outcomes, placeFrom, refusal-place}
-use Rattle.calls.specs.declared.Call.{Call}
-use Rattle.calls.specs.declared.Answer.the-variants.{Refused}
-use Rattle.calls.specs.Matters.{matterOf}
-use Rattle.calls.specs.Calls.{answered, restarted, begun, run, refusal, perform}
+use Rattle.answers.specs.declared.Call.{Call}
+use Rattle.answers.specs.declared.Answer.the-variants.{Refused}
+use Rattle.answers.specs.Matters.{matterOf}
+use Rattle.answers.specs.Answers.{answered}
+use Rattle.calls.specs.Calls.{restarted, begun, run, refusal, perform}
 
 -- ---- which number
 

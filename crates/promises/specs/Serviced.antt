@@ -13,7 +13,7 @@ use Rattle.memory.specs.World.{World, Attempt, reply, putCpu, flush, cpuOf, wit
 use Rattle.frames.specs.declared.Frame.{Frame}
 use Rattle.steps.specs.Steps.{enterLevel, withS}
 use Rattle.access.specs.Access.{Raise, writeAt, pushFrame, jumpVector}
-use Rattle.exceptions.specs.Frames.{formatWord, offsetWord, shortFrame}
+use Rattle.formats.specs.Formats.{formatWord, offsetWord, shortFrame}
 use Rattle.interrupts.specs.Interrupts.{acknowledgeLevel, syncedAcknowledge, ended}
 use Rattle.bounds.specs.Skeleton.{Steps, Raises, pick-if, guardWrite-good, stacked-good, jump-good}
 use Rattle.bounds.specs.Levels.{Any, levels}

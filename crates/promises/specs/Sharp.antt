@@ -23,13 +23,14 @@ use Rattle.access.specs.Access.{readOr, prefetchRead, keptFirst, firstFrom, pre
 use Rattle.frames.specs.Frames.{fieldAt, frame68000, frame8, frame2, frame0, frame4, frame7, frame11, addressFrame, busFrame, isCounted, isRaw}
 use Rattle.steps.specs.Steps.{beginTrace, refusesOdd, vectorAddress, beginBus, beginAddress, enterBusError, beginEntry, iackVector, enterLevel, closeInterrupt}
 use Rattle.exceptions.specs.Exceptions.{stackShort, finished, taken, takeException, stackGroup2, takeGroup2, stackUnimp, takeFpUnimp060, stackDisabled, takeFpDisabled060, trap, takeRewound, exceptionTrace}
-use Rattle.exceptions.specs.Frames.{shortFrame, longFrame, disabledFrame}
+use Rattle.formats.specs.Formats.{shortFrame, longFrame, disabledFrame}
 use Rattle.interrupts.specs.Interrupts.{vectorFrom, acknowledgeLevel, restOther, firstFrame, throwaway, secondFrame, ended, dispatched, serviceInterrupt, serviced, checkAndService, pushInterruptOther}
 use Rattle.refusals.specs.Refusals.{badFlags, oddBase, badCycles, badCode, badStore, pastTop, anyPast, badWindows, shortLog, badVector, badKind, testsOf, firstOf, refusalOf}
-use Rattle.calls.specs.Calls.{countOf, cycles, flag, plain, ofEntry, ofRead, ofService, ofTrace, run, restarted, begun, refusal, perform}
-use Rattle.calls.specs.Matters.{matterOf}
-use Rattle.calls.specs.declared.Call.{Call}
-use Rattle.calls.specs.declared.Call.the-variants.{TakeException, Trap, TakeTrapException, ExceptionPrivilege, TakeAlineException, TakeFlineException, TakeBkptException, TakeIllegalException, ExceptionChk, ExceptionZeroDivide, ExceptionTrace, Read16, Write16, Push16, CheckTrace, SetIrq, CheckInterrupts, TakeGroup2Exception, ExceptionAddressError, ExceptionBusError, TakeFpUnimp060, TakeFpDisabled060, TriggerAddressError, TriggerBusError, CheckAndServiceInterrupts, Read32, Write32, Push32, PrefetchFirst, PrefetchSecond}
+use Rattle.answers.specs.Answers.{countOf, cycles, flag, plain, ofEntry, ofRead, ofService, ofTrace}
+use Rattle.calls.specs.Calls.{restarted, run, begun, refusal, perform}
+use Rattle.answers.specs.Matters.{matterOf}
+use Rattle.answers.specs.declared.Call.{Call}
+use Rattle.answers.specs.declared.Call.the-variants.{TakeException, Trap, TakeTrapException, ExceptionPrivilege, TakeAlineException, TakeFlineException, TakeBkptException, TakeIllegalException, ExceptionChk, ExceptionZeroDivide, ExceptionTrace, Read16, Write16, Push16, CheckTrace, SetIrq, CheckInterrupts, TakeGroup2Exception, ExceptionAddressError, ExceptionBusError, TakeFpUnimp060, TakeFpDisabled060, TriggerAddressError, TriggerBusError, CheckAndServiceInterrupts, Read32, Write32, Push32, PrefetchFirst, PrefetchSecond}
 use Rattle.promises.specs.Calls.{mostEvents}
 use Rattle.promises.specs.Over.{runBy, performBy}
 

@@ -21,7 +21,7 @@ use Rattle.frames.specs.declared.Field.{Field}
 use Rattle.frames.specs.Frames.{word, long, fieldAt, isCounted, isRaw}
 use Rattle.steps.specs.Steps.{refusesOdd, stackedAddress, beginEntry, vectorAddress}
 use Rattle.access.specs.Access.{raised, addressError, busError, wrote, checkedWrite, writeAt, stackField, pushField, pushFields, pushFrame, shortWrites, pushExceptionFrame68000, prefetchFirst, secondFrom, prefetchSecond, vectorRead, refill, jumpTo, jumpVector}
-use Rattle.exceptions.specs.Frames.{offsetWord, shortFrame}
+use Rattle.formats.specs.Formats.{offsetWord, shortFrame}
 use Rattle.exceptions.specs.Exceptions.{entry, supervised, stackShort, finished, taken, takeException, trap, takeRewound}
 use Rattle.bounds.specs.Skeleton.{refills, more, pick-one, pick-when, clocks-ways, flush-ways, write-ways, guardWrite-good, prefetchFirst-good, jump-good}
 use Rattle.bounds.specs.Faulted.{trigger-faulted, write-none, read-none, push-none, first-faulted}

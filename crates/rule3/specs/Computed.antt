@@ -7,7 +7,7 @@ use Rattle.status.specs.Status.{putBackSr}
 use Rattle.frames.specs.Frames.{frame8, frame68000, addressFrame}
 use Rattle.access.specs.Access.{exceptionAddressError}
 use Rattle.steps.specs.Steps.{beginTrace}
-use Rattle.exceptions.specs.Frames.{disabledFrame}
+use Rattle.formats.specs.Formats.{disabledFrame}
 use Rattle.exceptions.specs.Exceptions.{takeRewound, exceptionTrace, stackUnimp, takeFpUnimp060, stackDisabled, takeFpDisabled060}
 use Rattle.images.specs.Pushes.{calm, laidField}
 use Rattle.images.specs.Images.{fieldAddress}

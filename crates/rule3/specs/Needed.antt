@@ -14,7 +14,7 @@ use Rattle.cpu.specs.declared.Cpu.{Cpu}
 use Rattle.cpu.specs.Groups.{withFlow}
 use Rattle.cpu.specs.Setters.{withRunMode, withT0Flag, withSFlag, withMFlag, withMmuFcOverride}
 use Rattle.memory.specs.declared.Bus.{Bus}
-use Rattle.calls.specs.declared.Call.the-variants.{Trap, ExceptionChk, ExceptionAddressError}
+use Rattle.answers.specs.declared.Call.the-variants.{Trap, ExceptionChk, ExceptionAddressError}
 use Rattle.instances.specs.Start.{laid}
 use Rattle.nest.specs.Nest.{Step, return, handlers, end, depth, Told}
 use Rattle.entered.specs.Machines.{Room}

@@ -16,8 +16,8 @@ use Rattle.cpu.specs.Fresh.{freshCpu}
 use Rattle.status.specs.Status.{putBackSr}
 use Rattle.pending.specs.Interrupts.{setIrq}
 use Rattle.memory.specs.declared.Bus.{Bus}
-use Rattle.calls.specs.declared.Call.{Call}
-use Rattle.calls.specs.declared.Call.the-variants.{TakeException, Trap, ExceptionChk, ExceptionZeroDivide, ExceptionTrace, ExceptionAddressError, ExceptionBusError, TakeFpUnimp060, TakeFpDisabled060, TakeIllegalException, CheckAndServiceInterrupts}
+use Rattle.answers.specs.declared.Call.{Call}
+use Rattle.answers.specs.declared.Call.the-variants.{TakeException, Trap, ExceptionChk, ExceptionZeroDivide, ExceptionTrace, ExceptionAddressError, ExceptionBusError, TakeFpUnimp060, TakeFpDisabled060, TakeIllegalException, CheckAndServiceInterrupts}
 use Rattle.nest.specs.View.{Row}
 use Rattle.nest.specs.Nest.{Step, entry, return, handlers, end, depth, rows, restoredBy, Values, Told, SameTale}
 use Rattle.entered.specs.Machines.{direct, Room}

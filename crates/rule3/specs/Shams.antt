@@ -11,7 +11,7 @@ use lib.ListN.{getD, set}
 use Rattle.cpu.specs.declared.Cpu.{Cpu}
 use Rattle.cpu.specs.Setters.{withMFlag}
 use Rattle.cpu.specs.Fields.{kindOf, a7Of, setA7}
-use Rattle.calls.specs.declared.Call.the-variants.{Trap, CheckAndServiceInterrupts}
+use Rattle.answers.specs.declared.Call.the-variants.{Trap, CheckAndServiceInterrupts}
 use Rattle.nest.specs.Nest.{Step, entry, end, depth, Entered, refused, untaken, taken, Returned, denied, returned, Rule3}
 use Rattle.entered.specs.Machines.{Room}
 use Rattle.rule3.specs.Checked.{Engine, machineOf, real, premisesTest, premises-tested}

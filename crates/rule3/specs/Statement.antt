@@ -9,7 +9,7 @@ use lib.ListN.{length, getD, set, replicate}
 use Rattle.cpu.specs.declared.Cpu.{Cpu}
 use Rattle.cpu.specs.Setters.{withSFlag, withMmuFcOverride}
 use Rattle.cpu.specs.Fields.{pcOf, ppcOf, a7Of, setPc}
-use Rattle.calls.specs.declared.Call.the-variants.{TakeException, Trap, ExceptionChk, TakeFpUnimp060, CheckAndServiceInterrupts}
+use Rattle.answers.specs.declared.Call.the-variants.{TakeException, Trap, ExceptionChk, TakeFpUnimp060, CheckAndServiceInterrupts}
 use Rattle.calls.specs.Calls.{begun, refusal}
 use Rattle.forms.specs.Forms.{planOf}
 use Rattle.instances.specs.Start.{laid}

@@ -14,7 +14,7 @@ use Rattle.cpu.specs.Fresh.{freshCpu}
 use Rattle.status.specs.Status.{setSrNointNosp}
 use Rattle.pending.specs.Interrupts.{setIrq}
 use Rattle.memory.specs.declared.Bus.{Bus}
-use Rattle.calls.specs.declared.Call.the-variants.{CheckAndServiceInterrupts}
+use Rattle.answers.specs.declared.Call.the-variants.{CheckAndServiceInterrupts}
 use Rattle.instances.specs.Start.{laid}
 use Rattle.nest.specs.View.{Row}
 use Rattle.nest.specs.Nest.{Step, entry, handlers, State, end, rows, Values, restored, restoredBy, depth, Premises, Told}

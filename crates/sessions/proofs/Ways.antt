@@ -16,11 +16,12 @@ use Rattle.memory.specs.declared.Bus.{Bus}
 use Rattle.memory.specs.declared.Core.{Core}
 use Rattle.memory.specs.World.{World, world}
 use Rattle.memory.specs.Served.{servedOf}
-use Rattle.calls.specs.declared.Call.{Call}
-use Rattle.calls.specs.declared.Call.the-variants.{SetIrq, CheckAndServiceInterrupts}
-use Rattle.calls.specs.declared.Answer.{Answer}
-use Rattle.calls.specs.declared.Answer.the-variants.{Cycles, Flag, Value, Done, Refused}
-use Rattle.calls.specs.Calls.{answered, perform}
+use Rattle.answers.specs.declared.Call.{Call}
+use Rattle.answers.specs.declared.Call.the-variants.{SetIrq, CheckAndServiceInterrupts}
+use Rattle.answers.specs.declared.Answer.{Answer}
+use Rattle.answers.specs.declared.Answer.the-variants.{Cycles, Flag, Value, Done, Refused}
+use Rattle.answers.specs.Answers.{answered}
+use Rattle.calls.specs.Calls.{perform}
 use Rattle.unwind.specs.declared.Returned.{Returned}
 use Rattle.unwind.specs.Unwind.{returnFrom}
 use Rattle.prints.specs.Prints.{before, more, laid, stateLine, refusedLine}

@@ -10,7 +10,7 @@ use lib.ListN.{length, take, replicate, length-append, length-replicate}
 use lib.Seq.{length-take-le, take-all, take-append-le}
 use Rattle.types.specs.Kinds.{pick}
 use Rattle.memory.specs.World.{World, world}
-use Rattle.calls.specs.declared.Call.{Call}
+use Rattle.answers.specs.declared.Call.{Call}
 use Rattle.lines.specs.declared.Command.{Command}
 use Rattle.lines.specs.declared.Command.the-variants as command
 use Rattle.lines.specs.Commands.{commandOf, wordIn}

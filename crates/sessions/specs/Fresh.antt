@@ -28,14 +28,15 @@ use Rattle.frames.specs.Frames.{fieldAt, busFrame, addressFrame, isCounted, isR
 use Rattle.refusals.specs.Refusals.{refusalOf}
 use Rattle.steps.specs.Steps.{refusesOdd, vectorAddress, stackedAddress, beginEntry, beginBus, beginAddress, closeBus, enterBusError, iackVector, enterLevel, closeInterrupt, withS}
 use Rattle.access.specs.Access.{Fault, busError, addressError, Raise, readOr, prefetchRead, keptFirst, firstFrom, prefetchFirst, keptSecond, secondFrom, prefetchSecond, checkedRead, readAt, wrote, checkedWrite, writeAt, stackField, pushField, pushFields, shortWrites, pushExceptionFrame68000, vectorRead, refill, jumpTo, jumpVector, pushFrame, exceptionAddressError, exceptionBusError, raiseBus, raiseAddress, trigger, raised}
-use Rattle.exceptions.specs.Frames.{formatWord, offsetWord, shortFrame}
+use Rattle.formats.specs.Formats.{formatWord, offsetWord, shortFrame}
 use Rattle.exceptions.specs.Exceptions.{Entry, entry, supervised, stackShort, finished as finishedEntry, taken, takeException, trap}
 use Rattle.interrupts.specs.Interrupts.{vectorFrom, acknowledgeLevel, syncedAcknowledge, rest68000, from68000, pushInterrupt68000, writes68010, rest68010, pushInterrupt68010, restOther, pushInterruptOther, firstFrame, throwaway, secondFrame, ended, dispatched, serviceInterrupt, serviced, checkAndService}
-use Rattle.calls.specs.declared.Call.{Call}
-use Rattle.calls.specs.declared.Call.the-variants.{TakeException, Trap, SetIrq, CheckAndServiceInterrupts}
-use Rattle.calls.specs.declared.Answer.the-variants.{Refused}
-use Rattle.calls.specs.Matters.{matterOf}
-use Rattle.calls.specs.Calls.{Performed, answered, cycles, flag, plain, ofEntry, ofService, run, begun, refusal, perform}
+use Rattle.answers.specs.declared.Call.{Call}
+use Rattle.answers.specs.declared.Call.the-variants.{TakeException, Trap, SetIrq, CheckAndServiceInterrupts}
+use Rattle.answers.specs.declared.Answer.the-variants.{Refused}
+use Rattle.answers.specs.Matters.{matterOf}
+use Rattle.answers.specs.Answers.{Performed, answered, cycles, flag, plain, ofEntry, ofService}
+use Rattle.calls.specs.Calls.{run, begun, refusal, perform}
 use Rattle.lines.specs.declared.Command.{Command}
 use Rattle.lines.specs.declared.Command.the-variants as command
 use Rattle.lines.specs.Commands.{commandOf}

@@ -4,7 +4,7 @@ use mathlib.Core.Path.{_≡_, refl}
 use mathlib.Core.Bool.{false}
 use lib.Dec.{eqb}
 use Rattle.memory.specs.World.{World}
-use Rattle.calls.specs.declared.Call.the-variants.{SetIrq, CheckAndServiceInterrupts}
+use Rattle.answers.specs.declared.Call.the-variants.{SetIrq, CheckAndServiceInterrupts}
 use Rattle.calls.specs.Calls.{refusal, perform}
 use Rattle.prints.specs.Prints.{refusedLine}
 use Rattle.sessions.specs.Sessions.{Session, say, answerTold, entered, interrupted}

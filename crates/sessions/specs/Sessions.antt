@@ -12,10 +12,10 @@ use Rattle.memory.specs.declared.Core.{Core}
 use Rattle.memory.specs.declared.Bus.{Bus}
 use Rattle.memory.specs.Served.{servedOf}
 use Rattle.memory.specs.World.{World, world, step as onCpu, pokeLong}
-use Rattle.calls.specs.declared.Call.{Call}
-use Rattle.calls.specs.declared.Call.the-variants.{TakeException, Trap, SetIrq, CheckAndServiceInterrupts}
-use Rattle.calls.specs.declared.Answer.{Answer}
-use Rattle.calls.specs.declared.Answer.the-variants.{Cycles, Flag, Value, Done, Refused}
+use Rattle.answers.specs.declared.Call.{Call}
+use Rattle.answers.specs.declared.Call.the-variants.{TakeException, Trap, SetIrq, CheckAndServiceInterrupts}
+use Rattle.answers.specs.declared.Answer.{Answer}
+use Rattle.answers.specs.declared.Answer.the-variants.{Cycles, Flag, Value, Done, Refused}
 use Rattle.calls.specs.Calls.{perform}
 use Rattle.unwind.specs.Unwind.{returnFrom}
 use Rattle.lines.specs.declared.Command.{Command}

@@ -1,9 +1,9 @@
 // What a session does on a line and on the bytes of its input: entries, returns and walks go through the public call, return and walk
 // alone, other commands set fields and bytes, and what is printed is laid into a buffer. It uses `lines`, `prints`, `calls`, `unwind` and
 // the record's crates; the program `session` lends it the buffers, reads and writes.
-use calls::Answer;
-use calls::Call;
-use calls::Performed;
+use answers::Answer;
+use answers::Call;
+use answers::Performed;
 use lines::Command;
 use memory::Bus;
 use memory::Core;

@@ -1,5 +1,5 @@
 use mathlib.Core.Path.{_≡_, sym, ap, _∙_}
-use Rattle.calls.specs.Calls.{refusedBy, valueOf, countOf}
+use Rattle.answers.specs.Answers.{refusedBy, valueOf, countOf}
 use Rattle.boundary.proofs.Answers.{inNumbers, flag-way}
 use borrow.Author.Needs.{needs}
 use Rattle.boundary.proofs.numbers.Statement.{statement}

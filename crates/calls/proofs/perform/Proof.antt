@@ -6,8 +6,8 @@ use Rattle.calls.proofs.perform.Reads as reads
 use Rattle.calls.proofs.perform.Lts as lts
 use Rattle.calls.proofs.accepts.Reads as accepts-reads
 use Rattle.calls.proofs.begin.Reads as begin-reads
-use Rattle.calls.proofs.matters.matter_of.Reads as matter-of-reads
-use Rattle.calls.proofs.refused.Reads as refused-reads
+use Rattle.answers.proofs.matters.matter_of.Reads as matter-of-reads
+use Rattle.answers.proofs.refused.Reads as refused-reads
 use Rattle.calls.proofs.run.Reads as run-reads
 use Rattle.refusals.proofs.refusal.Reads as refusal-reads
 

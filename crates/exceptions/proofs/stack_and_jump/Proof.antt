@@ -7,7 +7,7 @@ use Rattle.exceptions.proofs.stack_and_jump.Reads as reads
 use Rattle.exceptions.proofs.stack_and_jump.Lts as lts
 use Rattle.access.proofs.jump_vector.Reads as jump-vector-reads
 use Rattle.cpu.proofs.fields.set_exception.Reads as set-exception-reads
-use Rattle.exceptions.proofs.formats.offset_word.Reads as offset-word-reads
+use Rattle.formats.proofs.offset_word.Reads as offset-word-reads
 use Rattle.exceptions.proofs.stack_short.Reads as stack-short-reads
 use Rattle.memory.proofs.with_cpu.Reads as with-cpu-reads
 use Rattle.steps.proofs.stacked_address.Reads as stacked-address-reads

@@ -7,7 +7,7 @@ use Rattle.exceptions.proofs.stack_short.Reads as reads
 use Rattle.exceptions.proofs.stack_short.Lts as lts
 use Rattle.access.proofs.push_exception_frame_68000.Reads as push-exception-frame-68000-reads
 use Rattle.access.proofs.push_frame.Reads as push-frame-reads
-use Rattle.exceptions.proofs.formats.short_frame.Reads as short-frame-reads
+use Rattle.formats.proofs.short_frame.Reads as short-frame-reads
 use Rattle.memory.proofs.with_cpu.Reads as with-cpu-reads
 use Rattle.status.proofs.banks.enter_supervisor.Reads as enter-supervisor-reads
 use Rattle.status.proofs.get_sr.Reads as get-sr-reads

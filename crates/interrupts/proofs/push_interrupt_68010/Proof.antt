@@ -7,7 +7,7 @@ use Rattle.interrupts.proofs.push_interrupt_68010.Reads as reads
 use Rattle.interrupts.proofs.push_interrupt_68010.Lts as lts
 use Rattle.cpu.proofs.fields.a7.Reads as a7-reads
 use Rattle.cpu.proofs.fields.lower_a7.Reads as lower-a7-reads
-use Rattle.exceptions.proofs.formats.offset_word.Reads as offset-word-reads
+use Rattle.formats.proofs.offset_word.Reads as offset-word-reads
 use Rattle.interrupts.proofs.synced_acknowledge.Reads as synced-acknowledge-reads
 use Rattle.interrupts.proofs.writes_68010.Reads as writes-68010-reads
 use Rattle.memory.proofs.with_cpu.Reads as with-cpu-reads

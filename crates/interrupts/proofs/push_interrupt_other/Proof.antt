@@ -5,8 +5,8 @@ use Rattle.interrupts.proofs.push_interrupt_other.Statement.{statement}
 use Rattle.interrupts.proofs.push_interrupt_other.Tie as tie
 use Rattle.interrupts.proofs.push_interrupt_other.Reads as reads
 use Rattle.interrupts.proofs.push_interrupt_other.Lts as lts
-use Rattle.exceptions.proofs.formats.offset_word.Reads as offset-word-reads
-use Rattle.exceptions.proofs.formats.short_frame.Reads as short-frame-reads
+use Rattle.formats.proofs.offset_word.Reads as offset-word-reads
+use Rattle.formats.proofs.short_frame.Reads as short-frame-reads
 use Rattle.access.proofs.push_frame.Reads as push-frame-reads
 use Rattle.interrupts.proofs.acknowledge_level.Reads as acknowledge-level-reads
 

@@ -5,8 +5,8 @@ use Rattle.interrupts.proofs.throwaway_frame.Statement.{statement}
 use Rattle.interrupts.proofs.throwaway_frame.Tie as tie
 use Rattle.interrupts.proofs.throwaway_frame.Reads as reads
 use Rattle.interrupts.proofs.throwaway_frame.Lts as lts
-use Rattle.exceptions.proofs.formats.format_word.Reads as format-word-reads
-use Rattle.exceptions.proofs.formats.short_frame.Reads as short-frame-reads
+use Rattle.formats.proofs.format_word.Reads as format-word-reads
+use Rattle.formats.proofs.short_frame.Reads as short-frame-reads
 use Rattle.access.proofs.push_frame.Reads as push-frame-reads
 use Rattle.memory.proofs.with_cpu.Reads as with-cpu-reads
 use Rattle.status.proofs.banks.set_sm_flag.Reads as set-sm-flag-reads

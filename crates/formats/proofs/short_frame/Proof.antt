@@ -2,12 +2,12 @@ use mathlib.Core.Path.{_≡_, refl, sym, _∙_}
 use native.Mathlib.Omega.{arith}
 use lib.ListN.{length-set}
 use borrow.Author.Tests.{lt-ltb, le-ltb, le-leb, lt-leb, eq-eqb, ne-eqb}
-use Rattle.exceptions.specs.Frames.{shortFrame}
+use Rattle.formats.specs.Formats.{shortFrame}
 use borrow.Author.Needs.{needs}
-use Rattle.exceptions.proofs.formats.short_frame.Statement.{statement}
-use Rattle.exceptions.proofs.formats.short_frame.Tie as tie
-use Rattle.exceptions.proofs.formats.short_frame.Reads as reads
-use Rattle.exceptions.proofs.formats.short_frame.Lts as lts
+use Rattle.formats.proofs.short_frame.Statement.{statement}
+use Rattle.formats.proofs.short_frame.Tie as tie
+use Rattle.formats.proofs.short_frame.Reads as reads
+use Rattle.formats.proofs.short_frame.Lts as lts
 
 -- src/formats.rt:37:5
 array-set-from-fields : tie.Need-array-set-from-fields

@@ -1,10 +1,10 @@
-use Rattle.calls.proofs.Ways.{replaced-made}
+use Rattle.answers.proofs.Ways.{replaced-made}
 use borrow.Author.Needs.{needs}
-use Rattle.calls.proofs.replaced.Statement.{statement}
-use Rattle.calls.proofs.replaced.Tie as tie
-use Rattle.calls.proofs.replaced.Reads as reads
-use Rattle.calls.proofs.replaced.Lts as lts
-use Rattle.calls.proofs.done.Reads as done-reads
+use Rattle.answers.proofs.replaced.Statement.{statement}
+use Rattle.answers.proofs.replaced.Tie as tie
+use Rattle.answers.proofs.replaced.Reads as reads
+use Rattle.answers.proofs.replaced.Lts as lts
+use Rattle.answers.proofs.done.Reads as done-reads
 use Rattle.memory.proofs.with_cpu.Reads as with-cpu-reads
 
 with-cpu-requires : tie.Need-with-cpu-requires

@@ -1,10 +1,10 @@
-use Rattle.calls.proofs.Ways.{traced-made}
+use Rattle.answers.proofs.Ways.{traced-made}
 use borrow.Author.Needs.{needs}
-use Rattle.calls.proofs.traced.Statement.{statement}
-use Rattle.calls.proofs.traced.Tie as tie
-use Rattle.calls.proofs.traced.Reads as reads
-use Rattle.calls.proofs.traced.Lts as lts
-use Rattle.calls.proofs.flagged.Reads as flagged-reads
+use Rattle.answers.proofs.traced.Statement.{statement}
+use Rattle.answers.proofs.traced.Tie as tie
+use Rattle.answers.proofs.traced.Reads as reads
+use Rattle.answers.proofs.traced.Lts as lts
+use Rattle.answers.proofs.flagged.Reads as flagged-reads
 use Rattle.memory.proofs.with_cpu.Reads as with-cpu-reads
 
 with-cpu-requires : tie.Need-with-cpu-requires

@@ -2,7 +2,7 @@
 use super::Call;
 use refusals::Matter;
 ghost use mathlib.Core.Path.{_≡_};
-ghost use Rattle.calls.specs.Matters.{matterOf, ofRecord, ofLent, ofVector, ofInterrupt, ofFloating};
+ghost use Rattle.answers.specs.Matters.{matterOf, ofRecord, ofLent, ofVector, ofInterrupt, ofFloating};
 
 fn of_record() -> Matter
     ensures { λ r. ⌜ r ≡ ofRecord ⌝ }

@@ -1,15 +1,15 @@
 use mathlib.Core.Path.{_≡_, refl, sym, ap, _∙_}
-use Rattle.calls.specs.Matters.{matterOf}
+use Rattle.answers.specs.Matters.{matterOf}
 use borrow.Author.Needs.{needs}
-use Rattle.calls.proofs.matters.matter_of.Statement.{statement}
-use Rattle.calls.proofs.matters.matter_of.Tie as tie
-use Rattle.calls.proofs.matters.matter_of.Reads as reads
-use Rattle.calls.proofs.matters.matter_of.Lts as lts
-use Rattle.calls.proofs.matters.of_floating.Reads as of-floating-reads
-use Rattle.calls.proofs.matters.of_interrupt.Reads as of-interrupt-reads
-use Rattle.calls.proofs.matters.of_lent.Reads as of-lent-reads
-use Rattle.calls.proofs.matters.of_record.Reads as of-record-reads
-use Rattle.calls.proofs.matters.of_vector.Reads as of-vector-reads
+use Rattle.answers.proofs.matters.matter_of.Statement.{statement}
+use Rattle.answers.proofs.matters.matter_of.Tie as tie
+use Rattle.answers.proofs.matters.matter_of.Reads as reads
+use Rattle.answers.proofs.matters.matter_of.Lts as lts
+use Rattle.answers.proofs.matters.of_floating.Reads as of-floating-reads
+use Rattle.answers.proofs.matters.of_interrupt.Reads as of-interrupt-reads
+use Rattle.answers.proofs.matters.of_lent.Reads as of-lent-reads
+use Rattle.answers.proofs.matters.of_record.Reads as of-record-reads
+use Rattle.answers.proofs.matters.of_vector.Reads as of-vector-reads
 
 enum-known-call : tie.Need-enum-known-call
 enum-known-call c = search needs

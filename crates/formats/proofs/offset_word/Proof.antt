@@ -2,12 +2,12 @@ use mathlib.Core.Path.{_≡_, refl, sym, _∙_}
 use native.Mathlib.Omega.{arith}
 use lib.ListN.{length-set}
 use borrow.Author.Tests.{lt-ltb, le-ltb, le-leb, lt-leb, eq-eqb, ne-eqb}
-use Rattle.exceptions.specs.Frames.{offsetWord}
+use Rattle.formats.specs.Formats.{offsetWord}
 use borrow.Author.Needs.{needs}
-use Rattle.exceptions.proofs.formats.offset_word.Statement.{statement}
-use Rattle.exceptions.proofs.formats.offset_word.Tie as tie
-use Rattle.exceptions.proofs.formats.offset_word.Reads as reads
-use Rattle.exceptions.proofs.formats.offset_word.Lts as lts
+use Rattle.formats.proofs.offset_word.Statement.{statement}
+use Rattle.formats.proofs.offset_word.Tie as tie
+use Rattle.formats.proofs.offset_word.Reads as reads
+use Rattle.formats.proofs.offset_word.Lts as lts
 
 mul-result : tie.Need-mul-result
 mul-result c = search needs

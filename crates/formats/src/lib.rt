@@ -1,9 +1,10 @@
-// The frames of exceptions that are no errors.
+// The frames of exceptions that are no errors, and the words of format and vector in them. It uses `frames`; `exceptions` and
+// `interrupts` use it, and so do the theorems about them.
 use frames::Field;
 use frames::Frame;
 ghost use mathlib.Core.Path.{_≡_};
 ghost use Prim.Native.Nat.{_%_};
-ghost use Rattle.exceptions.specs.Frames.{formatWord, offsetWord, shortFrame, longFrame, disabledFrame};
+ghost use Rattle.formats.specs.Formats.{formatWord, offsetWord, shortFrame, longFrame, disabledFrame};
 
 // The word of a format below 16 and a vector.
 pub fn format_word(format: u32, v: u32) -> u32
