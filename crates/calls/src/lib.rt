@@ -4,7 +4,6 @@
 use answers::Call;
 use answers::Performed;
 use memory::Core;
-
 ghost use mathlib.Core.Path.{_≡_};
 ghost use lib.Dec.{eqb};
 ghost use Rattle.memory.specs.World.{world, reply, tried};
@@ -42,8 +41,16 @@ fn run(m: Core, store: &mut [u8], log: &mut [u32], call: Call) -> Performed
             v,
         )),
         Call::ExceptionChk => answers::entered(exceptions::exception_chk(m, store, log)),
-        Call::ExceptionZeroDivide => answers::entered(exceptions::exception_zero_divide(m, store, log)),
-        Call::ExceptionPrivilege => answers::entered(exceptions::exception_privilege(m, store, log)),
+        Call::ExceptionZeroDivide => answers::entered(exceptions::exception_zero_divide(
+            m,
+            store,
+            log,
+        )),
+        Call::ExceptionPrivilege => answers::entered(exceptions::exception_privilege(
+            m,
+            store,
+            log,
+        )),
         Call::ExceptionTrace => answers::entered(exceptions::exception_trace(m, store, log)),
         Call::ExceptionAddressError(a, w, i) => answers::charged(access::exception_address_error(
             m,
@@ -63,13 +70,39 @@ fn run(m: Core, store: &mut [u8], log: &mut [u32], call: Call) -> Performed
             z,
             types::cause_number(cause),
         )),
-        Call::TakeFpUnimp060(ea) => answers::entered(exceptions::take_fp_unimp_060(m, store, log, ea)),
-        Call::TakeFpDisabled060 => answers::entered(exceptions::take_fp_disabled_060(m, store, log)),
-        Call::TakeAlineException => answers::entered(exceptions::take_aline_exception(m, store, log)),
-        Call::TakeFlineException => answers::entered(exceptions::take_fline_exception(m, store, log)),
-        Call::TakeTrapException(n) => answers::entered(exceptions::take_trap_exception(m, store, log, n)),
+        Call::TakeFpUnimp060(ea) => answers::entered(exceptions::take_fp_unimp_060(
+            m,
+            store,
+            log,
+            ea,
+        )),
+        Call::TakeFpDisabled060 => answers::entered(exceptions::take_fp_disabled_060(
+            m,
+            store,
+            log,
+        )),
+        Call::TakeAlineException => answers::entered(exceptions::take_aline_exception(
+            m,
+            store,
+            log,
+        )),
+        Call::TakeFlineException => answers::entered(exceptions::take_fline_exception(
+            m,
+            store,
+            log,
+        )),
+        Call::TakeTrapException(n) => answers::entered(exceptions::take_trap_exception(
+            m,
+            store,
+            log,
+            n,
+        )),
         Call::TakeBkptException => answers::entered(exceptions::take_bkpt_exception(m, store, log)),
-        Call::TakeIllegalException => answers::entered(exceptions::take_illegal_exception(m, store, log)),
+        Call::TakeIllegalException => answers::entered(exceptions::take_illegal_exception(
+            m,
+            store,
+            log,
+        )),
         Call::TriggerAddressError(a, w, i) => answers::done(access::trigger_address_error(
             m,
             store,
@@ -90,11 +123,8 @@ fn run(m: Core, store: &mut [u8], log: &mut [u32], call: Call) -> Performed
         Call::CheckTrace => answers::traced(m, pending::trace::check_trace(m.cpu)),
         Call::SetIrq(n) => answers::replaced(m, pending::interrupts::set_irq(m.cpu, n)),
         Call::CheckInterrupts => answers::flagged(m, pending::interrupts::check_interrupts(m.cpu)),
-        Call::CheckAndServiceInterrupts => answers::serviced(interrupts::check_and_service_interrupts(
-            m,
-            store,
-            log,
-        )),
+        Call::CheckAndServiceInterrupts =>
+            answers::serviced(interrupts::check_and_service_interrupts(m, store, log)),
         Call::Read16(a) => answers::read(access::read_16(m, store, log, a)),
         Call::Read32(a) => answers::read(access::read_32(m, store, log, a)),
         Call::Write16(a, v) => answers::done(access::write_16(m, store, log, a, v)),
