@@ -1,8 +1,8 @@
 //! The frames that are drawn for an entry are the bytes that it wrote, on random sessions.
 
-use m68k_host::session::{Outcome, Session, Step};
-use m68k_host::stack::{Fault, Placed, entered, stacked, taken};
-use m68k_host::{leaf, words};
+use m68k_programs::session::{Outcome, Session, Step};
+use m68k_programs::stack::{Fault, Placed, address, entered, stacked, taken};
+use m68k_programs::words;
 use std::collections::BTreeSet;
 
 /// Numbers by a seed.
@@ -63,12 +63,12 @@ struct Met {
 }
 
 fn look(step: &Step, session: &Session, met: &mut Met) {
-    let kind = step.after.cpu_type;
+    let kind = step.after.cpu_type();
     let seen = stacked(step, &session.store);
     match seen.fault {
         None => {
             assert_eq!(bytes_of(&seen.frames), written(step), "kind {kind}: {step:?}");
-            assert_eq!(seen.frames[0].start, leaf::address(&step.after, step.after.dar[15]));
+            assert_eq!(seen.frames[0].start, address(&step.after, step.after.dar()[15]));
             met.plain += u32::from(seen.frames.len() == 1);
             met.doubles += u32::from(seen.frames.len() == 2);
         }

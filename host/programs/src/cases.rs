@@ -1,7 +1,6 @@
 //! Test cases in text: a line says a call, a record and a store; the answer says what came of it.
 
-use crate::call::{Said, ask};
-use crate::{Bus, Call, Cause, Record, Refusal, Resume, Window, leaf, return_from, walk};
+use m68k_host::{Call, Core, FaultCause, Kind, Record, Refusal, Resume, Window};
 use std::hint::black_box;
 use std::io::Write;
 
@@ -28,17 +27,12 @@ pub(crate) enum Wanted {
     },
 }
 
-/// What a case lends beside the store.
-pub(crate) struct Lent {
-    pub(crate) bus: Bus,
-    pub(crate) log: Vec<u32>,
-    rows: Vec<u32>,
-}
-
 /// Answers cases; its buffers serve one case after the other. The bus keeps the number of events of
 /// the case before, which a call must not mind.
 pub struct Cases {
-    pub(crate) lent: Lent,
+    pub(crate) core: Core,
+    pub(crate) log: Vec<u32>,
+    rows: Vec<u32>,
     /// The bytes that a case says, 65,536 at most.
     pub(crate) store: Vec<u8>,
     before: Vec<u8>,
@@ -48,14 +42,25 @@ pub struct Cases {
     long: Vec<u8>,
 }
 
+/// What a call, a return or a walk said, in numbers.
+struct Said {
+    refused: u32,
+    answer: u32,
+    events: u32,
+    /// Rows of a return or a walk.
+    rows: u32,
+}
+
 /// What a line says beside the call.
-struct Draft<'a, 'b> {
+struct Draft<'a> {
     record: Record,
+    base: u32,
+    windows: Vec<Window>,
+    responses: [u32; 8],
     len: u64,
     fill: u32,
     patch: &'a str,
     log: u32,
-    bus: &'b mut Bus,
 }
 
 type Set = Result<(), String>;
@@ -69,8 +74,15 @@ impl Default for Cases {
 impl Cases {
     /// Buffers for cases.
     pub fn new() -> Cases {
-        let lent = Lent { bus: Bus::default(), log: vec![], rows: vec![] };
-        Cases { lent, store: vec![], before: vec![], len: 0, long: vec![] }
+        Cases {
+            core: Core::fresh(Kind::Invalid),
+            log: vec![],
+            rows: vec![],
+            store: vec![],
+            before: vec![],
+            len: 0,
+            long: vec![],
+        }
     }
 
     /// Puts the answer of a line into `out`, without a line end; what follows ` => ` is not looked at.
@@ -85,32 +97,45 @@ impl Cases {
 
     fn try_answer(&mut self, line: &str, out: &mut Vec<u8>) -> Result<(), String> {
         let input = line.split_once(" => ").map_or(line, |p| p.0);
-        let (wanted, before) = self.read(input)?;
-        let mut after = before.clone();
-        let held = self.lent.bus.events;
-        let said = if self.len > STORE_LIMIT as u64 {
-            self.ask_long(&mut after, wanted)?
-        } else {
-            wanted.ask(&mut after, &mut self.lent, &mut self.store)
-        };
+        let wanted = self.read(input)?;
+        self.perform(wanted, out)
+    }
+
+    /// Does what was read, and puts the answer into `out`.
+    pub(crate) fn perform(&mut self, wanted: Wanted, out: &mut Vec<u8>) -> Result<(), String> {
+        let before = self.core.clone();
+        let said =
+            if self.len > STORE_LIMIT as u64 { self.ask_long(wanted)? } else { self.ask(wanted) };
         // Return and walk have no events and leave the count.
         let counted = said.refused == 0 && matches!(wanted, Wanted::Call(_));
-        let events = self.lent.bus.events;
+        let (events, held) = (self.core.events(), before.events());
         if events != if counted { said.events } else { held } {
             return Err(format!("the bus counts {events} events"));
         }
-        self.show(&before, &after, &said, out)
+        let mut bus = self.core.clone();
+        bus.set_record(&before.record());
+        bus.set_events(held);
+        if bus != before {
+            return Err("the bus was changed".into());
+        }
+        self.show(&before.record(), &said, out)
+    }
+
+    /// Hands it over the boundary.
+    fn ask(&mut self, wanted: Wanted) -> Said {
+        let Cases { core, log, rows, store, .. } = self;
+        wanted.ask(core, store, log, rows)
     }
 
     /// A call on a store that is longer than any that is accepted, really lent.
-    fn ask_long(&mut self, record: &mut Record, wanted: Wanted) -> Result<Said, String> {
+    fn ask_long(&mut self, wanted: Wanted) -> Result<Said, String> {
         if self.long.is_empty() {
             self.long = room();
         }
         let len = self.long.len().min(usize::try_from(self.len).unwrap_or(usize::MAX));
         let long = &mut self.long[..len];
         long[..STORE_LIMIT].copy_from_slice(&self.store);
-        let said = wanted.ask(record, &mut self.lent, long);
+        let said = wanted.ask(&mut self.core, long, &mut self.log, &mut self.rows);
         self.store.copy_from_slice(&long[..STORE_LIMIT]);
         // Of a very long one, its ends: the rest was never touched and is not to be.
         let rest = &long[STORE_LIMIT..];
@@ -123,16 +148,9 @@ impl Cases {
     }
 
     /// The answer in text: what the call said, and what it left of record, store, log and rows.
-    pub(crate) fn show(
-        &self,
-        before: &Record,
-        after: &Record,
-        said: &Said,
-        out: &mut Vec<u8>,
-    ) -> Result<(), String> {
-        let Lent { log, rows, .. } = &self.lent;
-        let events = written(log, said.events, 3).map_err(|e| format!("events: {e}"))?;
-        let rows = written(rows, said.rows, 4).map_err(|e| format!("rows: {e}"))?;
+    fn show(&self, before: &Record, said: &Said, out: &mut Vec<u8>) -> Result<(), String> {
+        let events = written(&self.log, said.events, 3).map_err(|e| format!("events: {e}"))?;
+        let rows = written(&self.rows, said.rows, 4).map_err(|e| format!("rows: {e}"))?;
         let Said { refused, answer, events: count, .. } = said;
         write!(out, "refused={refused} ans={answer} nev={count} ev=").unwrap();
         show_list(out, events, 3, b':');
@@ -141,13 +159,13 @@ impl Cases {
         out.extend_from_slice(b" chg=");
         show_changes(out, &self.before, &self.store);
         out.extend_from_slice(b" status=");
-        leaf::get_sr(after).show(out);
-        show_changed(out, before, after);
+        self.core.get_sr().show(out);
+        show_changed(out, before, &self.core.record());
         Ok(())
     }
 
-    /// Reads an input: the call and the record; bus, store, log and rows are laid ready.
-    pub(crate) fn read(&mut self, input: &str) -> Result<(Wanted, Record), String> {
+    /// Reads an input: what it asks for; core, store, log and rows are laid ready.
+    pub(crate) fn read(&mut self, input: &str) -> Result<Wanted, String> {
         let mut pairs = [(0, ""); NAMES.len()];
         let (mut count, mut seen, mut next) = (0, 0u64, 0);
         for part in parts(input, b' ') {
@@ -165,22 +183,21 @@ impl Cases {
         let pairs = &pairs[..count];
         let value_of = |place| pairs.iter().find(|p| p.0 == place).map(|p| p.1);
         let wanted = read_wanted(value_of(CALL).ok_or("no call")?)?;
-        let kind = decimal(value_of(KIND).ok_or("no kind")?)?;
-        let bus = &mut self.lent.bus;
-        bus.base = 0;
-        bus.windows.clear();
-        bus.responses = [u32::MAX; 8];
-        let record = Record::fresh(kind);
-        let len = STORE_LIMIT as u64;
-        let mut draft = Draft { record, len, fill: 0, patch: "-", log: 192, bus };
+        let kind: u8 = decimal(value_of(KIND).ok_or("no kind")?)?;
+        let mut draft = Draft::fresh(kind);
         for &(place, value) in pairs {
             let (name, set) = NAMES[place];
             set(&mut draft, value).map_err(|e| format!("{name}: {e}"))?;
         }
-        let Draft { record, len, fill, patch, log, .. } = draft;
-        self.lay_store(len, fill, patch).map_err(|e| format!("patch: {e}"))?;
-        self.lent.lay(log.min(LOG_LIMIT), wanted.row_words()?);
-        Ok((wanted, record))
+        self.lay_store(draft.len, draft.fill, draft.patch).map_err(|e| format!("patch: {e}"))?;
+        for (place, words) in
+            [(&mut self.log, draft.log.min(LOG_LIMIT)), (&mut self.rows, wanted.row_words()?)]
+        {
+            place.clear();
+            place.resize(words as usize, UNWRITTEN);
+        }
+        draft.lay(&mut self.core);
+        Ok(wanted)
     }
 
     /// The store and a copy of it: fill and patches. Of a length over 65,536 the first 65,536 bytes.
@@ -219,13 +236,26 @@ impl Cases {
     }
 }
 
-impl Lent {
-    /// Log and rows of so many words, none of them written.
-    fn lay(&mut self, log: u32, rows: u32) {
-        for (place, words) in [(&mut self.log, log), (&mut self.rows, rows)] {
-            place.clear();
-            place.resize(words as usize, UNWRITTEN);
+impl Draft<'_> {
+    fn fresh(kind: u8) -> Self {
+        Draft {
+            record: Record::fresh(kind),
+            base: 0,
+            windows: vec![],
+            responses: [u32::MAX; 8],
+            len: STORE_LIMIT as u64,
+            fill: 0,
+            patch: "-",
+            log: 192,
         }
+    }
+
+    /// The core as it says; the count of events stays.
+    fn lay(&self, core: &mut Core) {
+        core.set_record(&self.record);
+        core.set_base(self.base);
+        core.set_windows(&self.windows);
+        *core.responses_mut() = self.responses;
     }
 }
 
@@ -248,13 +278,16 @@ impl Wanted {
     }
 
     /// Hands it over the boundary.
-    fn ask(self, record: &mut Record, lent: &mut Lent, store: &mut [u8]) -> Said {
-        let Lent { bus, log, rows } = lent;
+    fn ask(self, core: &mut Core, store: &mut [u8], log: &mut [u32], rows: &mut [u32]) -> Said {
         let number = |refused: Option<Refusal>| refused.map_or(0, Refusal::number);
         match self {
-            Wanted::Call(call) => ask(record, bus, store, log, call),
+            Wanted::Call(call) => {
+                let done = core.call(call, store, log);
+                let (answer, events) = done.map_or((0, 0), |a| (a.number(), a.count()));
+                Said { refused: number(done.err()), answer, events, rows: 0 }
+            }
             Wanted::Return => {
-                let done = return_from(record, bus, store);
+                let done = core.return_from(store);
                 if let Ok(row) = done {
                     rows.copy_from_slice(&<[u32; 4]>::from(row));
                 }
@@ -262,13 +295,9 @@ impl Wanted {
                 Said { refused: number(done.err()), answer: 0, events: 0, rows }
             }
             Wanted::Walk { n, .. } => {
-                let done = walk(record, bus, store, n, rows);
-                Said {
-                    refused: number(done.refused),
-                    answer: done.count,
-                    events: 0,
-                    rows: done.count,
-                }
+                let done = core.walk(n, store, rows);
+                let (answer, rows) = (done.count, done.count);
+                Said { refused: number(done.refused), answer, events: 0, rows }
             }
         }
     }
@@ -409,12 +438,15 @@ impl<T: Value> Value for Option<T> {
 }
 
 /// By its number, 0 for none.
-impl Value for Option<Cause> {
+impl Value for Option<FaultCause> {
     fn read(s: &str) -> Result<Self, String> {
-        Cause::from_number(u8::read(s)?).ok_or("above 8".into())
+        match u8::read(s)? {
+            0 => Ok(None),
+            number => FaultCause::try_from(number).map(Some).map_err(|_| "above 8".into()),
+        }
     }
     fn show(&self, out: &mut Vec<u8>) {
-        Cause::number(*self).show(out);
+        FaultCause::number(*self).show(out);
     }
 }
 
@@ -471,7 +503,7 @@ fn find(name: &str, first: usize) -> Option<usize> {
     NAMES.iter().position(|n| n.0 == name)
 }
 
-type Setter = for<'a> fn(&mut Draft<'a, '_>, &'a str) -> Set;
+type Setter = for<'a> fn(&mut Draft<'a>, &'a str) -> Set;
 
 /// Places of these two names.
 const CALL: usize = 0;
@@ -516,7 +548,7 @@ names! {
     instruction_exception_vector last_exception_vector pending_fault_cause mmu_fc_override
     pending_fault_wdata fault_resume cycles_remaining;
     rest
-    "base" |d, v| put(&mut d.bus.base, v);
+    "base" |d, v| put(&mut d.base, v);
     "len" |d, v| {
         d.len = decimal(v)?;
         Ok(())
@@ -529,11 +561,11 @@ names! {
     "win" |d, v| {
         for item in items(v) {
             let (start, length) = pair(item)?;
-            d.bus.windows.push(Window { start: Value::read(start)?, length: Value::read(length)? });
+            d.windows.push(Window { start: Value::read(start)?, length: Value::read(length)? });
         }
         Ok(())
     };
-    "ack" |d, v| put(&mut d.bus.responses, v);
+    "ack" |d, v| put(&mut d.responses, v);
     "log" |d, v| {
         d.log = decimal(v)?;
         Ok(())
@@ -698,7 +730,7 @@ fn show_changes(out: &mut Vec<u8>, before: &[u8], after: &[u8]) {
 #[cfg(test)]
 mod tests {
     use super::*;
-    use crate::record::tests::any;
+    use crate::random::{Numbers, any_record};
     use std::collections::{BTreeMap, BTreeSet};
 
     /// The fields by their names in the text, as the derived text has them: all that there are.
@@ -720,14 +752,9 @@ mod tests {
 
     #[test]
     fn every_field_that_differs_is_shown() {
-        let mut number = 7u32;
-        let mut next = || {
-            number = number.wrapping_mul(1_664_525).wrapping_add(1_013_904_223);
-            number
-        };
-        let mut seen = BTreeSet::new();
+        let (mut numbers, mut seen) = (Numbers(7), BTreeSet::new());
         for _ in 0..100 {
-            let (before, after) = (any(&mut next), any(&mut next));
+            let (before, after) = (any_record(&mut numbers), any_record(&mut numbers));
             let (old, new) = (fields(&before), fields(&after));
             let differing: BTreeSet<_> =
                 old.keys().filter(|&n| old[n] != new[n]).cloned().collect();

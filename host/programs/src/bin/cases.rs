@@ -1,6 +1,6 @@
 //! Answers test cases: reads inputs from standard input, a line each, and prints a line for each.
 
-use m68k_host::cases::Cases;
+use m68k_programs::cases::Cases;
 use std::io::{BufRead, BufReader, BufWriter, Write};
 
 fn main() -> std::io::Result<()> {

@@ -1,6 +1,6 @@
 //! Sessions as paper 01 has them: what is printed, which lines are understood.
 
-use m68k_host::session::{COMMANDS, Command, Session, Wrong, lines, parse, predict};
+use m68k_programs::session::{COMMANDS, Command, Session, Wrong, lines, parse, predict};
 
 fn printed(input: &str) -> String {
     String::from_utf8(predict(input.as_bytes())).unwrap()
@@ -22,8 +22,8 @@ fn the_papers_example() {
 /// The sessions that the oracle recorded for the session program.
 #[test]
 fn the_recorded_sessions() {
-    let expected = include_bytes!("../../crates/session/stdout");
-    assert!(predict(include_bytes!("../../crates/session/stdin")) == expected);
+    let expected = include_bytes!("../../../crates/session/stdout");
+    assert!(predict(include_bytes!("../../../crates/session/stdin")) == expected);
 }
 
 /// As the real Rust answered it.
@@ -32,7 +32,7 @@ fn the_afternoon() {
     let expected = "0 00001002 2004 00008000\n46 00003000 2204 00007FF8\n46 00004000 2404 00007FF0\n\
         0 00004000 2404 00007FF0\n0 2204 00003000 070\n0 2004 00001002 068\n\
         0 00003000 2204 00007FF8\n0 00001002 2004 00008000\n";
-    assert_eq!(printed(include_str!("../afternoon/session.txt")), expected);
+    assert_eq!(printed(include_str!("../../afternoon/session.txt")), expected);
 }
 
 #[test]
@@ -146,10 +146,10 @@ fn a_refusal_keeps_rows_and_changes_nothing() {
     for line in lines(input.as_bytes()) {
         session.step(line);
     }
-    let (record, store) = (session.record.clone(), session.store.clone());
+    let (core, store) = (session.core.clone(), session.store.clone());
     for line in ["walk 3", "ret ", "walk 4097", "long FFFD 0", "exc 100"] {
         session.step(line.as_bytes());
-        assert!(session.record == record && session.store == store, "{line}");
+        assert!(session.core == core && session.store == store, "{line}");
     }
 }
 

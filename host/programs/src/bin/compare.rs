@@ -1,6 +1,6 @@
 //! Compares the proved code with recorded answers, or with those of the oracle as it makes them.
 
-use m68k_host::cases::Cases;
+use m68k_programs::cases::Cases;
 use std::collections::BTreeMap;
 use std::io::{BufRead, BufReader, Read};
 use std::path::PathBuf;

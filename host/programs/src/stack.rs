@@ -1,9 +1,9 @@
-//! The frames of a session: which an entry stacked and which a return takes, from the record, the
+//! The frames of a session: which an entry stacked and which a return takes, from the core, the
 //! store and the events.
 
 use crate::session::{Event, Outcome, Step};
 use crate::words::{self, ERROR_68000, FRAME_68000, Field};
-use crate::{Record, leaf};
+use m68k_host::Core;
 
 /// A frame where it lies: its first address as it goes on the bus, and its fields.
 #[derive(Debug, Clone, Copy, PartialEq, Eq)]
@@ -34,13 +34,18 @@ fn word(store: &[u8], address: u32) -> Option<u32> {
     Some(u32::from(bytes[0]) << 8 | u32::from(bytes[1]))
 }
 
+/// An address as the kind puts it on the bus.
+pub fn address(core: &Core, address: u32) -> u32 {
+    address & core.address_mask()
+}
+
 /// The frame at a stack pointer, by its format word; none where that is not in the store or names no
 /// format.
-fn placed(record: &Record, store: &[u8], pointer: u32) -> Option<Placed> {
-    let start = leaf::address(record, pointer);
-    let fields = match record.cpu_type {
+fn placed(core: &Core, store: &[u8], pointer: u32) -> Option<Placed> {
+    let start = address(core, pointer);
+    let fields = match core.cpu_type() {
         1 => FRAME_68000,
-        _ => words::layout(word(store, leaf::address(record, pointer.wrapping_add(6)))?)?,
+        _ => words::layout(word(store, address(core, pointer.wrapping_add(6)))?)?,
     };
     Some(Placed { start, fields })
 }
@@ -51,17 +56,16 @@ fn is_throwaway(store: &[u8], frame: &Placed) -> bool {
 }
 
 /// The frames that a return takes off the stack, first the one that A7 is on.
-pub fn taken(record: &Record, store: &[u8]) -> Vec<Placed> {
-    let Some(first) = placed(record, store, record.dar[15]) else { return vec![] };
+pub fn taken(core: &Core, store: &[u8]) -> Vec<Placed> {
+    let Some(first) = placed(core, store, core.dar()[15]) else { return vec![] };
     if !is_throwaway(store, &first) {
         return vec![first];
     }
-    let mut next = record.clone();
-    next.dar[15] = next.dar[15].wrapping_add(8);
-    leaf::backup_sp(&mut next);
-    leaf::put_back_sr(&mut next, word(store, first.start).unwrap_or(0) as u16);
-    leaf::restore_sp(&mut next);
-    std::iter::once(first).chain(placed(&next, store, next.dar[15])).collect()
+    // The stack that its status selects; without S it is the user's, with M or not.
+    let mut next = core.clone();
+    next.dar_mut()[15] = next.dar()[15].wrapping_add(8);
+    next.set_sr(word(store, first.start).unwrap_or(0) as u16);
+    std::iter::once(first).chain(placed(&next, store, next.dar()[15])).collect()
 }
 
 /// What went wrong inside an entry.
@@ -102,9 +106,9 @@ fn jumps(events: &[Event]) -> Vec<(usize, u32)> {
 
 /// The error frame before a release: its first field is pushed last. Where it is not in the store its
 /// format is the one of the kinds that write it unguarded.
-fn error_frame(record: &Record, store: &[u8], events: &[Event], release: usize) -> Option<Placed> {
+fn error_frame(core: &Core, store: &[u8], events: &[Event], release: usize) -> Option<Placed> {
     let start = events[..release].iter().rfind(|event| is_write(event))?[1];
-    let fields = match record.cpu_type {
+    let fields = match core.cpu_type() {
         1 => ERROR_68000,
         _ => {
             word(store, start.wrapping_add(6)).and_then(words::layout).or(words::layout(0x8000))?
@@ -114,19 +118,19 @@ fn error_frame(record: &Record, store: &[u8], events: &[Event], release: usize) 
 }
 
 /// The supervisor stack pointer that an entry meets.
-fn pointer_met(before: &Record) -> u32 {
+fn pointer_met(before: &Core) -> u32 {
     let mut met = before.clone();
-    leaf::set_s_flag(&mut met, 4);
-    met.dar[15]
+    met.set_sr(met.get_sr() | 0x2000);
+    met.dar()[15]
 }
 
 fn fault(step: &Step) -> Option<Fault> {
     let odd = pointer_met(&step.before);
-    if step.before.run_mode == 1 {
+    if step.before.run_mode() == 1 {
         Some(Fault::Earlier)
-    } else if step.after.run_mode != 1 {
+    } else if step.after.run_mode() != 1 {
         None
-    } else if !odd.is_multiple_of(2) && matches!(step.before.cpu_type, 1 | 2 | 10) {
+    } else if !odd.is_multiple_of(2) && matches!(step.before.cpu_type(), 1 | 2 | 10) {
         Some(Fault::Odd(odd))
     } else {
         step.events.iter().find(|event| event[0] >= 16).map(|event| Fault::NotServed(*event))
@@ -164,11 +168,11 @@ pub fn stacked(step: &Step, store: &[u8]) -> Stacked {
 /// Under a frame of format 1 lies one of format 0 on the master stack. Where the two stacks share bytes the
 /// second frame has overwritten some of the first, so its format word is not asked.
 fn own_frames(step: &Step, store: &[u8]) -> Vec<Placed> {
-    let Some(top) = placed(&step.after, store, step.after.dar[15]) else { return vec![] };
+    let Some(top) = placed(&step.after, store, step.after.dar()[15]) else { return vec![] };
     if !is_throwaway(store, &top) {
         return vec![top];
     }
-    let start = leaf::address(&step.after, step.after.sp[6]);
+    let start = address(&step.after, step.after.sp()[6]);
     let under = words::layout(0).map(|fields| Placed { start, fields });
     std::iter::once(top).chain(under).collect()
 }

@@ -1,8 +1,8 @@
 //! What is shown of a session, in full: each session of tests/sessions and the afternoon, as text.
 //! `WRITE_VIEWS=1` writes the texts anew; read what changed.
 
-use m68k_host::session::lines;
-use m68k_host::view::{Names, Part, View, page, text};
+use m68k_programs::session::lines;
+use m68k_programs::view::{Names, Part, View, page, text};
 use std::path::{Path, PathBuf};
 
 fn folder() -> PathBuf {
@@ -23,7 +23,8 @@ fn paged(input: &[u8], names: &Names) -> String {
 
 fn afternoon() -> (Vec<u8>, Names) {
     let read = |name: &str| {
-        std::fs::read(Path::new(env!("CARGO_MANIFEST_DIR")).join("afternoon").join(name)).unwrap()
+        std::fs::read(Path::new(env!("CARGO_MANIFEST_DIR")).join("../afternoon").join(name))
+            .unwrap()
     };
     let names = Names::read(std::str::from_utf8(&read("words.txt")).unwrap()).unwrap();
     (read("session.txt"), names)
@@ -65,7 +66,7 @@ fn the_afternoon_is_shown_as_recorded() {
 fn the_afternoon_has_words_for_every_line() {
     let (input, names) = afternoon();
     let text = shown(&input, &names);
-    let words = include_str!("../afternoon/words.txt");
+    let words = include_str!("../../afternoon/words.txt");
     let (said, named) = words.split_once("\n\n").unwrap();
     assert_eq!(said.lines().count(), lines(&input).count());
     let flat: String = text.split_whitespace().collect::<Vec<_>>().join(" ");
@@ -167,7 +168,7 @@ fn refused() -> Vec<u8> {
 /// What the manual quotes of the afternoon is what is shown, and what it says comes is what is printed.
 #[test]
 fn the_manual_shows_what_is_shown() {
-    let manual = include_str!("../../docs/SESSION.md");
+    let manual = include_str!("../../../docs/SESSION.md");
     let (input, names) = afternoon();
     let text = shown(&input, &names);
     let tick = manual.split("## The tick").nth(1).unwrap().split("\n## ").next().unwrap();
@@ -183,6 +184,6 @@ fn the_manual_shows_what_is_shown() {
     assert_eq!(given.join("\n") + "\n", String::from_utf8(input.clone()).unwrap());
     let comes: Vec<String> = rows.iter().map(|row| bare(cells(row, 2))).collect();
     let comes: Vec<String> = comes.into_iter().filter(|line| !line.is_empty()).collect();
-    let printed = m68k_host::session::predict(&input);
+    let printed = m68k_programs::session::predict(&input);
     assert_eq!(comes.join("\n") + "\n", String::from_utf8(printed).unwrap());
 }

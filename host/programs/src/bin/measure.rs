@@ -1,7 +1,7 @@
 //! Makes the call of one case over and over, for tools/measure.sh, and prints its answer.
 //! usage: measure call|copy INPUT TURNS
 
-use m68k_host::measure::{calls, copies};
+use m68k_programs::measure::{calls, copies};
 use std::process::ExitCode;
 
 fn main() -> ExitCode {

@@ -1,6 +1,6 @@
 //! That the comparison notices what differs.
 
-use m68k_host::cases::Cases;
+use m68k_programs::cases::Cases;
 use std::io::Write;
 use std::process::{Command, Stdio};
 

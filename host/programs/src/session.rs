@@ -1,16 +1,15 @@
 //! A session: lines of commands, and what the session program prints for them.
 //!
-//! Written from paper 01, "The session program", over this crate's own [`call`], [`return_from`] and
-//! [`walk`]. A view compares what is predicted here with what the proved program printed, and takes
+//! Written from paper 01, "The session program", over the calls of `m68k_host`. A view compares what is predicted here with what the proved program printed, and takes
 //! from here what that program does not print: the record, the store and the events of each line.
 //!
 //! ```
 //! let input = b"kind 2\na7 8000\npc 1000\nlong BC 2000\ntrap F\nwalk 1\nret\n";
 //! let printed = "34 00002000 2700 00007FF8\n0 2700 00001000 0BC\n0 00001000 2700 00008000\n";
-//! assert_eq!(m68k_host::session::predict(input), printed.as_bytes());
+//! assert_eq!(m68k_programs::session::predict(input), printed.as_bytes());
 //! ```
 
-use crate::{Bus, Call, Record, Row, call, leaf, return_from, walk};
+use m68k_host::{Answer, Call, Core, Kind, Row};
 use std::fmt::Write;
 
 /// Bytes of the store, from address 0 on.
@@ -205,10 +204,10 @@ pub struct Step {
     pub command: Result<Command, Wrong>,
     /// What came.
     pub outcome: Outcome,
-    /// The record before the line.
-    pub before: Record,
-    /// The record after it.
-    pub after: Record,
+    /// The core before the line.
+    pub before: Core,
+    /// The core after it.
+    pub after: Core,
     /// The events of its call, if it made one that was accepted.
     pub events: Vec<Event>,
 }
@@ -224,8 +223,8 @@ impl Step {
             Outcome::Returned(_) => self.state(0),
             Outcome::Walked(rows, end) => {
                 let mut out = String::new();
-                for Row { format, status, address, offset } in rows {
-                    writeln!(out, "{format:X} {status:04X} {address:08X} {offset:03X}").unwrap();
+                for row in rows {
+                    writeln!(out, "{row}").unwrap();
                 }
                 out + &end.map_or(String::new(), refused)
             }
@@ -235,18 +234,16 @@ impl Step {
     }
 
     fn state(&self, cycles: u32) -> String {
-        let (pc, status, a7) = (self.after.pc, leaf::get_sr(&self.after), self.after.dar[15]);
+        let (pc, status, a7) = (self.after.pc(), self.after.get_sr(), self.after.dar()[15]);
         format!("{cycles} {pc:08X} {status:04X} {a7:08X}\n")
     }
 }
 
-/// Record, bus, store and buffers of a session.
+/// Core, store and buffers of a session.
 #[derive(Debug, Clone)]
 pub struct Session {
-    /// The record.
-    pub record: Record,
-    /// The bus: a store at 0, no windows, no device that gives a vector.
-    pub bus: Bus,
+    /// The core: a store at 0, no windows, no device that gives a vector.
+    pub core: Core,
     /// The store.
     pub store: Vec<u8>,
     log: Vec<u32>,
@@ -257,8 +254,7 @@ impl Default for Session {
     /// Before any `kind`: kind 1.
     fn default() -> Session {
         Session {
-            record: Record::fresh(1),
-            bus: Bus::default(),
+            core: Core::fresh(Kind::M68000),
             store: vec![0; STORE],
             log: vec![0; 192],
             rows: vec![0; 4 * ROWS as usize],
@@ -269,7 +265,7 @@ impl Default for Session {
 impl Session {
     /// Does a line.
     pub fn step(&mut self, line: &[u8]) -> Step {
-        let before = self.record.clone();
+        let before = self.core.clone();
         let command = parse(line);
         let (outcome, events) = match command {
             Ok(command) => self.act(command),
@@ -277,18 +273,18 @@ impl Session {
         };
         let words = &self.log[..3 * events as usize];
         let events = words.chunks_exact(3).map(|e| [e[0], e[1], e[2]]).collect();
-        Step { command, outcome, before, after: self.record.clone(), events }
+        Step { command, outcome, before, after: self.core.clone(), events }
     }
 
     fn act(&mut self, command: Command) -> (Outcome, u32) {
         match command {
             Command::Kind(kind) => {
-                (self.record, self.bus) = (Record::fresh(kind), Bus::default());
+                self.core = Core::fresh(kind);
                 self.store.fill(0);
             }
-            Command::Pc(pc) => self.record.pc = pc,
-            Command::Ppc(ppc) => self.record.ppc = ppc,
-            Command::A7(a7) => self.record.dar[15] = a7,
+            Command::Pc(pc) => self.core.set_pc(pc),
+            Command::Ppc(ppc) => self.core.set_ppc(ppc),
+            Command::A7(a7) => self.core.dar_mut()[15] = a7,
             Command::Long(address, value) => return (self.long(address, value), 0),
             Command::Exc(vector) => return self.enter(Call::TakeException(vector)),
             Command::Trap(n) => return self.enter(Call::Trap(n)),
@@ -310,14 +306,14 @@ impl Session {
         }
     }
 
-    fn call(&mut self, wanted: Call) -> Result<crate::Answer, u32> {
-        call(&mut self.record, &mut self.bus, &mut self.store, &mut self.log, wanted)
-            .map_err(|refusal| refusal.number())
+    fn call(&mut self, wanted: Call) -> Result<Answer, u32> {
+        let done = self.core.call(wanted, &mut self.store, &mut self.log);
+        done.map_err(|refusal| refusal.number())
     }
 
     fn enter(&mut self, wanted: Call) -> (Outcome, u32) {
         match self.call(wanted) {
-            Ok(answer) => (Outcome::Entered(answer.value), answer.events),
+            Ok(answer) => (Outcome::Entered(answer.number()), answer.count()),
             Err(number) => (Outcome::Refused(number), 0),
         }
     }
@@ -325,25 +321,26 @@ impl Session {
     /// `set_irq` is refused only where the interrupt call then is.
     fn interrupt(&mut self, level: u8) -> (Outcome, u32) {
         let _ = self.call(Call::SetIrq(level));
-        let before = self.record.cycles_remaining;
+        let before = self.core.cycles_remaining();
         match self.call(Call::CheckAndServiceInterrupts) {
             Ok(answer) => {
-                let cycles = before.abs_diff(self.record.cycles_remaining);
-                (Outcome::Interrupt((answer.value != 0).then_some(cycles)), answer.events)
+                let cycles = before.abs_diff(self.core.cycles_remaining());
+                (Outcome::Interrupt((answer.number() != 0).then_some(cycles)), answer.count())
             }
             Err(number) => (Outcome::Refused(number), 0),
         }
     }
 
     fn walk(&mut self, n: u32) -> Outcome {
-        let walked = walk(&self.record, &self.bus, &self.store, n, &mut self.rows);
-        let words = &self.rows[..4 * walked.count as usize];
-        let rows = words.chunks_exact(4).map(|w| Row::from([w[0], w[1], w[2], w[3]])).collect();
-        Outcome::Walked(rows, walked.refused.map(|refusal| refusal.number()))
+        let walked = self.core.walk(n, &self.store, &mut self.rows);
+        Outcome::Walked(
+            walked.rows(&self.rows).collect(),
+            walked.refused.map(|refusal| refusal.number()),
+        )
     }
 
     fn give_back(&mut self) -> Outcome {
-        match return_from(&mut self.record, &self.bus, &self.store) {
+        match self.core.return_from(&self.store) {
             Ok(row) => Outcome::Returned(row),
             Err(refusal) => Outcome::Refused(refusal.number()),
         }

@@ -3,8 +3,8 @@
 //! What is shown is what the proved session program printed: this program works out the same bytes from
 //! the proved calls, compares the two, and shows nothing if they differ in one byte.
 
-use m68k_host::session::predict;
-use m68k_host::view::{Names, page, text};
+use m68k_programs::session::predict;
+use m68k_programs::view::{Names, page, text};
 use std::io::{Read, Write};
 use std::process::{Command, ExitCode, Stdio};
 

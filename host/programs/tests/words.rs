@@ -1,8 +1,8 @@
 //! The table of words: nothing is missing, and what it says of frames is what the proved code does.
 
-use m68k_host::session::{Command, Wrong};
-use m68k_host::words::{self, Field, Sort};
-use m68k_host::{Bus, Call, Cause, Record, Refusal, call, leaf, return_from};
+use m68k_host::{Call, Core, FaultCause, Refusal};
+use m68k_programs::session::{Command, Wrong};
+use m68k_programs::words::{self, Field, Sort};
 
 const FORMATS: [u32; 7] = [0, 1, 2, 4, 7, 8, 11];
 
@@ -84,14 +84,14 @@ fn statuses_in_words() {
 
 /// What a return takes off the stack of each kind for each format: its bytes, or none if refused.
 fn taken(kind: u8, format: u32) -> Result<u32, Refusal> {
-    let mut record = Record::fresh(kind);
-    record.dar[15] = 0x1000;
+    let mut core = Core::fresh(kind);
+    core.dar_mut()[15] = 0x1000;
     let mut store = vec![0; 0x2000];
     store[0x1000] = 0x27;
     store[0x1006] = (format << 4) as u8;
     // Under a frame of format 1 one of format 0, on the same stack.
     store[0x1008] = 0x27;
-    return_from(&mut record, &Bus::default(), &store).map(|_| record.dar[15] - 0x1000)
+    core.return_from(&store).map(|_| core.dar()[15] - 0x1000)
 }
 
 /// Every format has a layout, as long as a return takes it on the kinds that take it; no other has.
@@ -128,12 +128,15 @@ fn fields_are_named() {
 
 /// The fields of the frame that a call stacks on a kind, by name.
 fn stacked(kind: u8, wanted: Call) -> Vec<(&'static str, u32, String)> {
-    let mut record = Record::fresh(kind);
-    (record.dar[15], record.ppc, record.pc, record.ir) = (0x8000, 0xFFE, 0x1000, 0x4E71);
-    record.pending_fault_wdata = 0x1234;
-    let (mut bus, mut store, mut log) = (Bus::default(), vec![0; 65_536], [0; 192]);
-    call(&mut record, &mut bus, &mut store, &mut log, wanted).unwrap();
-    let start = record.dar[15] as usize;
+    let mut core = Core::fresh(kind);
+    core.dar_mut()[15] = 0x8000;
+    core.set_ppc(0xFFE);
+    core.set_pc(0x1000);
+    core.set_ir(0x4E71);
+    core.set_pending_fault_wdata(0x1234);
+    let (mut store, mut log) = (vec![0; 65_536], [0; 192]);
+    core.call(wanted, &mut store, &mut log).unwrap();
+    let start = core.dar()[15] as usize;
     let word = u32::from(store[start + 6]) << 8 | u32::from(store[start + 7]);
     let fields: &[Field] =
         if kind == 1 { words::ERROR_68000 } else { words::layout(word).unwrap() };
@@ -204,7 +207,7 @@ fn bus_error_frames_have_each_value_under_its_name() {
     let fields = stacked(1, fault(true, None));
     assert_eq!(value(&fields, "instruction register"), 0x4E71);
     // P8 of paper 01.
-    let fields = stacked(11, fault(false, Some(Cause::PageFault)));
+    let fields = stacked(11, fault(false, Some(FaultCause::PageFault)));
     assert_eq!(value(&fields, "fault status long word"), 0x0125_0200);
     assert_eq!(text(&fields, "fault status long word"), "read, byte, supervisor data, PF");
 }
@@ -235,14 +238,14 @@ fn other_frames_have_each_value_under_its_name() {
 #[test]
 fn statuses_are_kept_under_the_kinds_mask() {
     for kind in 0..12 {
-        let mut record = Record::fresh(kind);
-        leaf::put_back_sr(&mut record, 0xFFFF);
+        let mut core = Core::fresh(kind);
+        core.set_sr(0xFFFF);
         let mask = match kind {
             0..=2 | 10 => 0xA71F,
             11 => 0xB71F,
             _ => 0xF71F,
         };
-        assert_eq!(leaf::get_sr(&record), mask, "kind {kind}");
+        assert_eq!(core.get_sr(), mask, "kind {kind}");
     }
 }
 
@@ -253,7 +256,7 @@ fn table(head: &str, rows: impl Iterator<Item = String>) -> String {
 /// The two tables of the manual have the words of this table.
 #[test]
 fn the_manual_has_these_words() {
-    let manual = include_str!("../../docs/SESSION.md");
+    let manual = include_str!("../../../docs/SESSION.md");
     let refusals = (1..=14).map(|n| {
         let (what, advice) = words::refusal(n);
         format!("| {n} | {what} | {advice} |")

@@ -12,7 +12,7 @@ pub use text::text;
 use crate::session::{Command, LINE, LINE_REFUSED, Outcome, Session, Step};
 use crate::stack::{self, Fault, Placed, Stacked};
 use crate::words::{self, ERROR_68000, FRAME_68000, Sort};
-use crate::{Record, Row, leaf, return_from};
+use m68k_host::{Core, Row};
 
 /// A field of a frame that is drawn.
 #[derive(Debug, Clone, PartialEq, Eq)]
@@ -130,10 +130,10 @@ fn hex(bytes: &[u8]) -> String {
 }
 
 /// The bits of a status that a kind keeps.
-fn kept(record: &Record) -> u16 {
-    let mut all = record.clone();
-    leaf::put_back_sr(&mut all, 0xFFFF);
-    leaf::get_sr(&all)
+fn kept(core: &Core) -> u16 {
+    let mut all = core.clone();
+    all.set_sr(0xFFFF);
+    all.get_sr()
 }
 
 impl<'a> View<'a> {
@@ -194,18 +194,18 @@ impl<'a> View<'a> {
     }
 
     /// Where the processor goes on, its status and A7.
-    fn state(&self, record: &Record) -> String {
-        let status = u32::from(leaf::get_sr(record));
+    fn state(&self, core: &Core) -> String {
+        let status = u32::from(core.get_sr());
         format!(
             "on at {}, status {}, A7 {:08X}",
-            self.names.address(record.pc),
-            self.names.status(status, kept(record)),
-            record.dar[15]
+            self.names.address(core.pc()),
+            self.names.status(status, kept(core)),
+            core.dar()[15]
         )
     }
 
     fn held_back(&self, step: &Step) -> Vec<Part> {
-        let (level, mask) = (asked_level(step), step.after.int_mask >> 8 & 7);
+        let (level, mask) = (asked_level(step), step.after.int_mask() >> 8 & 7);
         let why = match level {
             0 => "not taken: level 0 asks for nothing".into(),
             _ => format!("not taken: level {level} is held back by the mask, which is {mask}"),
@@ -265,7 +265,7 @@ impl<'a> View<'a> {
 
     /// Keeps what an entry stacked, to know it again.
     fn note(&mut self, step: &Step, text: &str, stacked: Stacked) {
-        let own = (stacked.frames, Some(leaf::get_sr(&step.before)));
+        let own = (stacked.frames, Some(step.before.get_sr()));
         let errors = stacked.errors.into_iter().map(|(_, frame)| (vec![frame], None));
         for (group, status) in std::iter::once(own).chain(errors) {
             let store = &self.session.store;
@@ -296,8 +296,8 @@ impl<'a> View<'a> {
     fn returned(&mut self, step: &Step, row: &Row) -> Vec<Part> {
         self.counts.returns += 1;
         let frames = stack::taken(&step.before, &self.session.store);
-        let (gave, keeps) = (u32::from(leaf::get_sr(&step.after)), kept(&step.after));
-        let same = step.after.pc == row.address && gave == row.status;
+        let (gave, keeps) = (u32::from(step.after.get_sr()), kept(&step.after));
+        let same = step.after.pc() == row.address && gave == row.status;
         let what = if same { "address and status are those" } else { "the address is the one" };
         let mut parts = vec![Part::Said(self.state(&step.after))];
         match self.opened(&frames) {
@@ -352,22 +352,22 @@ impl<'a> View<'a> {
     }
 
     /// Frames that no entry of this session stacked.
-    fn unknown(&self, record: &Record, frames: &[Placed]) -> Vec<Part> {
+    fn unknown(&self, core: &Core, frames: &[Placed]) -> Vec<Part> {
         let titles = frame_titles(frames).into_iter().map(|title| match title.as_str() {
             "" => "the frame, which no entry of this session stacked".to_string(),
             _ => format!("{title}, which no entry of this session stacked"),
         });
-        frames.iter().zip(titles).map(|(f, title)| self.draw(record, f, title, None)).collect()
+        frames.iter().zip(titles).map(|(f, title)| self.draw(core, f, title, None)).collect()
     }
 
     fn walked(&mut self, step: &Step, rows: &[Row], refused: Option<u32>) -> Vec<Part> {
         let mut parts = vec![];
-        let mut record = self.session.record.clone();
+        let mut core = self.session.core.clone();
         for (i, row) in rows.iter().enumerate() {
-            let frames = stack::taken(&record, &self.session.store);
-            parts.extend(self.row(i + 1, row, &record, &frames));
+            let frames = stack::taken(&core, &self.session.store);
+            parts.extend(self.row(i + 1, row, &core, &frames));
             // The rows were read by returns that were not refused.
-            let _ = return_from(&mut record, &self.session.bus, &self.session.store);
+            let _ = core.return_from(&self.session.store);
         }
         if rows.is_empty() && refused.is_none() {
             parts.push(Part::Said("no rows".into()));
@@ -376,11 +376,11 @@ impl<'a> View<'a> {
         parts
     }
 
-    fn row(&self, number: usize, row: &Row, record: &Record, frames: &[Placed]) -> Vec<Part> {
+    fn row(&self, number: usize, row: &Row, core: &Core, frames: &[Placed]) -> Vec<Part> {
         let (address, status) =
-            (self.names.address(row.address), self.names.status(row.status, kept(record)));
+            (self.names.address(row.address), self.names.status(row.status, kept(core)));
         let mut parts = vec![Part::Said(format!("{number}. back to {address}, status {status}"))];
-        let what = match record.cpu_type {
+        let what = match core.cpu_type() {
             1 => String::new(),
             _ => format!("format {}, {}, ", row.format, self.names.vector(row.offset)),
         };
@@ -389,17 +389,17 @@ impl<'a> View<'a> {
                 let flaw = self.flaw(open).map_or(String::new(), |flaw| format!(", {flaw}"));
                 parts.push(Part::Said(format!("   {what}stacked by {}{flaw}", open.line)));
             }
-            None => parts.extend(self.unknown(record, frames)),
+            None => parts.extend(self.unknown(core, frames)),
         }
         parts
     }
 
     /// Draws a frame. Of one that a line stacked it says which fields were not written.
-    fn draw(&self, record: &Record, frame: &Placed, title: String, step: Option<&Step>) -> Part {
+    fn draw(&self, core: &Core, frame: &Placed, title: String, step: Option<&Step>) -> Part {
         let mut cells = vec![];
         let mut at = frame.start;
         for &(name, length, sort) in frame.fields {
-            let address = leaf::address(record, at);
+            let address = stack::address(core, at);
             at = at.wrapping_add(length as u32);
             let place = address as usize;
             let bytes = self.session.store.get(place..place.saturating_add(length));
@@ -407,19 +407,19 @@ impl<'a> View<'a> {
             let value = match bytes {
                 None => "outside the store: not stored".into(),
                 Some(_) if !written => "not written, as it was before".into(),
-                Some(bytes) => self.value(record, bytes, sort),
+                Some(bytes) => self.value(core, bytes, sort),
             };
             cells.extend(cells_of(address, bytes.unwrap_or(&[]), name, value));
         }
-        let top = step.is_some_and(|s| leaf::address(record, s.after.dar[15]) == frame.start);
+        let top = step.is_some_and(|s| stack::address(core, s.after.dar()[15]) == frame.start);
         Part::Drawn(Drawing { title, top, cells })
     }
 
-    fn value(&self, record: &Record, bytes: &[u8], sort: Sort) -> String {
+    fn value(&self, core: &Core, bytes: &[u8], sort: Sort) -> String {
         let number = bytes.iter().fold(0u32, |n, byte| n << 8 | u32::from(*byte));
         let digits = 2 * bytes.len();
         match sort {
-            Sort::Status => self.names.status(number, kept(record)),
+            Sort::Status => self.names.status(number, kept(core)),
             Sort::Address => self.names.address(number),
             Sort::Format => {
                 format!("format {}, {}", number >> 12, self.names.vector(number & 0xFFF))

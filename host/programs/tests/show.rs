@@ -3,7 +3,7 @@
 use std::path::PathBuf;
 use std::process::{Command, Output};
 
-const SESSION: &str = concat!(env!("CARGO_MANIFEST_DIR"), "/afternoon/session.txt");
+const SESSION: &str = concat!(env!("CARGO_MANIFEST_DIR"), "/../afternoon/session.txt");
 
 fn show(arguments: &[&str]) -> Output {
     Command::new(env!("CARGO_BIN_EXE_show")).args(arguments).output().unwrap()
