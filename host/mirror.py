@@ -272,7 +272,7 @@ def answers(crates):
 def rust_numbers(crates):
     """The text of src/numbers.rs."""
     gives = answers(crates)
-    out = [RUST_HEAD, f"use crate::call::Gives::{{{', '.join(sorted(set(gives.values())))}}};\nuse crate::call::Numbered;\n"]
+    out = [RUST_HEAD, "#![deny(dead_code)] // a call that Rust does not offer\n", f"use crate::call::Gives::{{{', '.join(sorted(set(gives.values())))}}};\nuse crate::call::Numbered;\n"]
     for number, call, arguments in numbers(crates):
         name = snake(call, capital=True)
         out.append(f"pub const {name}: Numbered = Numbered::new({number}, {len(arguments)}, {gives[call]});")

@@ -1,5 +1,7 @@
 // Written by mirror.py from the Rattle sources: do not edit.
 
+#![deny(dead_code)] // a call that Rust does not offer
+
 use crate::call::Gives::{Cycles, Done, Flag, Value};
 use crate::call::Numbered;
 
