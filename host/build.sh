@@ -43,7 +43,7 @@ if command -v gcc >/dev/null 2>&1; then
     for name in examples/entry tests/lent; do
         gcc -std=c11 -O1 -g -Wall -Wextra -Werror -I "$here/include" -o "$made/$(basename $name)" "$here/$name.c" "$lib/liblent.a" || exit 1
     done
-    if ! "$made/entry" | cmp - "$here/examples/entry.out" || ! "$made/lent" 1000000 68010; then
+    if ! "$made/entry" | cmp - "$here/examples/entry.out" || ! "$made/lent" 200000 68010; then
         echo "host: error: a test in C failed"
         exit 1
     fi

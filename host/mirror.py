@@ -55,8 +55,9 @@ C_TYPES = {"u8": "uint8_t", "u16": "uint16_t", "u32": "uint32_t", "i32": "int32_
 
 # What a reader of the header is told of each function.
 C_SAYS = {
-    "m68k_call": "Performs the call on the record, the bus and the lent store and log, or refuses it: then record, store and log are as they\n"
-                 " * came, byte for byte. A log has 192 words at least. `answer` is the cycles of an entry, the value of a read, 0 or 1 of a check.",
+    "m68k_call": "Performs the call on the record, the bus and the lent store and log, or refuses it: then every field of the record,\n"
+                 " * flags too, and store and log are as they came. A log has 192 words at least; each event is three of them. `answer` is the\n"
+                 " * cycles of an entry, the value of a read, 0 or 1 of a check.",
     "m68k_return": "Returns from the entry whose frame lies at A7; `row` is what its frame held, zeros where `refused` is not 0.",
     "m68k_walk": "Makes n returns on a copy and lays what each read into `rows`, four words each: format, status, address, offset.",
     "m68k_fresh": "The record of a processor of that kind after it was made.",
@@ -275,7 +276,9 @@ def rust_numbers(crates):
     out = [RUST_HEAD, "#![deny(dead_code)] // a call that Rust does not offer\n", f"use crate::call::Gives::{{{', '.join(sorted(set(gives.values())))}}};\nuse crate::call::Numbered;\n"]
     for number, call, arguments in numbers(crates):
         name = snake(call, capital=True)
-        out.append(f"pub const {name}: Numbered = Numbered::new({number}, {len(arguments)}, {gives[call]});")
+        told = f'{number}, "{snake(call)}", {len(arguments)}, {gives[call]}'
+        line = f"pub const {name}: Numbered = Numbered::new({told});"
+        out.append(line if len(line) <= 100 else line.replace(" = ", " =\n    "))
     return "\n".join(out) + "\n"
 
 

@@ -269,8 +269,9 @@ enum m68k_number {
     M68K_PREFETCH_SECOND = 30 /* -> 0 */
 };
 
-/* Performs the call on the record, the bus and the lent store and log, or refuses it: then record, store and log are as they
- * came, byte for byte. A log has 192 words at least. `answer` is the cycles of an entry, the value of a read, 0 or 1 of a check. */
+/* Performs the call on the record, the bus and the lent store and log, or refuses it: then every field of the record,
+ * flags too, and store and log are as they came. A log has 192 words at least; each event is three of them. `answer` is the
+ * cycles of an entry, the value of a read, 0 or 1 of a check. */
 struct m68k_said m68k_call(struct m68k_core *core, struct m68k_raw_call call, uint8_t *store, size_t store_len, uint32_t *log, size_t log_len);
 
 /* Returns from the entry whose frame lies at A7; `row` is what its frame held, zeros where `refused` is not 0. */

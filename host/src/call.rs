@@ -2,10 +2,10 @@
 
 use crate::mirror::RawCall;
 use crate::{Answer, FaultCause, numbers};
+use std::fmt;
 
 /// A call, by the name of the Rust's function.
 #[derive(Debug, Clone, Copy, PartialEq, Eq, Hash)]
-#[allow(missing_docs)] // the names of fields say what they are
 #[non_exhaustive]
 pub enum Call {
     /// Entry by a vector.
@@ -23,13 +23,25 @@ pub enum Call {
     /// Trace.
     ExceptionTrace,
     /// Address error.
-    ExceptionAddressError { address: u32, write: bool, instruction: bool },
+    ExceptionAddressError {
+        /// The address of the access.
+        address: u32,
+        /// Whether it was a write.
+        write: bool,
+        /// Whether an instruction was fetched.
+        instruction: bool,
+    },
     /// Bus error.
     ExceptionBusError {
+        /// The address of the access.
         address: u32,
+        /// Whether it was a write.
         write: bool,
+        /// Whether an instruction was fetched.
         instruction: bool,
+        /// Its bytes.
         size: u32,
+        /// Why it faulted, where that is known.
         cause: Option<FaultCause>,
     },
     /// Floating-point instruction that the 68060 leaves to software, with its effective address.
@@ -47,9 +59,25 @@ pub enum Call {
     /// Illegal instruction.
     TakeIllegalException,
     /// An access at an odd address faults.
-    TriggerAddressError { address: u32, write: bool, instruction: bool },
+    TriggerAddressError {
+        /// The address of the access.
+        address: u32,
+        /// Whether it was a write.
+        write: bool,
+        /// Whether an instruction was fetched.
+        instruction: bool,
+    },
     /// An access that is not served faults.
-    TriggerBusError { address: u32, write: bool, instruction: bool, size: u32 },
+    TriggerBusError {
+        /// The address of the access.
+        address: u32,
+        /// Whether it was a write.
+        write: bool,
+        /// Whether an instruction was fetched.
+        instruction: bool,
+        /// Its bytes.
+        size: u32,
+    },
     /// Does the instruction ask for a trace exception?
     CheckTrace,
     /// A device asks for an interrupt of a level.
@@ -97,17 +125,23 @@ impl Gives {
     }
 }
 
-/// A call of the proved code: its number, how many arguments it reads, what it answers.
+/// A call of the proved code: its number and name, how many arguments it reads, what it answers.
 #[derive(Debug, Clone, Copy, PartialEq, Eq)]
 pub(crate) struct Numbered {
-    pub(crate) number: u32,
-    pub(crate) arguments: usize,
-    pub(crate) gives: Gives,
+    number: u32,
+    name: &'static str,
+    arguments: usize,
+    gives: Gives,
 }
 
 impl Numbered {
-    pub(crate) const fn new(number: u32, arguments: usize, gives: Gives) -> Numbered {
-        Numbered { number, arguments, gives }
+    pub(crate) const fn new(
+        number: u32,
+        name: &'static str,
+        arguments: usize,
+        gives: Gives,
+    ) -> Numbered {
+        Numbered { number, name, arguments, gives }
     }
 }
 
@@ -162,10 +196,27 @@ impl Call {
         }
     }
 
+    /// The number of the call over the boundary: 1 for [`Call::TakeException`] and so on.
+    pub fn number(self) -> u32 {
+        self.encode().0.number
+    }
+
     /// The call as the boundary takes it, and what it answers.
     pub(crate) fn to_raw(self) -> (RawCall, Gives) {
-        let (Numbered { number, arguments, gives }, [a, b, c, d, e]) = self.encode();
-        debug_assert!([a, b, c, d, e][arguments..].iter().all(|&n| n == 0), "{self:?}");
+        let (Numbered { number, gives, .. }, [a, b, c, d, e]) = self.encode();
         (RawCall { number, a, b, c, d, e }, gives)
+    }
+}
+
+/// As the test cases write it: the name of the Rust's function, then each argument after a colon, in hexadecimal.
+///
+/// ```
+/// assert_eq!(m68k_host::Call::Write16(0x40, 0x1234).to_string(), "write_16:40:1234");
+/// ```
+impl fmt::Display for Call {
+    fn fmt(&self, f: &mut fmt::Formatter<'_>) -> fmt::Result {
+        let (Numbered { name, arguments, .. }, values) = self.encode();
+        f.write_str(name)?;
+        values[..arguments].iter().try_for_each(|value| write!(f, ":{value:x}"))
     }
 }

@@ -260,3 +260,59 @@ impl fmt::Debug for Core {
             .finish()
     }
 }
+
+#[cfg(test)]
+mod tests {
+    use super::*;
+    use crate::random::{Numbers, any_call, likely_core};
+
+    type Flag = fn(&mut LentCpu) -> &mut u8;
+
+    /// The bytes of a record that are flags.
+    const FLAGS: [Flag; 8] = [
+        |cpu| &mut cpu.flow.exception_processing,
+        |cpu| &mut cpu.flow.change_of_flow,
+        |cpu| &mut cpu.flow.loop_mode,
+        |cpu| &mut cpu.queue.precise_bus,
+        |cpu| &mut cpu.fault.instruction_exception_vector.some,
+        |cpu| &mut cpu.fault.last_exception_vector.some,
+        |cpu| &mut cpu.fault.mmu_fc_override.some,
+        |cpu| &mut cpu.fault_resume.some,
+    ];
+
+    /// A flag of any byte but 0 does what a flag of 1 does; it stays where the call is refused, else flags are 0 and 1.
+    #[test]
+    fn a_flag_is_any_byte_but_0() {
+        let (mut n, mut kept) = (Numbers(8), 0);
+        for _ in 0..20_000 {
+            let (mut one, mut call) = (likely_core(&mut n, 0, 0x1000), any_call(&mut n));
+            let (flag, byte) = (n.of(&FLAGS), n.of(&[2, 3, 0x10, 0x80, 0xFF]));
+            *flag(&mut one.0.cpu) = 1;
+            let mut other = one.clone();
+            *flag(&mut other.0.cpu) = byte;
+            let before = other.clone();
+            assert!(one.record() == other.record() && one != other);
+            if n.percent(10) {
+                call = Call::TakeException(256);
+            }
+            let (mut stores, mut logs) = ([[7; 0x1000]; 2], [[0; 192]; 2]);
+            let done = one.call(call, &mut stores[0], &mut logs[0]);
+            assert_eq!(other.call(call, &mut stores[1], &mut logs[1]), done, "{call}");
+            assert!(stores[0] == stores[1] && logs[0] == logs[1], "{call}");
+            if done.is_err() {
+                assert!(other == before, "{call}: refused, and the flag was changed");
+                kept += 1;
+            } else {
+                assert!(other == one && FLAGS.iter().all(|f| *f(&mut one.0.cpu) < 2), "{call}");
+            }
+            let (mut one, mut other) = (before.clone(), before.clone());
+            *flag(&mut one.0.cpu) = 1;
+            let walk = |core: &Core| core.walk(2, &stores[0], &mut [0; 8]);
+            assert_eq!((walk(&one), one.get_sr()), (walk(&other), other.get_sr()));
+            let (left, right) = (one.return_from(&stores[0]), other.return_from(&stores[0]));
+            assert_eq!(left, right);
+            assert!(if left.is_ok() { one == other } else { other == before });
+        }
+        assert!(kept > 1_000);
+    }
+}

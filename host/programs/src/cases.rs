@@ -730,7 +730,7 @@ fn show_changes(out: &mut Vec<u8>, before: &[u8], after: &[u8]) {
 #[cfg(test)]
 mod tests {
     use super::*;
-    use crate::random::{Numbers, any_record};
+    use crate::random::{Numbers, any_call, any_record};
     use std::collections::{BTreeMap, BTreeSet};
 
     /// The fields by their names in the text, as the derived text has them: all that there are.
@@ -748,6 +748,19 @@ mod tests {
             fields.entry(last.clone()).or_default().push_str(line);
         }
         fields
+    }
+
+    /// Every call is read as it is written.
+    #[test]
+    fn calls_are_read_as_they_are_written() {
+        let (mut numbers, mut seen) = (Numbers(1), BTreeSet::new());
+        for _ in 0..2000 {
+            let call = any_call(&mut numbers);
+            let read = read_wanted(&call.to_string());
+            assert!(matches!(read, Ok(Wanted::Call(same)) if same == call), "{call}");
+            seen.insert(call.number());
+        }
+        assert!(seen.into_iter().eq(1..=30));
     }
 
     #[test]
