@@ -1,10 +1,10 @@
 use mathlib.Core.Path.{_≡_, refl, _∙_}
-use Rattle.boundary.proofs.Ways.{m68k-call-way}
+use Rattle.boundary.proofs.Ways.{raw-call-way}
 use borrow.Author.Needs.{needs}
-use Rattle.boundary.proofs.m68k_call.Statement.{statement}
-use Rattle.boundary.proofs.m68k_call.Tie as tie
-use Rattle.boundary.proofs.m68k_call.Reads as reads
-use Rattle.boundary.proofs.m68k_call.Lts as lts
+use Rattle.boundary.proofs.raw_call.Statement.{statement}
+use Rattle.boundary.proofs.raw_call.Tie as tie
+use Rattle.boundary.proofs.raw_call.Reads as reads
+use Rattle.boundary.proofs.raw_call.Lts as lts
 use Rattle.boundary.proofs.call_decoded.Reads as call-decoded-reads
 use Rattle.boundary.proofs.decode.Reads as decode-reads
 
@@ -21,8 +21,8 @@ same-length-2 : tie.Need-same-length-2
 same-length-2 c = c .before .before .before .before .call-decoded .kept .1 .1 .0
 
 returns : tie.Need-returns
-returns c = m68k-call-way _ _ _ _ _ _ _ _ (c .before .before .before .before .before .before .before .decode .ensures) (c .before .before .before .before .call-decoded .ensures)
+returns c = raw-call-way _ _ _ _ _ _ _ _ (c .before .before .before .before .before .before .before .decode .ensures) (c .before .before .before .before .call-decoded .ensures)
 
-pub m68k-call-spec : {M : Type 1} → statement M
-m68k-call-spec =
+pub raw-call-spec : {M : Type 1} → statement M
+raw-call-spec =
     tie.close (tie.spec decode-requires call-decoded-requires same-length same-length-2 returns)
