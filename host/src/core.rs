@@ -1,7 +1,6 @@
 //! The core: what is lent to a call in place, and the calls over it.
 
 use crate::mirror::{LentCore, LentCpu};
-use crate::shim as boundary;
 use crate::{Answer, Call, Kind, Record, Refusal, Row, UnknownKind, Walked, mirror};
 use std::fmt;
 
@@ -45,7 +44,7 @@ impl Core {
     /// ```
     pub fn fresh(kind: impl Into<u8>) -> Core {
         // Sound: it takes and gives plain values in the layout of mirror.rs.
-        let cpu: LentCpu = unsafe { boundary::m68k_fresh(kind.into()) };
+        let cpu: LentCpu = unsafe { mirror::m68k_fresh(kind.into()) };
         let bus = mirror::Bus {
             base: 0,
             windows: 0,
@@ -118,7 +117,7 @@ impl Core {
         // borrowed here for longer than the call, which keeps no pointer.
         let said = unsafe {
             let (store, log) = (store.as_mut_ptr(), log.as_mut_ptr());
-            boundary::m68k_call(&mut self.0, raw, store, store_len, log, log_len)
+            mirror::m68k_call(&mut self.0, raw, store, store_len, log, log_len)
         };
         match Refusal::from_number(said.refused) {
             Some(refusal) => Err(refusal),
@@ -136,7 +135,7 @@ impl Core {
     /// A return that is refused leaves the core as it came, byte for byte.
     pub fn return_from(&mut self, store: &[u8]) -> Result<Row, Refusal> {
         // Sound as in `call`; the store is only read.
-        let said = unsafe { boundary::m68k_return(&mut self.0, store.as_ptr(), store.len()) };
+        let said = unsafe { mirror::m68k_return(&mut self.0, store.as_ptr(), store.len()) };
         let mirror::Row { format, status, address, offset } = said.row;
         match Refusal::from_number(said.refused) {
             Some(refusal) => Err(refusal),
@@ -168,7 +167,7 @@ impl Core {
         // Sound as in `call`; core and store are only read.
         let said = unsafe {
             let (store, rows) = (store.as_ptr(), rows.as_mut_ptr());
-            boundary::m68k_walk(&self.0, n, store, store_len, rows, rows_len)
+            mirror::m68k_walk(&self.0, n, store, store_len, rows, rows_len)
         };
         Walked { count: said.count, refused: Refusal::from_number(said.refused) }
     }
@@ -176,7 +175,7 @@ impl Core {
     /// The status register.
     pub fn get_sr(&self) -> u16 {
         // Sound as in `call`; the record is only read.
-        let status = unsafe { boundary::m68k_get_sr(&self.0.cpu) };
+        let status = unsafe { mirror::m68k_get_sr(&self.0.cpu) };
         u16::try_from(status).expect("a status register has 16 bits")
     }
 
@@ -193,7 +192,7 @@ impl Core {
     /// ```
     pub fn set_sr(&mut self, sr: u16) {
         // Sound as in `call`.
-        unsafe { boundary::m68k_set_sr(&mut self.0.cpu, sr) };
+        unsafe { mirror::m68k_set_sr(&mut self.0.cpu, sr) };
     }
 }
 

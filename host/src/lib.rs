@@ -58,7 +58,6 @@ mod random;
 mod record;
 mod refusal;
 mod row;
-mod shim;
 
 pub use crate::core::{Core, Window};
 pub use answer::Answer;
