@@ -1,4 +1,4 @@
-//! Links the archive of the proved code: libboundary.a in the folder M68K_LIB, or in
+//! Links the archive of the proved code: liblent.a in the folder M68K_LIB, or in
 //! target/staticlib of the repository.
 
 use std::path::PathBuf;
@@ -9,14 +9,14 @@ fn main() {
         Some(dir) => PathBuf::from(dir),
         None => here.join("../target/staticlib"),
     };
-    let file = dir.join("libboundary.a");
+    let file = dir.join("liblent.a");
     assert!(
         file.is_file(),
-        "libboundary.a is not there: run `rt staticlib boundary`, or name its folder in M68K_LIB"
+        "liblent.a is not there: run `rt staticlib lent`, or name its folder in M68K_LIB"
     );
     let dir = dir.canonicalize().unwrap();
     println!("cargo::rustc-link-search=native={}", dir.display());
-    println!("cargo::rustc-link-lib=static=boundary");
+    println!("cargo::rustc-link-lib=static=lent");
     println!("cargo::rerun-if-env-changed=M68K_LIB");
-    println!("cargo::rerun-if-changed={}", dir.join("libboundary.a").display());
+    println!("cargo::rerun-if-changed={}", dir.join("liblent.a").display());
 }

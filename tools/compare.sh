@@ -8,7 +8,8 @@ cd "$(dirname "${BASH_SOURCE[0]}")/.."
 source_of_rust=$(cd "$1" && pwd); seed=$2; count=$3; lists=${4:-0}
 unset M68K_DIAG_ADDRESS_ERROR || true
 oracle/build.sh test "$source_of_rust"
-rt staticlib boundary
+rt staticlib lent
+rt staticlib leaves
 python3 host/mirror.py --check
 host/build.sh test
 target/host/release/compare --file oracle/examples.txt

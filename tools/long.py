@@ -74,7 +74,7 @@ def digest(path):
 
 
 def build(source):
-    for command in [["oracle/build.sh", source], ["rt", "staticlib", "boundary"], ["host/build.sh"]]:
+    for command in [["oracle/build.sh", source], ["rt", "staticlib", "lent"], ["host/build.sh"]]:
         print("long:", " ".join(command), flush=True)
         done = subprocess.run(command, cwd=ROOT, stdout=subprocess.PIPE, stderr=subprocess.STDOUT, text=True)
         if done.returncode != 0:

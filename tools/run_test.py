@@ -27,8 +27,8 @@ check)
 staticlib)
     echo "rt: types proved (unchanged since it was last proved)"
     mkdir -p target/staticlib
-    echo "archive" >target/staticlib/libboundary.a
-    echo "rt: target/staticlib/libboundary.a has the functions of boundary" ;;
+    echo "archive" >target/staticlib/liblent.a
+    echo "rt: target/staticlib/liblent.a has the functions of lent" ;;
 esac
 """
 
@@ -50,7 +50,7 @@ class Run(unittest.TestCase):
         self.kit = self.write("kit", "kit 1\n")
         self.write("tree/crates/session/src/main.rt", "main\n")
         self.write("tree/crates/types/src/lib.rt", "lib\n")
-        self.write("tree/crates.txt", "# crates\ntypes:\nboundary: types\nsession: types io libc os\n")
+        self.write("tree/crates.txt", "# crates\ntypes:\nlent: types\nsession: types io libc os\n")
         self.write("tree/host/build.sh", BUILD.replace("mkdir", 'cd "$(dirname "$0")/.." || exit 1\nmkdir'), 0o755)
         self.write("tree/host/afternoon/session.txt", "kind 2\n")
         self.write("tree/host/afternoon/words.txt", "a kind\n")
@@ -80,7 +80,7 @@ class Run(unittest.TestCase):
             calls = [line.strip() for line in file if line != "rt version\n"]
         return done.returncode, done.stdout, done.stderr, calls
 
-    ALL = ["rt check session", "rt staticlib boundary", "build"]
+    ALL = ["rt check session", "rt staticlib lent", "build"]
 
     def test_first_run_builds_and_says_so(self):
         code, out, err, calls = self.run_it()
@@ -89,7 +89,7 @@ class Run(unittest.TestCase):
         program = os.path.join(self.root, "target/bin/session")
         self.assertTrue(out.startswith(f"show --program {program} --words {afternoon}words.txt {afternoon}session.txt\n"), out)
         self.assertIn("docs/SESSION.md", out)
-        for said in ["first run", "minutes for the session program and", "for what shows it", "1 of 2: types proved", "2 of 2: session proved", "2 of 2: boundary proved",
+        for said in ["first run", "minutes for the session program and", "for what shows it", "1 of 2: types proved", "2 of 2: session proved", "2 of 2: lent proved",
                      "stage 1 of 3", "stage 2 of 3", "stage 3 of 3"]:
             self.assertIn(said, err)
         self.assertNotIn("library", err)
@@ -112,7 +112,7 @@ class Run(unittest.TestCase):
         self.write("tree/crates/types/src/lib.rt", "changed\n")
         self.assertEqual(self.run_it()[3], self.ALL)
         time.sleep(0.05)
-        self.write("tree/crates.txt", "types:\nboundary: types\nsession: types\n")
+        self.write("tree/crates.txt", "types:\nlent: types\nsession: types\n")
         self.assertEqual(self.run_it()[3], self.ALL)
         self.assertEqual(self.run_it()[3], [])
 
@@ -131,7 +131,7 @@ class Run(unittest.TestCase):
         self.assertEqual(self.run_it()[3], self.ALL[:1])
         os.remove(os.path.join(self.root, "target/host/release/show"))
         self.assertEqual(self.run_it()[3], self.ALL[2:])
-        os.remove(os.path.join(self.root, "target/staticlib/libboundary.a"))
+        os.remove(os.path.join(self.root, "target/staticlib/liblent.a"))
         self.assertEqual(self.run_it()[3], self.ALL[1:])
 
     def test_another_toolchain_builds_anew(self):

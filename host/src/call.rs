@@ -1,12 +1,12 @@
-//! The calls, their answers and refusals.
+//! The calls, and their way over the boundary.
 
-use crate::mirror;
-use crate::{Bus, Cause, Record};
+use crate::mirror::RawCall;
+use crate::{Answer, FaultCause, numbers};
 use std::fmt;
 
 /// A call, by the name of the Rust's function.
-#[derive(Debug, Clone, Copy, PartialEq, Eq)]
-#[allow(missing_docs)] // the names of fields say what they are
+#[derive(Debug, Clone, Copy, PartialEq, Eq, Hash)]
+#[non_exhaustive]
 pub enum Call {
     /// Entry by a vector.
     TakeException(u32),
@@ -23,14 +23,26 @@ pub enum Call {
     /// Trace.
     ExceptionTrace,
     /// Address error.
-    ExceptionAddressError { address: u32, write: bool, instruction: bool },
+    ExceptionAddressError {
+        /// The address of the access.
+        address: u32,
+        /// Whether it was a write.
+        write: bool,
+        /// Whether an instruction was fetched.
+        instruction: bool,
+    },
     /// Bus error.
     ExceptionBusError {
+        /// The address of the access.
         address: u32,
+        /// Whether it was a write.
         write: bool,
+        /// Whether an instruction was fetched.
         instruction: bool,
+        /// Its bytes.
         size: u32,
-        cause: Option<Cause>,
+        /// Why it faulted, where that is known.
+        cause: Option<FaultCause>,
     },
     /// Floating-point instruction that the 68060 leaves to software, with its effective address.
     TakeFpUnimp060(u32),
@@ -47,9 +59,25 @@ pub enum Call {
     /// Illegal instruction.
     TakeIllegalException,
     /// An access at an odd address faults.
-    TriggerAddressError { address: u32, write: bool, instruction: bool },
+    TriggerAddressError {
+        /// The address of the access.
+        address: u32,
+        /// Whether it was a write.
+        write: bool,
+        /// Whether an instruction was fetched.
+        instruction: bool,
+    },
     /// An access that is not served faults.
-    TriggerBusError { address: u32, write: bool, instruction: bool, size: u32 },
+    TriggerBusError {
+        /// The address of the access.
+        address: u32,
+        /// Whether it was a write.
+        write: bool,
+        /// Whether an instruction was fetched.
+        instruction: bool,
+        /// Its bytes.
+        size: u32,
+    },
     /// Does the instruction ask for a trace exception?
     CheckTrace,
     /// A device asks for an interrupt of a level.
@@ -76,303 +104,119 @@ pub enum Call {
     PrefetchSecond,
 }
 
+/// What the answer of a call is.
+#[derive(Debug, Clone, Copy, PartialEq, Eq)]
+pub(crate) enum Gives {
+    Cycles,
+    Flag,
+    Value,
+    Done,
+}
+
+impl Gives {
+    /// The answer of a call that said so.
+    pub(crate) fn answer(self, number: u32, events: u32) -> Answer {
+        match self {
+            Gives::Cycles => Answer::Cycles { cycles: number, events },
+            Gives::Flag => Answer::Flag { set: number != 0, events },
+            Gives::Value => Answer::Value { value: number, events },
+            Gives::Done => Answer::Done { events },
+        }
+    }
+}
+
+/// A call of the proved code: its number and name, how many arguments it reads, what it answers.
+#[derive(Debug, Clone, Copy, PartialEq, Eq)]
+pub(crate) struct Numbered {
+    number: u32,
+    name: &'static str,
+    arguments: usize,
+    gives: Gives,
+}
+
+impl Numbered {
+    pub(crate) const fn new(
+        number: u32,
+        name: &'static str,
+        arguments: usize,
+        gives: Gives,
+    ) -> Numbered {
+        Numbered { number, name, arguments, gives }
+    }
+}
+
 impl Call {
-    /// The number of the call and its arguments.
-    fn numbers(self) -> (u32, [u32; 5]) {
-        let at =
-            |address, write, instruction| [address, u32::from(write), u32::from(instruction), 0, 0];
+    /// The call of the proved code, and its arguments in their order.
+    fn encode(self) -> (Numbered, [u32; 5]) {
         let one = |a| [a, 0, 0, 0, 0];
+        let two = |a, b| [a, b, 0, 0, 0];
+        let at = |address, write: bool, instruction: bool, size, cause| {
+            [address, write.into(), instruction.into(), size, u32::from(FaultCause::number(cause))]
+        };
         let none = [0; 5];
         match self {
-            Call::TakeException(vector) => (1, one(vector)),
-            Call::Trap(n) => (2, one(n.into())),
-            Call::TakeGroup2Exception(vector) => (3, one(vector)),
-            Call::ExceptionChk => (4, none),
-            Call::ExceptionZeroDivide => (5, none),
-            Call::ExceptionPrivilege => (6, none),
-            Call::ExceptionTrace => (7, none),
+            Call::TakeException(vector) => (numbers::TAKE_EXCEPTION, one(vector)),
+            Call::Trap(n) => (numbers::TRAP, one(n.into())),
+            Call::TakeGroup2Exception(vector) => (numbers::TAKE_GROUP2_EXCEPTION, one(vector)),
+            Call::ExceptionChk => (numbers::EXCEPTION_CHK, none),
+            Call::ExceptionZeroDivide => (numbers::EXCEPTION_ZERO_DIVIDE, none),
+            Call::ExceptionPrivilege => (numbers::EXCEPTION_PRIVILEGE, none),
+            Call::ExceptionTrace => (numbers::EXCEPTION_TRACE, none),
             Call::ExceptionAddressError { address, write, instruction } => {
-                (8, at(address, write, instruction))
+                (numbers::EXCEPTION_ADDRESS_ERROR, at(address, write, instruction, 0, None))
             }
             Call::ExceptionBusError { address, write, instruction, size, cause } => {
-                let [a, b, c, ..] = at(address, write, instruction);
-                (9, [a, b, c, size, Cause::number(cause).into()])
+                (numbers::EXCEPTION_BUS_ERROR, at(address, write, instruction, size, cause))
             }
-            Call::TakeFpUnimp060(ea) => (10, one(ea)),
-            Call::TakeFpDisabled060 => (11, none),
-            Call::TakeAlineException => (12, none),
-            Call::TakeFlineException => (13, none),
-            Call::TakeTrapException(n) => (14, one(n.into())),
-            Call::TakeBkptException => (15, none),
-            Call::TakeIllegalException => (16, none),
+            Call::TakeFpUnimp060(ea) => (numbers::TAKE_FP_UNIMP_060, one(ea)),
+            Call::TakeFpDisabled060 => (numbers::TAKE_FP_DISABLED_060, none),
+            Call::TakeAlineException => (numbers::TAKE_ALINE_EXCEPTION, none),
+            Call::TakeFlineException => (numbers::TAKE_FLINE_EXCEPTION, none),
+            Call::TakeTrapException(n) => (numbers::TAKE_TRAP_EXCEPTION, one(n.into())),
+            Call::TakeBkptException => (numbers::TAKE_BKPT_EXCEPTION, none),
+            Call::TakeIllegalException => (numbers::TAKE_ILLEGAL_EXCEPTION, none),
             Call::TriggerAddressError { address, write, instruction } => {
-                (17, at(address, write, instruction))
+                (numbers::TRIGGER_ADDRESS_ERROR, at(address, write, instruction, 0, None))
             }
             Call::TriggerBusError { address, write, instruction, size } => {
-                let [a, b, c, ..] = at(address, write, instruction);
-                (18, [a, b, c, size, 0])
+                (numbers::TRIGGER_BUS_ERROR, at(address, write, instruction, size, None))
             }
-            Call::CheckTrace => (19, none),
-            Call::SetIrq(n) => (20, one(n.into())),
-            Call::CheckInterrupts => (21, none),
-            Call::CheckAndServiceInterrupts => (22, none),
-            Call::Read16(a) => (23, one(a)),
-            Call::Read32(a) => (24, one(a)),
-            Call::Write16(a, v) => (25, [a, v.into(), 0, 0, 0]),
-            Call::Write32(a, v) => (26, [a, v, 0, 0, 0]),
-            Call::Push16(v) => (27, one(v.into())),
-            Call::Push32(v) => (28, one(v)),
-            Call::PrefetchFirst => (29, none),
-            Call::PrefetchSecond => (30, none),
+            Call::CheckTrace => (numbers::CHECK_TRACE, none),
+            Call::SetIrq(n) => (numbers::SET_IRQ, one(n.into())),
+            Call::CheckInterrupts => (numbers::CHECK_INTERRUPTS, none),
+            Call::CheckAndServiceInterrupts => (numbers::CHECK_AND_SERVICE_INTERRUPTS, none),
+            Call::Read16(address) => (numbers::READ_16, one(address)),
+            Call::Read32(address) => (numbers::READ_32, one(address)),
+            Call::Write16(address, value) => (numbers::WRITE_16, two(address, value.into())),
+            Call::Write32(address, value) => (numbers::WRITE_32, two(address, value)),
+            Call::Push16(value) => (numbers::PUSH_16, one(value.into())),
+            Call::Push32(value) => (numbers::PUSH_32, one(value)),
+            Call::PrefetchFirst => (numbers::PREFETCH_FIRST, none),
+            Call::PrefetchSecond => (numbers::PREFETCH_SECOND, none),
         }
     }
 
-    pub(crate) fn to_mirror(self) -> mirror::RawCall {
-        let (number, [a, b, c, d, e]) = self.numbers();
-        mirror::RawCall { number, a, b, c, d, e }
-    }
-}
-
-/// The answer of a call that was accepted.
-#[derive(Debug, Clone, Copy, PartialEq, Eq)]
-pub struct Answer {
-    /// Cycles of an entry; 0 or 1 of [`Call::CheckTrace`], [`Call::CheckInterrupts`] and
-    /// [`Call::CheckAndServiceInterrupts`]; the value of a read; 0 of the rest.
-    pub value: u32,
-    /// Events: so many times three words of the log were written, from its start on.
-    pub events: u32,
-}
-
-/// Why a call, a return or a walk was refused: of 1 to 10 the lowest that applies; 11 to 13 are met by a
-/// return on its way. Record, bus, store and log are as they came.
-#[derive(Debug, Clone, Copy, PartialEq, Eq)]
-pub enum Refusal {
-    /// 1: `s_flag` is not 0 or 4, or `m_flag` is not 0 or 2.
-    Mode,
-    /// 2: `vbr` is odd on kind 1, 2 or 10.
-    VectorBase,
-    /// 3: an interrupt call with `cycles_remaining` below -2,147,483,602.
-    Cycles,
-    /// 4: `mmu_fc_override` is above 7.
-    FunctionCode,
-    /// 5: the store has more than 65,536 bytes or ends past 2^32.
-    Store,
-    /// 6: more than 8 windows, or one that ends past 2^32.
-    Windows,
-    /// 7: the log has fewer than 192 words.
-    Log,
-    /// 8: the vector is above 255.
-    Vector,
-    /// 9: the kind is above 11, or a floating-point entry meets another kind than 11.
-    Kind,
-    /// 10: a walk is lent fewer than four words for each row.
-    Rows,
-    /// 11: a return in user mode.
-    User,
-    /// 12: bytes of a frame are not served, or A7 is odd on kind 1, 2 or 10.
-    Frame,
-    /// 13: the kind takes no frame of that format, or format 1 stands under format 1.
-    Format,
-    /// Any other number: 99 where no call has the number that was asked for.
-    Other(u32),
-}
-
-impl Refusal {
-    /// The refusal of a number; 0 is none.
-    pub(crate) fn from_number(number: u32) -> Option<Refusal> {
-        Some(match number {
-            0 => return None,
-            1 => Refusal::Mode,
-            2 => Refusal::VectorBase,
-            3 => Refusal::Cycles,
-            4 => Refusal::FunctionCode,
-            5 => Refusal::Store,
-            6 => Refusal::Windows,
-            7 => Refusal::Log,
-            8 => Refusal::Vector,
-            9 => Refusal::Kind,
-            10 => Refusal::Rows,
-            11 => Refusal::User,
-            12 => Refusal::Frame,
-            13 => Refusal::Format,
-            other => Refusal::Other(other),
-        })
-    }
-
-    /// The number of the refusal.
+    /// The number of the call over the boundary: 1 for [`Call::TakeException`] and so on.
     pub fn number(self) -> u32 {
-        match self {
-            Refusal::Mode => 1,
-            Refusal::VectorBase => 2,
-            Refusal::Cycles => 3,
-            Refusal::FunctionCode => 4,
-            Refusal::Store => 5,
-            Refusal::Windows => 6,
-            Refusal::Log => 7,
-            Refusal::Vector => 8,
-            Refusal::Kind => 9,
-            Refusal::Rows => 10,
-            Refusal::User => 11,
-            Refusal::Frame => 12,
-            Refusal::Format => 13,
-            Refusal::Other(number) => number,
-        }
+        self.encode().0.number
+    }
+
+    /// The call as the boundary takes it, and what it answers.
+    pub(crate) fn to_raw(self) -> (RawCall, Gives) {
+        let (Numbered { number, gives, .. }, [a, b, c, d, e]) = self.encode();
+        (RawCall { number, a, b, c, d, e }, gives)
     }
 }
 
-impl fmt::Display for Refusal {
+/// As the test cases write it: the name of the Rust's function, then each argument after a colon, in hexadecimal.
+///
+/// ```
+/// assert_eq!(m68k_host::Call::Write16(0x40, 0x1234).to_string(), "write_16:40:1234");
+/// ```
+impl fmt::Display for Call {
     fn fmt(&self, f: &mut fmt::Formatter<'_>) -> fmt::Result {
-        let why = match self {
-            Refusal::Mode => "impossible mode",
-            Refusal::VectorBase => "odd vector base",
-            Refusal::Cycles => "too few cycles remaining",
-            Refusal::FunctionCode => "function code above 7",
-            Refusal::Store => "store too long",
-            Refusal::Windows => "too many windows, or one too long",
-            Refusal::Log => "log under 192 words",
-            Refusal::Vector => "vector above 255",
-            Refusal::Kind => "wrong kind",
-            Refusal::Rows => "row buffer too short",
-            Refusal::User => "return in user mode",
-            Refusal::Frame => "frame not served",
-            Refusal::Format => "wrong frame format",
-            Refusal::Other(_) => "not accepted",
-        };
-        write!(f, "refused {}: {why}", self.number())
-    }
-}
-
-impl std::error::Error for Refusal {}
-
-/// What the boundary says of a call beside what it leaves.
-pub(crate) struct Said {
-    pub(crate) refused: u32,
-    pub(crate) answer: u32,
-    pub(crate) events: u32,
-    /// Rows of a return or a walk.
-    pub(crate) rows: u32,
-}
-
-/// Hands a call over the boundary; record and bus are then what came back.
-pub(crate) fn ask(
-    record: &mut Record,
-    bus: &mut Bus,
-    store: &mut [u8],
-    log: &mut [u32],
-    call: Call,
-) -> Said {
-    let core = mirror::Core { cpu: record.to_mirror(), bus: bus.to_mirror() };
-    // Sound: the function is proved for every record, bus, store, log and call, and asks nothing of
-    // its caller but what the types say. The structs have the layout that it was compiled for
-    // (mirror.rs is made from its source and asserts sizes and offsets), their bools are Rust's, and
-    // both slices are borrowed here for longer than the call, which keeps no pointer.
-    let raw = unsafe {
-        mirror::m68k_call(
-            core,
-            store.as_mut_ptr(),
-            store.len(),
-            log.as_mut_ptr(),
-            log.len(),
-            call.to_mirror(),
-        )
-    };
-    debug_assert_eq!(
-        mirror::Bus { events: bus.events, ..raw.core.bus },
-        core.bus,
-        "{call:?} changed the bus"
-    );
-    *record = Record::from_mirror(&raw.core.cpu);
-    bus.events = raw.core.bus.events;
-    Said { refused: raw.refused, answer: raw.answer, events: raw.events, rows: 0 }
-}
-
-/// Performs a call on the record and the bus, over a lent store and a lent log.
-///
-/// After it `bus.events` is the number of events, also given in the answer; nothing else of the
-/// bus changes. A call that is refused leaves record, bus, store and log as they came.
-///
-/// # Examples
-///
-/// TRAP #15 on a 68010:
-///
-/// ```
-/// use m68k_host::{Bus, Call, Record, call};
-///
-/// let mut record = Record::fresh(2);
-/// (record.pc, record.ppc, record.dar[15]) = (0x1000, 0xFFE, 0x8000);
-/// let mut store = vec![0; 65_536];
-/// store[0xBC..0xC0].copy_from_slice(&[0x00, 0x00, 0x20, 0x00]);
-/// let mut log = [0; 192];
-///
-/// let answer = call(&mut record, &mut Bus::default(), &mut store, &mut log, Call::Trap(15))?;
-///
-/// assert_eq!(answer.value, 34);
-/// assert_eq!(record.pc, 0x2000);
-/// assert_eq!(store[0x7FF8..0x8000], [0x27, 0x00, 0x00, 0x00, 0x10, 0x00, 0x00, 0xBC]);
-/// # Ok::<(), m68k_host::Refusal>(())
-/// ```
-pub fn call(
-    record: &mut Record,
-    bus: &mut Bus,
-    store: &mut [u8],
-    log: &mut [u32],
-    call: Call,
-) -> Result<Answer, Refusal> {
-    let said = ask(record, bus, store, log, call);
-    match Refusal::from_number(said.refused) {
-        Some(refusal) => Err(refusal),
-        None => Ok(Answer { value: said.answer, events: said.events }),
-    }
-}
-
-#[cfg(test)]
-mod tests {
-    use super::*;
-    use crate::Window;
-
-    /// A number that is no call's: the record and the bus come back as they went, field by field.
-    #[test]
-    fn a_call_that_is_not_known_changes_nothing() {
-        let mut number = 1u32;
-        let mut next = || {
-            number = number.wrapping_mul(1_664_525).wrapping_add(1_013_904_223);
-            number
-        };
-        for round in 0..1000 {
-            let record = crate::record::tests::any(&mut next);
-            let bus = Bus {
-                base: next(),
-                windows: vec![Window { start: next(), length: next() }; round % 11],
-                responses: std::array::from_fn(|_| next()),
-                events: next(),
-            };
-            let core = mirror::Core { cpu: record.to_mirror(), bus: bus.to_mirror() };
-            let call = mirror::RawCall { number: 1000, a: 1, b: 2, c: 3, d: 4, e: 5 };
-            let (mut store, mut log) = ([1, 2, 3, 4], [5, 6, 7]);
-            // Sound as in `ask`.
-            let raw = unsafe {
-                mirror::m68k_call(core, store.as_mut_ptr(), 4, log.as_mut_ptr(), 3, call)
-            };
-            assert!(raw.refused != 0 && raw.answer == 0 && raw.events == 0);
-            assert_eq!(raw.core, core);
-            assert_eq!(Record::from_mirror(&raw.core.cpu), record);
-            assert_eq!((store, log), ([1, 2, 3, 4], [5, 6, 7]));
-        }
-    }
-
-    /// Where nothing else is wrong the number is 99.
-    #[test]
-    fn an_unknown_number_is_99() {
-        let core =
-            mirror::Core { cpu: Record::fresh(4).to_mirror(), bus: Bus::default().to_mirror() };
-        for number in [0, 99, u32::MAX] {
-            let call = mirror::RawCall { number, a: 0, b: 0, c: 0, d: 0, e: 0 };
-            let (mut store, mut log) = ([0; 64], [0; 192]);
-            // Sound as in `ask`.
-            let raw = unsafe {
-                mirror::m68k_call(core, store.as_mut_ptr(), 64, log.as_mut_ptr(), 192, call)
-            };
-            assert_eq!((raw.refused, raw.answer, raw.events, raw.core), (99, 0, 0, core));
-        }
+        let (Numbered { name, arguments, .. }, values) = self.encode();
+        f.write_str(name)?;
+        values[..arguments].iter().try_for_each(|value| write!(f, ":{value:x}"))
     }
 }

@@ -1,54 +1,10 @@
-//! The record of the processor, and its way over the boundary.
+//! The fields of the record, each said once: a plain struct of them, and accessors of the lent one.
 
-use crate::mirror;
-
-/// Why an access faulted, where that is known.
-#[derive(Debug, Clone, Copy, PartialEq, Eq)]
-#[repr(u8)]
-pub enum Cause {
-    /// Fault at the first level of the tables.
-    PointerA = 1,
-    /// Fault at the second level of the tables.
-    PointerB = 2,
-    /// Fault at an indirect descriptor.
-    Indirect = 3,
-    /// No such page.
-    PageFault = 4,
-    /// A write to a protected page.
-    WriteProtect = 5,
-    /// A user access to a supervisor page.
-    SupervisorProtect = 6,
-    /// A bus error while the tables were read.
-    TableWalkBusError = 7,
-    /// A bus error of the access itself.
-    AccessBusError = 8,
-}
-
-impl Cause {
-    /// The causes by their numbers, 1 to 8; `Some(None)` for 0, no cause; `None` for any other number.
-    pub fn from_number(number: u8) -> Option<Option<Cause>> {
-        Some(match number {
-            0 => None,
-            1 => Some(Cause::PointerA),
-            2 => Some(Cause::PointerB),
-            3 => Some(Cause::Indirect),
-            4 => Some(Cause::PageFault),
-            5 => Some(Cause::WriteProtect),
-            6 => Some(Cause::SupervisorProtect),
-            7 => Some(Cause::TableWalkBusError),
-            8 => Some(Cause::AccessBusError),
-            _ => return None,
-        })
-    }
-
-    /// The number of a cause, 0 for none.
-    pub fn number(cause: Option<Cause>) -> u8 {
-        cause.map_or(0, |c| c as u8)
-    }
-}
+use crate::core::Core;
+use crate::{FaultCause, mirror};
 
 /// What a trigger keeps for the instruction that faulted.
-#[derive(Debug, Clone, Copy, PartialEq, Eq)]
+#[derive(Debug, Clone, Copy, PartialEq, Eq, Hash)]
 pub struct Resume {
     /// The program counter.
     pub pc: u32,
@@ -58,281 +14,230 @@ pub struct Resume {
     pub dar: [u32; 16],
 }
 
-/// The processor as the calls see it, by the field names of the Rust.
-///
-/// Any values may be given. Some are refused, by number: `s_flag` must be 0 or 4, `m_flag` 0 or 2,
-/// `mmu_fc_override` at most 7, `cpu_type` at most 11, `vbr` even on the kinds 1, 2 and 10.
-#[derive(Debug, Clone, PartialEq, Eq)]
-pub struct Record {
-    /// The kind of processor, a number of `CpuType`.
-    pub cpu_type: u8,
-    /// D0 to D7, A0 to A7.
-    pub dar: [u32; 16],
-    /// The registers before the instruction.
-    pub dar_save: [u32; 16],
-    /// The status register before the instruction.
-    pub sr_save: u16,
-    /// The program counter before the instruction.
-    pub ppc: u32,
-    /// The program counter.
-    pub pc: u32,
-    /// Saved stack pointers: 0 user, 4 interrupt, 6 master.
-    pub sp: [u32; 8],
-    /// The vector base.
-    pub vbr: u32,
-    /// The instruction word.
-    pub ir: u32,
-    /// The address of the last floating-point instruction.
-    pub fpiar: u32,
-    /// Trace: 0 or 0x8000.
-    pub t1_flag: u32,
-    /// Trace on change of flow: 0 or 0x4000.
-    pub t0_flag: u32,
-    /// Supervisor: 0 or 4.
-    pub s_flag: u32,
-    /// Master: 0 or 2.
-    pub m_flag: u32,
-    /// Extend: bit 8.
-    pub x_flag: u32,
-    /// Negative: bit 7.
-    pub n_flag: u32,
-    /// Zero where it is 0.
-    pub not_z_flag: u32,
-    /// Overflow: bit 7.
-    pub v_flag: u32,
-    /// Carry: bit 8.
-    pub c_flag: u32,
-    /// The interrupt mask, in bits 8 to 10.
-    pub int_mask: u32,
-    /// The interrupt level that is asked for.
-    pub int_level: u32,
-    /// Not 0 while stopped.
-    pub stopped: u32,
-    /// Whether the instruction changed the flow.
-    pub change_of_flow: bool,
-    /// Whether the 68010's loop mode is on.
-    pub loop_mode: bool,
-    /// The words fetched ahead.
-    pub prefetch_queue: [u16; 2],
-    /// How many of them count.
-    pub prefetch_count: u8,
-    /// Clocks that wait to be reported.
-    pub pending_sync_clocks: u32,
-    /// Whether accesses are made one by one.
-    pub precise_bus: bool,
-    /// 1 after a fault.
-    pub run_mode: u32,
-    /// Whether an entry is under way.
-    pub exception_processing: bool,
-    /// The vector that the instruction took.
-    pub instruction_exception_vector: Option<u32>,
-    /// The vector taken last.
-    pub last_exception_vector: Option<u32>,
-    /// The cause that waits for the next bus error.
-    pub pending_fault_cause: Option<Cause>,
-    /// A function code in place of the processor's.
-    pub mmu_fc_override: Option<u8>,
-    /// The value of the write that faulted.
-    pub pending_fault_wdata: u32,
-    /// What a trigger kept.
-    pub fault_resume: Option<Resume>,
-    /// Cycles left.
-    pub cycles_remaining: i32,
-}
-
-fn vector_in(option: Option<u32>) -> mirror::OptionalVector {
-    mirror::OptionalVector { some: option.is_some(), value: option.unwrap_or(0) }
-}
-
-fn vector_out(raw: mirror::OptionalVector) -> Option<u32> {
-    raw.some.then_some(raw.value)
-}
-
-fn code_in(option: Option<u8>) -> mirror::OptionalCode {
-    mirror::OptionalCode { some: option.is_some(), value: option.unwrap_or(0) }
-}
-
-fn code_out(raw: mirror::OptionalCode) -> Option<u8> {
-    raw.some.then_some(raw.value)
-}
-
-fn resume_in(option: Option<Resume>) -> mirror::Resume {
-    match option {
-        None => mirror::Resume { some: false, pc: 0, sr: 0, dar: [0; 16] },
-        Some(Resume { pc, sr, dar }) => mirror::Resume { some: true, pc, sr, dar },
+/// The ways of a field between the lent record and Rust: `get` and `put`.
+mod plain {
+    pub fn get<T: Copy>(place: &T) -> T {
+        *place
+    }
+    pub fn put<T>(place: &mut T, value: T) {
+        *place = value;
     }
 }
 
-fn resume_out(raw: &mirror::Resume) -> Option<Resume> {
-    raw.some.then_some(Resume { pc: raw.pc, sr: raw.sr, dar: raw.dar })
+/// A byte that is set where it is not 0.
+mod flag {
+    pub fn get(place: &u8) -> bool {
+        *place != 0
+    }
+    pub fn put(place: &mut u8, value: bool) {
+        *place = value.into();
+    }
+}
+
+/// An option; none is a flag of 0 and a value of 0.
+mod vector {
+    use crate::mirror::LentVector;
+    pub fn get(place: &LentVector) -> Option<u32> {
+        (place.some != 0).then_some(place.value)
+    }
+    pub fn put(place: &mut LentVector, value: Option<u32>) {
+        *place = LentVector { some: value.is_some().into(), value: value.unwrap_or(0) };
+    }
+}
+
+mod code {
+    use crate::mirror::LentCode;
+    pub fn get(place: &LentCode) -> Option<u8> {
+        (place.some != 0).then_some(place.value)
+    }
+    pub fn put(place: &mut LentCode, value: Option<u8>) {
+        *place = LentCode { some: value.is_some().into(), value: value.unwrap_or(0) };
+    }
+}
+
+/// A number that is read as none where it is 0 or above 8.
+mod cause {
+    use crate::FaultCause;
+    pub fn get(place: &u8) -> Option<FaultCause> {
+        FaultCause::read(*place)
+    }
+    pub fn put(place: &mut u8, value: Option<FaultCause>) {
+        *place = FaultCause::number(value);
+    }
+}
+
+mod resume {
+    use super::Resume;
+    use crate::mirror::LentResume;
+    pub fn get(place: &LentResume) -> Option<Resume> {
+        let LentResume { some, pc, sr, dar } = *place;
+        (some != 0).then_some(Resume { pc, sr, dar })
+    }
+    pub fn put(place: &mut LentResume, value: Option<Resume>) {
+        let Resume { pc, sr, dar } = value.unwrap_or(Resume { pc: 0, sr: 0, dar: [0; 16] });
+        *place = LentResume { some: value.is_some().into(), pc, sr, dar };
+    }
+}
+
+macro_rules! fields {
+    (
+        arrays {
+            $($(#[doc = $array_doc:literal])*
+            $array:ident, $array_mut:ident: $array_type:ty = $group:ident;)*
+        }
+        values {
+            $($(#[doc = $doc:literal])*
+            $name:ident, $set:ident: $type:ty = $way:ident $($place:ident).+;)*
+        }
+    ) => {
+        /// The processor as the calls see it, a plain struct with the field names of the Rust.
+        ///
+        /// Any values may be given. Some are refused, by number: `s_flag` must be 0 or 4, `m_flag` 0 or 2,
+        /// `mmu_fc_override` at most 7, `cpu_type` at most 11, `vbr` even on the kinds 1, 2 and 10.
+        /// [`Core::set_record`] and [`Core::record`] convert it; a call over a [`Core`] converts nothing.
+        #[derive(Debug, Clone, PartialEq, Eq)]
+        pub struct Record {
+            $($(#[doc = $array_doc])* pub $array: $array_type,)*
+            $($(#[doc = $doc])* pub $name: $type,)*
+        }
+
+        impl From<&mirror::LentCpu> for Record {
+            fn from(cpu: &mirror::LentCpu) -> Record {
+                Record {
+                    $($array: cpu.$group.$array,)*
+                    $($name: $way::get(&cpu.$($place).+),)*
+                }
+            }
+        }
+
+        impl Record {
+            /// Lays the fields into a lent record; none is a flag of 0 and values of 0.
+            pub(crate) fn put(&self, cpu: &mut mirror::LentCpu) {
+                $(cpu.$group.$array = self.$array;)*
+                $($way::put(&mut cpu.$($place).+, self.$name);)*
+            }
+        }
+
+        /// The fields of the record, by the names of the Rust.
+        impl Core {
+            $(
+                $(#[doc = $array_doc])*
+                pub fn $array(&self) -> &$array_type {
+                    &self.lent().cpu.$group.$array
+                }
+                #[doc = concat!("[`Core::", stringify!($array), "`], to be changed.")]
+                pub fn $array_mut(&mut self) -> &mut $array_type {
+                    &mut self.lent_mut().cpu.$group.$array
+                }
+            )*
+            $(
+                $(#[doc = $doc])*
+                pub fn $name(&self) -> $type {
+                    $way::get(&self.lent().cpu.$($place).+)
+                }
+                #[doc = concat!("Sets [`Core::", stringify!($name), "`].")]
+                pub fn $set(&mut self, value: $type) {
+                    $way::put(&mut self.lent_mut().cpu.$($place).+, value);
+                }
+            )*
+        }
+    };
+}
+
+fields! {
+    arrays {
+        /// D0 to D7, A0 to A7.
+        dar, dar_mut: [u32; 16] = regs;
+        /// The registers before the instruction.
+        dar_save, dar_save_mut: [u32; 16] = regs;
+        /// Saved stack pointers: 0 user, 4 interrupt, 6 master.
+        sp, sp_mut: [u32; 8] = regs;
+    }
+    values {
+        /// The kind of processor, a number of `CpuType`.
+        cpu_type, set_cpu_type: u8 = plain flow.cpu_type;
+        /// The status register before the instruction.
+        sr_save, set_sr_save: u16 = plain flags.sr_save;
+        /// The program counter before the instruction.
+        ppc, set_ppc: u32 = plain flow.ppc;
+        /// The program counter.
+        pc, set_pc: u32 = plain flow.pc;
+        /// The vector base.
+        vbr, set_vbr: u32 = plain flow.vbr;
+        /// The instruction word.
+        ir, set_ir: u32 = plain flow.ir;
+        /// The address of the last floating-point instruction.
+        fpiar, set_fpiar: u32 = plain flow.fpiar;
+        /// Trace: 0 or 0x8000.
+        t1_flag, set_t1_flag: u32 = plain flags.t1_flag;
+        /// Trace on change of flow: 0 or 0x4000.
+        t0_flag, set_t0_flag: u32 = plain flags.t0_flag;
+        /// Supervisor: 0 or 4.
+        s_flag, set_s_flag: u32 = plain flags.s_flag;
+        /// Master: 0 or 2.
+        m_flag, set_m_flag: u32 = plain flags.m_flag;
+        /// Extend: bit 8.
+        x_flag, set_x_flag: u32 = plain flags.x_flag;
+        /// Negative: bit 7.
+        n_flag, set_n_flag: u32 = plain flags.n_flag;
+        /// Zero where it is 0.
+        not_z_flag, set_not_z_flag: u32 = plain flags.not_z_flag;
+        /// Overflow: bit 7.
+        v_flag, set_v_flag: u32 = plain flags.v_flag;
+        /// Carry: bit 8.
+        c_flag, set_c_flag: u32 = plain flags.c_flag;
+        /// The interrupt mask, in bits 8 to 10.
+        int_mask, set_int_mask: u32 = plain flags.int_mask;
+        /// The interrupt level that is asked for.
+        int_level, set_int_level: u32 = plain flags.int_level;
+        /// Not 0 while stopped.
+        stopped, set_stopped: u32 = plain flow.stopped;
+        /// Whether the instruction changed the flow.
+        change_of_flow, set_change_of_flow: bool = flag flow.change_of_flow;
+        /// Whether the 68010's loop mode is on.
+        loop_mode, set_loop_mode: bool = flag flow.loop_mode;
+        /// The words fetched ahead.
+        prefetch_queue, set_prefetch_queue: [u16; 2] = plain queue.prefetch_queue;
+        /// How many of them count.
+        prefetch_count, set_prefetch_count: u8 = plain queue.prefetch_count;
+        /// Clocks that wait to be reported.
+        pending_sync_clocks, set_pending_sync_clocks: u32 = plain queue.pending_sync_clocks;
+        /// Whether accesses are made one by one.
+        precise_bus, set_precise_bus: bool = flag queue.precise_bus;
+        /// 1 after a fault.
+        run_mode, set_run_mode: u32 = plain flow.run_mode;
+        /// Whether an entry is under way.
+        exception_processing, set_exception_processing: bool = flag flow.exception_processing;
+        /// The vector that the instruction took.
+        instruction_exception_vector, set_instruction_exception_vector: Option<u32> =
+            vector fault.instruction_exception_vector;
+        /// The vector taken last.
+        last_exception_vector, set_last_exception_vector: Option<u32> =
+            vector fault.last_exception_vector;
+        /// The cause that waits for the next bus error.
+        pending_fault_cause, set_pending_fault_cause: Option<FaultCause> =
+            cause fault.pending_fault_cause;
+        /// A function code in place of the processor's.
+        mmu_fc_override, set_mmu_fc_override: Option<u8> = code fault.mmu_fc_override;
+        /// The value of the write that faulted.
+        pending_fault_wdata, set_pending_fault_wdata: u32 = plain fault.pending_fault_wdata;
+        /// What a trigger kept.
+        fault_resume, set_fault_resume: Option<Resume> = resume fault_resume;
+        /// Cycles left.
+        cycles_remaining, set_cycles_remaining: i32 = plain flow.cycles_remaining;
+    }
 }
 
 impl Record {
-    /// The record as the boundary takes it; where there is nothing the value is 0.
-    pub(crate) fn to_mirror(&self) -> mirror::Cpu {
-        mirror::Cpu {
-            regs: mirror::Regs { dar: self.dar, dar_save: self.dar_save, sp: self.sp },
-            flow: mirror::Flow {
-                ppc: self.ppc,
-                pc: self.pc,
-                vbr: self.vbr,
-                ir: self.ir,
-                fpiar: self.fpiar,
-                cpu_type: self.cpu_type,
-                run_mode: self.run_mode,
-                stopped: self.stopped,
-                exception_processing: self.exception_processing,
-                change_of_flow: self.change_of_flow,
-                loop_mode: self.loop_mode,
-                cycles_remaining: self.cycles_remaining,
-            },
-            flags: mirror::Flags {
-                t1_flag: self.t1_flag,
-                t0_flag: self.t0_flag,
-                s_flag: self.s_flag,
-                m_flag: self.m_flag,
-                x_flag: self.x_flag,
-                n_flag: self.n_flag,
-                not_z_flag: self.not_z_flag,
-                v_flag: self.v_flag,
-                c_flag: self.c_flag,
-                int_mask: self.int_mask,
-                int_level: self.int_level,
-                sr_save: self.sr_save,
-            },
-            queue: mirror::Queue {
-                prefetch_queue: self.prefetch_queue,
-                prefetch_count: self.prefetch_count,
-                pending_sync_clocks: self.pending_sync_clocks,
-                precise_bus: self.precise_bus,
-            },
-            fault: mirror::Fault {
-                instruction_exception_vector: vector_in(self.instruction_exception_vector),
-                last_exception_vector: vector_in(self.last_exception_vector),
-                pending_fault_cause: Cause::number(self.pending_fault_cause),
-                mmu_fc_override: code_in(self.mmu_fc_override),
-                pending_fault_wdata: self.pending_fault_wdata,
-            },
-            fault_resume: resume_in(self.fault_resume),
-        }
-    }
-
-    /// The record that the boundary hands back.
-    pub(crate) fn from_mirror(raw: &mirror::Cpu) -> Record {
-        let mirror::Cpu { regs, flow, flags, queue, fault, fault_resume } = raw;
-        Record {
-            cpu_type: flow.cpu_type,
-            dar: regs.dar,
-            dar_save: regs.dar_save,
-            sr_save: flags.sr_save,
-            ppc: flow.ppc,
-            pc: flow.pc,
-            sp: regs.sp,
-            vbr: flow.vbr,
-            ir: flow.ir,
-            fpiar: flow.fpiar,
-            t1_flag: flags.t1_flag,
-            t0_flag: flags.t0_flag,
-            s_flag: flags.s_flag,
-            m_flag: flags.m_flag,
-            x_flag: flags.x_flag,
-            n_flag: flags.n_flag,
-            not_z_flag: flags.not_z_flag,
-            v_flag: flags.v_flag,
-            c_flag: flags.c_flag,
-            int_mask: flags.int_mask,
-            int_level: flags.int_level,
-            stopped: flow.stopped,
-            change_of_flow: flow.change_of_flow,
-            loop_mode: flow.loop_mode,
-            prefetch_queue: queue.prefetch_queue,
-            prefetch_count: queue.prefetch_count,
-            pending_sync_clocks: queue.pending_sync_clocks,
-            precise_bus: queue.precise_bus,
-            run_mode: flow.run_mode,
-            exception_processing: flow.exception_processing,
-            instruction_exception_vector: vector_out(fault.instruction_exception_vector),
-            last_exception_vector: vector_out(fault.last_exception_vector),
-            pending_fault_cause: Cause::from_number(fault.pending_fault_cause)
-                .expect("only causes go in, and the code makes no other"),
-            mmu_fc_override: code_out(fault.mmu_fc_override),
-            pending_fault_wdata: fault.pending_fault_wdata,
-            fault_resume: resume_out(fault_resume),
-            cycles_remaining: flow.cycles_remaining,
-        }
-    }
-}
-
-#[cfg(test)]
-pub(crate) mod tests {
-    use super::*;
-
-    /// A record with every field filled, so that two places that are mixed up are noticed.
-    pub(crate) fn any(next: &mut impl FnMut() -> u32) -> Record {
-        fn row<const N: usize>(next: &mut impl FnMut() -> u32) -> [u32; N] {
-            std::array::from_fn(|_| next())
-        }
-        fn flag(next: &mut impl FnMut() -> u32) -> bool {
-            next() >> 31 != 0
-        }
-        fn option(next: &mut impl FnMut() -> u32) -> Option<u32> {
-            if flag(next) { Some(next()) } else { None }
-        }
-        Record {
-            cpu_type: next() as u8,
-            dar: row(next),
-            dar_save: row(next),
-            sr_save: next() as u16,
-            ppc: next(),
-            pc: next(),
-            sp: row(next),
-            vbr: next(),
-            ir: next(),
-            fpiar: next(),
-            t1_flag: next(),
-            t0_flag: next(),
-            s_flag: next(),
-            m_flag: next(),
-            x_flag: next(),
-            n_flag: next(),
-            not_z_flag: next(),
-            v_flag: next(),
-            c_flag: next(),
-            int_mask: next(),
-            int_level: next(),
-            stopped: next(),
-            change_of_flow: flag(next),
-            loop_mode: flag(next),
-            prefetch_queue: [next() as u16, (next() >> 16) as u16],
-            prefetch_count: (next() >> 8) as u8,
-            pending_sync_clocks: next(),
-            precise_bus: flag(next),
-            run_mode: next(),
-            exception_processing: flag(next),
-            instruction_exception_vector: option(next),
-            last_exception_vector: option(next),
-            pending_fault_cause: Cause::from_number((next() >> 16) as u8 % 9).unwrap(),
-            mmu_fc_override: option(next).map(|code| code as u8),
-            pending_fault_wdata: next(),
-            fault_resume: if flag(next) {
-                Some(Resume { pc: next(), sr: next() as u16, dar: row(next) })
-            } else {
-                None
-            },
-            cycles_remaining: next() as i32,
-        }
-    }
-
-    #[test]
-    fn a_record_survives_the_mirror() {
-        let mut number = 7u32;
-        let mut next = || {
-            number = number.wrapping_mul(1_664_525).wrapping_add(1_013_904_223);
-            number
-        };
-        for _ in 0..1000 {
-            let record = any(&mut next);
-            assert_eq!(Record::from_mirror(&record.to_mirror()), record);
-        }
+    /// The record of a processor of that kind after the Rust's `new` and `set_cpu_type`.
+    ///
+    /// ```
+    /// use m68k_host::{Kind, Record};
+    ///
+    /// let record = Record::fresh(Kind::M68010);
+    /// assert_eq!((record.cpu_type, record.s_flag, record.int_mask), (2, 4, 0x700));
+    /// ```
+    pub fn fresh(kind: impl Into<u8>) -> Record {
+        Core::fresh(kind).record()
     }
 }

@@ -1,17 +1,19 @@
 //! Return and walk as a user meets them: every refusal with nothing changed, rows that are kept, words
 //! behind them that stay.
 
-use m68k_host::{Bus, Call, Record, Refusal, Row, Walked, Window, call, return_from, walk};
+use m68k_host::{Call, Core, Kind, Refusal, Row, Walked, Window};
 
 /// What the words of a buffer are before a walk.
 const UNWRITTEN: u32 = 0xEEEE_EEEE;
 
-/// A record of a kind with A7 at 0x100, in supervisor mode.
-fn record(kind: u8) -> Record {
-    let mut record = Record::fresh(kind);
-    record.dar[15] = 0x100;
-    (record.prefetch_count, record.pc, record.cycles_remaining) = (2, 0x4000, 77);
-    record
+/// A core of a kind with A7 at 0x100, in supervisor mode.
+fn core(kind: impl Into<u8>) -> Core {
+    let mut core = Core::fresh(kind);
+    core.dar_mut()[15] = 0x100;
+    core.set_prefetch_count(2);
+    core.set_pc(0x4000);
+    core.set_cycles_remaining(77);
+    core
 }
 
 /// A store with bytes at 0x100.
@@ -27,45 +29,44 @@ fn frame(status: u16, address: u32, word: u16) -> Vec<u8> {
 }
 
 /// Something that a number refuses, put into a return that is accepted.
-type Spoil = fn(&mut Record, &mut Bus, &mut Vec<u8>);
+type Spoil = fn(&mut Core, &mut Vec<u8>);
 
 const SPOILS: [(Refusal, Spoil); 16] = [
-    (Refusal::Mode, |r, _, _| r.s_flag = 1),
-    (Refusal::Mode, |r, _, _| r.m_flag = 4),
-    (Refusal::VectorBase, |r, _, _| r.vbr = 1),
-    (Refusal::FunctionCode, |r, _, _| r.mmu_fc_override = Some(8)),
-    (Refusal::Store, |_, _, store| store.resize(65_537, 0)),
-    (Refusal::Store, |_, bus, _| bus.base = 0xFFFF_FF00),
-    (Refusal::Windows, |_, bus, _| bus.windows = vec![Window { start: 0, length: 0 }; 9]),
-    (Refusal::Windows, |_, bus, _| {
-        bus.windows = vec![Window { start: 0xFFFF_FFFF, length: 2 }];
-    }),
-    (Refusal::Kind, |r, _, _| r.cpu_type = 12),
-    (Refusal::User, |r, _, _| r.s_flag = 0),
-    (Refusal::Frame, |r, _, _| r.dar[15] = 0x101),
-    (Refusal::Frame, |r, _, _| r.dar[15] = 0x1000),
-    (Refusal::Frame, |_, _, store| store.truncate(0x107)),
-    (Refusal::Frame, |_, bus, _| bus.windows = vec![Window { start: 0x107, length: 1 }]),
-    (Refusal::Format, |_, _, store| store[0x106] = 0x10),
-    (Refusal::Format, |_, _, store| store[0x106] = 0xF0),
+    (Refusal::Mode, |core, _| core.set_s_flag(1)),
+    (Refusal::Mode, |core, _| core.set_m_flag(4)),
+    (Refusal::VectorBase, |core, _| core.set_vbr(1)),
+    (Refusal::FunctionCode, |core, _| core.set_mmu_fc_override(Some(8))),
+    (Refusal::Store, |_, store| store.resize(65_537, 0)),
+    (Refusal::Store, |core, _| core.set_base(0xFFFF_FF00)),
+    (Refusal::Windows, |core, _| core.set_windows(&[Window { start: 0, length: 0 }; 9])),
+    (Refusal::Windows, |core, _| core.set_windows(&[Window { start: 0xFFFF_FFFF, length: 2 }])),
+    (Refusal::Kind, |core, _| core.set_cpu_type(12)),
+    (Refusal::User, |core, _| core.set_s_flag(0)),
+    (Refusal::Frame, |core, _| core.dar_mut()[15] = 0x101),
+    (Refusal::Frame, |core, _| core.dar_mut()[15] = 0x1000),
+    (Refusal::Frame, |_, store| store.truncate(0x107)),
+    (Refusal::Frame, |core, _| core.set_windows(&[Window { start: 0x107, length: 1 }])),
+    (Refusal::Format, |_, store| store[0x106] = 0x10),
+    (Refusal::Format, |_, store| store[0x106] = 0xF0),
 ];
 
 /// What a return and a walk of one answer after some changes. If they are refused, nothing may change.
 fn refusal(spoils: &[Spoil]) -> Option<Refusal> {
-    let (mut record, mut bus) = (record(2), Bus { events: 5, ..Bus::default() });
-    let mut store = store(&frame(0x2700, 0x1000, 0xBC));
+    let (mut core, mut store) = (core(Kind::M68010), store(&frame(0x2700, 0x1000, 0xBC)));
+    core.set_events(5);
     for spoil in spoils {
-        spoil(&mut record, &mut bus, &mut store);
+        spoil(&mut core, &mut store);
     }
-    let (before, mut rows) = (record.clone(), [UNWRITTEN; 8]);
-    let walked = walk(&record, &bus, &store, 1, &mut rows);
-    let done = return_from(&mut record, &bus, &store);
+    let (before, mut rows) = (core.clone(), [UNWRITTEN; 8]);
+    let walked = core.walk(1, &store, &mut rows);
+    assert!(core == before);
+    let done = core.return_from(&store);
     assert_eq!(walked, Walked { count: done.is_ok().into(), refused: done.err() });
     match done {
         Ok(row) => assert_eq!(rows[..4], <[u32; 4]>::from(row)),
-        Err(_) => assert!(record == before && rows == [UNWRITTEN; 8]),
+        Err(_) => assert!(core == before && rows == [UNWRITTEN; 8]),
     }
-    assert_eq!(rows[4..], [UNWRITTEN; 4]);
+    assert_eq!((core.events(), &rows[4..]), (5, &[UNWRITTEN; 4][..]));
     done.err()
 }
 
@@ -100,7 +101,7 @@ fn the_lowest_number_is_answered() {
 #[test]
 fn a_row_buffer_that_is_too_short_is_refused() {
     let bytes = [frame(0x2700, 0x1000, 0xBC), frame(0x2000, 0x2000, 0x80)].concat();
-    let (bus, store) = (Bus::default(), store(&bytes));
+    let store = store(&bytes);
     for (n, words, count, refused) in [
         (0, 0, 0, None),
         (1, 3, 0, Some(Refusal::Rows)),
@@ -112,20 +113,20 @@ fn a_row_buffer_that_is_too_short_is_refused() {
         (u32::MAX, 9, 0, Some(Refusal::Rows)),
     ] {
         let mut rows = vec![UNWRITTEN; words];
-        let walked = walk(&record(2), &bus, &store, n, &mut rows);
+        let walked = core(2).walk(n, &store, &mut rows);
         assert_eq!(walked, Walked { count, refused }, "{n} rows in {words} words");
         assert!(rows[count as usize * 4..].iter().all(|&w| w == UNWRITTEN));
     }
-    let mut spoiled = record(2);
-    (spoiled.s_flag, spoiled.dar[15]) = (0, 1);
-    let walked = walk(&spoiled, &bus, &store, 1, &mut []);
-    assert_eq!(walked, Walked { count: 0, refused: Some(Refusal::Rows) });
-    spoiled.cpu_type = 12;
-    let walked = walk(&spoiled, &bus, &store, 1, &mut []);
-    assert_eq!(walked, Walked { count: 0, refused: Some(Refusal::Kind) });
+    let mut spoiled = core(2);
+    spoiled.set_s_flag(0);
+    spoiled.dar_mut()[15] = 1;
+    let none = |refused| Walked { count: 0, refused };
+    assert_eq!(spoiled.walk(1, &store, &mut []), none(Some(Refusal::Rows)));
+    spoiled.set_cpu_type(12);
+    assert_eq!(spoiled.walk(1, &store, &mut []), none(Some(Refusal::Kind)));
     // A walk of none looks at no frame.
-    spoiled.cpu_type = 2;
-    assert_eq!(walk(&spoiled, &bus, &store, 0, &mut []), Walked { count: 0, refused: None });
+    spoiled.set_cpu_type(2);
+    assert_eq!(spoiled.walk(0, &store, &mut []), none(None));
 }
 
 /// Two rows, and then a number: the rows are kept, the words behind them stay, the record is not moved.
@@ -137,19 +138,17 @@ fn rows_before_a_refusal_are_kept() {
         ([two(0x2000), frame(0x2000, 0x3000, 0x8008)].concat(), 0x2000, Refusal::Frame),
         ([two(0x2000), frame(0x2000, 0x3000, 0x1000)].concat(), 0x2000, Refusal::Format),
     ] {
-        let (record, mut store) = (record(2), store(&bytes));
+        let (core, mut store) = (core(2), store(&bytes));
         // The third frame has its first eight bytes.
         store.truncate(0x118);
-        let (before, mut rows) = (record.clone(), [UNWRITTEN; 20]);
-        let walked = walk(&record, &Bus::default(), &store, 5, &mut rows);
+        let (before, mut rows) = (core.clone(), [UNWRITTEN; 20]);
+        let walked = core.walk(5, &store, &mut rows);
         assert_eq!(walked, Walked { count: 2, refused: Some(number) });
-        let kept: [Row; 2] =
-            std::array::from_fn(|k| Row::from([0, 1, 2, 3].map(|i| rows[k * 4 + i])));
-        let [first, second] = kept;
-        assert_eq!(first, Row { format: 0, status: 0x2700, address: 0x1000, offset: 0xBC });
-        assert_eq!(second, Row { format: 0, status: last, address: 0x2000, offset: 0x80 });
+        let first = Row { format: 0, status: 0x2700, address: 0x1000, offset: 0xBC };
+        let second = Row { format: 0, status: last, address: 0x2000, offset: 0x80 };
+        assert_eq!(walked.rows(&rows).collect::<Vec<_>>(), [first, second]);
         assert_eq!(rows[8..], [UNWRITTEN; 12]);
-        assert_eq!(record, before);
+        assert_eq!(core, before);
     }
 }
 
@@ -159,21 +158,19 @@ fn rows_before_a_refusal_are_kept() {
 fn a_return_undoes_an_entry() {
     for kind in 0..12 {
         for status in [0x2000, 0x2715, 0x0004] {
-            let mut before = record(kind);
-            (before.s_flag, before.int_mask) = (status >> 11 & 4, status & 0x700);
-            before.not_z_flag = u32::from(status & 4 == 0);
-            (before.x_flag, before.c_flag) = ((status & 0x10) << 4, (status & 1) << 8);
-            (before.sp[4], before.precise_bus) = (0x200, false);
-            let (mut now, mut bus, mut log) = (before.clone(), Bus::default(), [0; 192]);
-            let mut store = store(&[]);
-            call(&mut now, &mut bus, &mut store, &mut log, Call::Trap(15)).unwrap();
-            let (events, stacked) = (bus.events, store.clone());
-            let row = return_from(&mut now, &bus, &store).unwrap();
-            assert_eq!((row.status, row.address), (status, before.pc), "kind {kind}");
-            assert_eq!((now.pc, now.dar[15]), (before.pc, before.dar[15]), "kind {kind}");
-            assert_eq!((now.s_flag, now.m_flag), (before.s_flag, before.m_flag), "kind {kind}");
-            assert_eq!((now.int_mask, now.prefetch_count), (before.int_mask, 0), "kind {kind}");
-            assert_eq!((bus.events, store), (events, stacked), "kind {kind}");
+            let mut before = core(kind);
+            before.sp_mut()[0] = 0x100;
+            before.set_sr(status);
+            (before.sp_mut()[4], before.dar_mut()[15]) = (0x200, 0x100);
+            before.set_precise_bus(false);
+            let (mut now, mut store, mut log) = (before.clone(), store(&[]), [0; 192]);
+            now.call(Call::Trap(15), &mut store, &mut log).unwrap();
+            let (events, stacked) = (now.events(), store.clone());
+            let row = now.return_from(&store).unwrap();
+            assert_eq!((row.status, row.address), (status.into(), before.pc()), "kind {kind}");
+            assert_eq!((now.pc(), now.dar()), (before.pc(), before.dar()), "kind {kind}");
+            assert_eq!((now.get_sr(), now.prefetch_count()), (status, 0), "kind {kind}");
+            assert_eq!((now.events(), store), (events, stacked), "kind {kind}");
         }
     }
 }
@@ -181,27 +178,28 @@ fn a_return_undoes_an_entry() {
 /// Format 1 switches to the stack that its status selects, where the second frame lies.
 #[test]
 fn a_second_frame_is_taken_from_the_stack_that_the_first_selects() {
-    let mut record = record(4);
-    record.sp[6] = 0x200;
+    let mut core = core(4);
+    core.sp_mut()[6] = 0x200;
     let mut store = store(&frame(0x3700, 0x1000, 0x107C));
     store[0x200..0x208].copy_from_slice(&frame(0x3015, 0x2000, 0x007C));
-    let row = return_from(&mut record, &Bus::default(), &store);
+    let row = core.return_from(&store);
     assert_eq!(row, Ok(Row { format: 1, status: 0x3015, address: 0x2000, offset: 0x7C }));
-    assert_eq!((record.pc, record.dar[15], record.sp[4], record.m_flag), (0x2000, 0x208, 0x108, 2));
+    assert_eq!((core.pc(), core.m_flag()), (0x2000, 2));
+    assert_eq!((core.dar()[15], core.sp()[4]), (0x208, 0x108));
     // A second frame of format 1 is none, and the first is not taken either.
     store[0x206] = 0x10;
-    let mut other = record.clone();
-    (other.dar[15], other.m_flag, other.sp[6]) = (0x100, 0, 0x200);
+    let mut other = core.clone();
+    (other.dar_mut()[15], other.sp_mut()[6]) = (0x100, 0x200);
+    other.set_m_flag(0);
     let before = other.clone();
-    assert_eq!(return_from(&mut other, &Bus::default(), &store), Err(Refusal::Format));
+    assert_eq!(other.return_from(&store), Err(Refusal::Format));
     assert_eq!(other, before);
 }
 
 #[test]
 fn the_first_kind_takes_six_bytes() {
-    let mut record = record(1);
-    let store = store(&frame(0x2015, 0x1234_5678, 0xFFFF));
-    let row = return_from(&mut record, &Bus::default(), &store[..0x106]);
+    let (mut core, store) = (core(Kind::M68000), store(&frame(0x2015, 0x1234_5678, 0xFFFF)));
+    let row = core.return_from(&store[..0x106]);
     assert_eq!(row, Ok(Row { format: 0, status: 0x2015, address: 0x1234_5678, offset: 0 }));
-    assert_eq!((record.pc, record.dar[15]), (0x1234_5678, 0x106));
+    assert_eq!((core.pc(), core.dar()[15]), (0x1234_5678, 0x106));
 }

@@ -15,6 +15,6 @@ use Rattle.boundary.specs.declared.RawCall.{RawCall}
 use Rattle.memory.specs.World.{world}
 use Rattle.memory.specs.declared.Core.{Core}
 
-pub m68k-call-way : (m : Core) (s l : List ℕ) (call : RawCall) (r : Decoded) (s1 l1 : List ℕ) (r1 : RawAnswer) → r ≡ decode call → outcome (world (r1 .core) s1 l1) (r1 .refused) (r1 .answer) (r1 .events) ≡ rawOf (world m s l) r → outcome (world (r1 .core) s1 l1) (r1 .refused) (r1 .answer) (r1 .events) ≡ rawCall (world m s l) call
+pub raw-call-way : (m : Core) (s l : List ℕ) (call : RawCall) (r : Decoded) (s1 l1 : List ℕ) (r1 : RawAnswer) → r ≡ decode call → outcome (world (r1 .core) s1 l1) (r1 .refused) (r1 .answer) (r1 .events) ≡ rawOf (world m s l) r → outcome (world (r1 .core) s1 l1) (r1 .refused) (r1 .answer) (r1 .events) ≡ rawCall (world m s l) call
 unfolding rawCall
-m68k-call-way m s l call r s1 l1 r1 h0 h1 = cc
+raw-call-way m s l call r s1 l1 r1 h0 h1 = cc

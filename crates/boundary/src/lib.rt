@@ -1,14 +1,9 @@
-// The C boundary: a call by number on a record and a bus by value and lent slices, return and walk, and the leaf functions of the
-// record, exported for programs in other languages. The numbers are those of the case format. It uses `calls`, `unwind` and,
-// for the leaf functions, `status`, `cpu` and `pending`; what it exports is proved equal to their definitions. Programs in other languages
-// and `replay` use it.
+// The calls by number: a call given as numbers, on a record and a bus by value and lent slices, and its answer as numbers. The numbers are
+// those of the case format. It uses `calls`; `lent`, which exports the calls for programs in other languages, and `replay` use it.
 use answers::Answer;
 use answers::Call;
 use answers::Performed;
-use cpu::Cpu;
 use memory::Core;
-use unwind::Returned;
-use unwind::returns::Walked;
 ghost use mathlib.Core.Path.{_≡_};
 ghost use mathlib.Core.Bool.{true, false};
 ghost use lib.Dec.{eqb};
@@ -17,14 +12,6 @@ ghost use Rattle.memory.specs.World.{world};
 ghost use Rattle.types.specs.Causes.{causeOf};
 ghost use Rattle.answers.specs.Answers.{bit, refusedBy, valueOf, countOf};
 ghost use Rattle.boundary.specs.Calls.{outcome, flag, decode, rawOf, rawCall};
-ghost use Rattle.unwind.specs.Returns.{walk};
-ghost use Rattle.unwind.specs.Unwind.{returnFrom, walkFrom};
-ghost use Rattle.status.specs.Status.{getSr, setSrNointNosp, putBackSr, setCcr};
-ghost use Rattle.status.specs.Banks.{spIndex, backupSp, restoreSp, setSFlag, setSmFlag, setSmFlagNosp};
-ghost use Rattle.cpu.specs.Clocks.{internalCycles, prefetchEnabled};
-ghost use Rattle.cpu.specs.Fields.{addressOf};
-ghost use Rattle.pending.specs.Trace.{traceT0SrWrite, traceT068040Sync};
-ghost use Rattle.cpu.specs.Fresh.{freshCpu};
 
 #[repr(C)]
 pub struct RawCall {
@@ -229,138 +216,9 @@ fn call_decoded(m: Core, store: &mut [u8], log: &mut [u32], call: Decoded) -> Ra
 }
 
 // A call by number.
-#[no_mangle]
-pub extern "C" fn m68k_call(m: Core, store: &mut [u8], log: &mut [u32], call: RawCall) -> RawAnswer
+pub fn raw_call(m: Core, store: &mut [u8], log: &mut [u32], call: RawCall) -> RawAnswer
     ensures { λ r. ⌜ outcome (world (r .core) (now (store .exit)) (now (log .exit))) (r .refused) (r .answer) (r .events) ≡ rawCall (world m (now (store .entry)) (now (log .entry))) call ⌝ }
 {
     let d = decode(call);
     call_decoded(m, store, log, d)
-}
-
-// The return.
-#[no_mangle]
-pub extern "C" fn m68k_return(m: Core, store: &[u8]) -> Returned
-    ensures { λ r. ⌜ r ≡ returnFrom m (now (store .entry)) ⌝ }
-{
-    unwind::return_from(m, store)
-}
-
-// The walk of n into the lent rows.
-#[no_mangle]
-pub extern "C" fn m68k_walk(m: Core, store: &[u8], n: u32, rows: &mut [u32]) -> Walked
-    ensures { λ r. ⌜ walk (r .refused) (r .count) (now (rows .exit)) ≡ walkFrom m (now (store .entry)) n (now (rows .entry)) ⌝ }
-{
-    unwind::walk(m, store, n, rows)
-}
-
-#[no_mangle]
-pub extern "C" fn m68k_get_sr(c: Cpu) -> u32
-    ensures { λ r. ⌜ r ≡ getSr c ⌝ }
-{
-    status::get_sr(c) as u32
-}
-
-#[no_mangle]
-pub extern "C" fn m68k_set_sr_noint_nosp(c: Cpu, sr: u16) -> Cpu
-    ensures { λ r. ⌜ r ≡ setSrNointNosp c sr ⌝ }
-{
-    status::set_sr_noint_nosp(c, sr)
-}
-
-#[no_mangle]
-pub extern "C" fn m68k_put_back_sr(c: Cpu, sr: u16) -> Cpu
-    ensures { λ r. ⌜ r ≡ putBackSr c sr ⌝ }
-{
-    status::put_back_sr(c, sr)
-}
-
-#[no_mangle]
-pub extern "C" fn m68k_set_ccr_internal(c: Cpu, ccr: u8) -> Cpu
-    ensures { λ r. ⌜ r ≡ setCcr c ccr ⌝ }
-{
-    status::set_ccr_internal(c, ccr)
-}
-
-#[no_mangle]
-pub extern "C" fn m68k_sp_index(c: Cpu) -> usize
-    ensures { λ r. ⌜ r ≡ spIndex c ⌝ }
-{
-    status::banks::sp_index(c)
-}
-
-#[no_mangle]
-pub extern "C" fn m68k_backup_sp(c: Cpu) -> Cpu
-    ensures { λ r. ⌜ r ≡ backupSp c ⌝ }
-{
-    status::banks::backup_sp(c)
-}
-
-#[no_mangle]
-pub extern "C" fn m68k_restore_sp(c: Cpu) -> Cpu
-    ensures { λ r. ⌜ r ≡ restoreSp c ⌝ }
-{
-    status::banks::restore_sp(c)
-}
-
-#[no_mangle]
-pub extern "C" fn m68k_set_s_flag(c: Cpu, v: u32) -> Cpu
-    ensures { λ r. ⌜ r ≡ setSFlag c v ⌝ }
-{
-    status::banks::set_s_flag(c, v)
-}
-
-#[no_mangle]
-pub extern "C" fn m68k_set_sm_flag(c: Cpu, v: u32) -> Cpu
-    ensures { λ r. ⌜ r ≡ setSmFlag c v ⌝ }
-{
-    status::banks::set_sm_flag(c, v)
-}
-
-#[no_mangle]
-pub extern "C" fn m68k_set_sm_flag_nosp(c: Cpu, v: u32) -> Cpu
-    ensures { λ r. ⌜ r ≡ setSmFlagNosp c v ⌝ }
-{
-    status::banks::set_sm_flag_nosp(c, v)
-}
-
-#[no_mangle]
-pub extern "C" fn m68k_internal_cycles(c: Cpu, n: u32) -> Cpu
-    ensures { λ r. ⌜ r ≡ internalCycles c n ⌝ }
-{
-    cpu::clocks::internal_cycles(c, n)
-}
-
-#[no_mangle]
-pub extern "C" fn m68k_prefetch_enabled(c: Cpu) -> bool
-    ensures { λ r. ⌜ r ≡ prefetchEnabled c ⌝ }
-{
-    cpu::clocks::prefetch_enabled(c)
-}
-
-#[no_mangle]
-pub extern "C" fn m68k_address(c: Cpu, a: u32) -> u32
-    ensures { λ r. ⌜ r ≡ addressOf c a ⌝ }
-{
-    cpu::fields::address(c, a)
-}
-
-#[no_mangle]
-pub extern "C" fn m68k_trace_t0_sr_write(c: Cpu) -> Cpu
-    ensures { λ r. ⌜ r ≡ traceT0SrWrite c ⌝ }
-{
-    pending::trace::trace_t0_sr_write(c)
-}
-
-#[no_mangle]
-pub extern "C" fn m68k_trace_t0_68040_sync(c: Cpu) -> Cpu
-    ensures { λ r. ⌜ r ≡ traceT068040Sync c ⌝ }
-{
-    pending::trace::trace_t0_68040_sync(c)
-}
-
-#[no_mangle]
-pub extern "C" fn m68k_fresh(kind: u8) -> Cpu
-    ensures { λ r. ⌜ r ≡ freshCpu kind ⌝ }
-{
-    cpu::fresh::fresh(kind)
 }

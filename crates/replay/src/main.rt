@@ -1,6 +1,7 @@
 // Replays recorded answers of the oracle (tools/sample.sh makes data/sample.bin): each case is a call, a return or a walk on the proved
 // code, and its answer, the number of events, each event word, each word of a row, the whole record and the whole store must be those
-// that the oracle gave, and log and rows behind them as they were. It uses `boundary` and, for the verdict, `same`; nothing uses it.
+// that the oracle gave, and log and rows behind them as they were. It uses `boundary`, `unwind` and, for the verdict, `same`; nothing uses
+// it.
 use boundary::RawAnswer;
 use boundary::RawCall;
 use memory::Core;
@@ -40,7 +41,7 @@ fn call(w: [u32; 136], store: &mut [u8], log: &mut [u32], n: usize, k: usize) ->
     let c = call_of(w);
     if n <= store.len() {
         if k <= log.len() {
-            return boundary::m68k_call(m, &mut store[0..n], &mut log[0..k], c);
+            return boundary::raw_call(m, &mut store[0..n], &mut log[0..k], c);
         }
     }
     not_run(m)
@@ -58,7 +59,7 @@ fn put_row(rows: &mut [u32; 32], r: Row) {
 fn return_case(w: [u32; 136], store: &[u8], n: usize, rows: &mut [u32; 32]) -> RawAnswer {
     let m = record::core_of(w);
     if n <= store.len() {
-        let r = boundary::m68k_return(m, &store[0..n]);
+        let r = unwind::return_from(m, &store[0..n]);
         put_row(rows, r.row);
         return answered(r.core, r.refused, 0);
     }
@@ -70,7 +71,7 @@ fn walk_case(w: [u32; 136], store: &[u8], n: usize, rows: &mut [u32], k: usize) 
     let m = record::core_of(w);
     if n <= store.len() {
         if k <= rows.len() {
-            let r = boundary::m68k_walk(m, &store[0..n], w[129], &mut rows[0..k]);
+            let r = unwind::walk(m, &store[0..n], w[129], &mut rows[0..k]);
             return answered(m, r.refused, r.count);
         }
     }

@@ -1,7 +1,8 @@
 //! The status register, the stack banks and the other small functions, each on many records.
 
+use leaves as proved;
+use leaves::{Cpu, Fault, Flags, Flow, OptionalCode, OptionalVector, Queue, Regs, Resume};
 use m68k_host as host;
-use m68k_host::leaf as proved;
 use oracle::leaf as lifted;
 use oracle::rng::Rng;
 use oracle::text::set_status;
@@ -25,12 +26,67 @@ fn to_host(kind: u8, r: &oracle::Record) -> host::Record {
     macro_rules! build {
         ($r:expr, $($f:ident)*) => { host::Record {
             cpu_type: kind,
-            pending_fault_cause: host::Cause::from_number($r.pending_fault_cause).unwrap(),
+            pending_fault_cause: host::FaultCause::read($r.pending_fault_cause),
             fault_resume: $r.fault_resume.map(|(pc, sr, dar)| host::Resume { pc, sr, dar }),
             $($f: $r.$f,)*
         } };
     }
     alike!(build, r)
+}
+
+fn vector(option: Option<u32>) -> OptionalVector {
+    OptionalVector { some: option.is_some(), value: option.unwrap_or(0) }
+}
+
+/// The oracle's record by value.
+fn to_cpu(kind: u8, r: &oracle::Record) -> Cpu {
+    let (pc, sr, dar) = r.fault_resume.unwrap_or((0, 0, [0; 16]));
+    let code = r.mmu_fc_override;
+    Cpu {
+        regs: Regs { dar: r.dar, dar_save: r.dar_save, sp: r.sp },
+        flow: Flow {
+            ppc: r.ppc,
+            pc: r.pc,
+            vbr: r.vbr,
+            ir: r.ir,
+            fpiar: r.fpiar,
+            cpu_type: kind,
+            run_mode: r.run_mode,
+            stopped: r.stopped,
+            exception_processing: r.exception_processing,
+            change_of_flow: r.change_of_flow,
+            loop_mode: r.loop_mode,
+            cycles_remaining: r.cycles_remaining,
+        },
+        flags: Flags {
+            t1_flag: r.t1_flag,
+            t0_flag: r.t0_flag,
+            s_flag: r.s_flag,
+            m_flag: r.m_flag,
+            x_flag: r.x_flag,
+            n_flag: r.n_flag,
+            not_z_flag: r.not_z_flag,
+            v_flag: r.v_flag,
+            c_flag: r.c_flag,
+            int_mask: r.int_mask,
+            int_level: r.int_level,
+            sr_save: r.sr_save,
+        },
+        queue: Queue {
+            prefetch_queue: r.prefetch_queue,
+            prefetch_count: r.prefetch_count,
+            pending_sync_clocks: r.pending_sync_clocks,
+            precise_bus: r.precise_bus,
+        },
+        fault: Fault {
+            instruction_exception_vector: vector(r.instruction_exception_vector),
+            last_exception_vector: vector(r.last_exception_vector),
+            pending_fault_cause: r.pending_fault_cause,
+            mmu_fc_override: OptionalCode { some: code.is_some(), value: code.unwrap_or(0) },
+            pending_fault_wdata: r.pending_fault_wdata,
+        },
+        fault_resume: Resume { some: r.fault_resume.is_some(), pc, sr, dar },
+    }
 }
 
 /// A number that sits on a limit, a small one, or any.
@@ -140,13 +196,11 @@ fn same(
     kind: u8,
     before: &oracle::Record,
     wanted: impl Fn(&mut oracle::Record),
-    got: impl Fn(&mut host::Record),
+    got: impl Fn(Cpu) -> Cpu,
 ) {
     let mut after = before.clone();
     wanted(&mut after);
-    let mut found = to_host(kind, before);
-    got(&mut found);
-    assert_eq!(found, to_host(kind, &after), "kind {kind}, from {before:x?}");
+    assert_eq!(got(to_cpu(kind, before)), to_cpu(kind, &after), "kind {kind}, from {before:x?}");
 }
 
 #[test]
@@ -163,7 +217,11 @@ fn fresh() {
 #[test]
 fn get_sr() {
     each(1, false, |_, kind, r| {
-        assert_eq!(proved::get_sr(&to_host(kind, r)), lifted::get_sr(r), "kind {kind}, of {r:x?}");
+        assert_eq!(
+            proved::get_sr(to_cpu(kind, r)),
+            u32::from(lifted::get_sr(r)),
+            "kind {kind}, of {r:x?}"
+        );
     });
 }
 
@@ -210,7 +268,7 @@ fn set_ccr_internal() {
 #[test]
 fn sp_index() {
     each(5, true, |_, kind, r| {
-        let found = proved::sp_index(&to_host(kind, r));
+        let found = proved::sp_index(to_cpu(kind, r));
         assert_eq!(found, lifted::sp_index(kind, r), "kind {kind}, of {r:x?}");
     });
 }
@@ -266,7 +324,7 @@ fn internal_cycles() {
 #[test]
 fn prefetch_enabled() {
     each(12, false, |_, kind, r| {
-        let found = proved::prefetch_enabled(&to_host(kind, r));
+        let found = proved::prefetch_enabled(to_cpu(kind, r));
         assert_eq!(found, lifted::prefetch_enabled(kind, r), "kind {kind}, of {r:x?}");
     });
 }
@@ -275,7 +333,7 @@ fn prefetch_enabled() {
 fn address() {
     each(13, false, |rng, kind, r| {
         let a = number(rng);
-        let found = proved::address(&to_host(kind, r), a);
+        let found = proved::address(to_cpu(kind, r), a);
         assert_eq!(found, lifted::address(kind, r, a), "kind {kind}, {a:x}");
     });
 }
@@ -291,5 +349,22 @@ fn trace_t0_sr_write() {
 fn trace_t0_68040_sync() {
     each(15, false, |_, kind, r| {
         same(kind, r, |r| lifted::trace_t0_68040_sync(kind, r), proved::trace_t0_68040_sync);
+    });
+}
+
+/// The two functions of a core that have no call: the status, and a status set, with the stacks swapped.
+#[test]
+fn status_of_a_core() {
+    each(16, true, |rng, kind, r| {
+        let mut core = host::Core::fresh(kind);
+        core.set_record(&to_host(kind, r));
+        assert_eq!(core.get_sr(), lifted::get_sr(r), "kind {kind}, of {r:x?}");
+        let (sr, mut after) = (rng.word() as u16, r.clone());
+        lifted::backup_sp(kind, &mut after);
+        lifted::set_sr_noint_nosp(kind, &mut after, sr);
+        lifted::restore_sp(kind, &mut after);
+        core.set_sr(sr);
+        assert_eq!(core.record(), to_host(kind, &after), "kind {kind}, {sr:x}, from {r:x?}");
+        assert_eq!(core.address_mask(), lifted::masks(kind).0, "kind {kind}");
     });
 }

@@ -1,0 +1,527 @@
+//! Memory over 65,536 bytes: the part that a call needs is lent, and the outcome is exact or there is none.
+//!
+//! A store has at most 65,536 bytes in one piece. An emulator has megabytes. [`Core::call_large`] lends a part of
+//! them, 65,536 bytes long, and looks at the log: every access of a call is an event there. Where each access that
+//! the part did not serve is one that the whole memory would not serve either (no such address, or a fault window),
+//! the call went as over the whole memory, for each access read and wrote the same bytes. Else core, memory and
+//! log are put back, and the call is made again over a part that also holds the first access that went wrong; up to
+//! there the call had gone as over the whole memory, so that access is one of the whole call. If no part of 65,536
+//! bytes holds all of these, the answer is [`Apart`], and nothing has changed.
+//!
+//! So an outcome is that of the proved definitions over a store that is the whole memory, as if
+//! [`Refusal::Store`] had no limit but the end at 2^32; and [`Apart`] is answered by a call exactly where its accesses that
+//! the memory serves do not lie in one part. What an emulator does then: have the entry made by other code, or move the
+//! guest's stack, vectors or handlers together.
+//!
+//! This search is Rust and tested, not proved; each attempt is a proved call. An attempt copies the part, so that it
+//! can be put back.
+//!
+//! ```
+//! use m68k_host::large::LargeError;
+//! use m68k_host::{Call, Core, Kind};
+//!
+//! // A megabyte at 0; vectors at 0xF0000, the stack below the handler at 0xF8000.
+//! let mut memory = vec![0; 0x10_0000];
+//! memory[0xF_0080..0xF_0084].copy_from_slice(&0xF_8000_u32.to_be_bytes());
+//! let (mut core, mut log) = (Core::fresh(Kind::M68010), [0; 192]);
+//! core.set_vbr(0xF_0000);
+//! core.dar_mut()[15] = 0xF_8000;
+//!
+//! core.call_large(Call::TakeException(32), &mut memory, &mut log)?;
+//!
+//! assert_eq!((core.pc(), core.dar()[15]), (0xF_8000, 0xF_7FF8));
+//!
+//! // With the vectors at 0 no part holds them and the stack: nothing is done.
+//! core.set_vbr(0);
+//! let before = (core.clone(), memory.clone());
+//! let Err(LargeError::Apart(apart)) = core.call_large(Call::TakeException(32), &mut memory, &mut log)
+//!     else { panic!() };
+//! assert_eq!((apart.lowest, apart.highest), (0x80, 0xF_7FF7));
+//! assert!(before == (core, memory));
+//! # Ok::<(), LargeError>(())
+//! ```
+
+use crate::core::{Core, Window};
+use crate::{Answer, Call, Refusal, Row, Walked};
+use std::fmt;
+use std::ops::Range;
+
+/// The most bytes of a store.
+pub const STORE_LIMIT: usize = 65_536;
+/// The most events of a call.
+const EVENTS: usize = 64;
+/// The longest frame.
+const FRAME_BYTES: u32 = 92;
+/// The end of all addresses.
+const ADDRESSES: u64 = 1 << 32;
+
+/// Bytes that are needed together and lie too far apart for one store.
+#[derive(Debug, Clone, Copy, PartialEq, Eq, Hash)]
+pub struct Apart {
+    /// The lowest address of them.
+    pub lowest: u32,
+    /// The highest address of them.
+    pub highest: u32,
+}
+
+impl fmt::Display for Apart {
+    fn fmt(&self, f: &mut fmt::Formatter<'_>) -> fmt::Result {
+        let Apart { lowest, highest } = self;
+        write!(
+            f,
+            "{lowest:08X} and {highest:08X} are needed and lie in no store of {STORE_LIMIT} bytes"
+        )
+    }
+}
+
+impl std::error::Error for Apart {}
+
+/// Why there is no outcome over a large memory; core, memory and log are as they came.
+#[derive(Debug, Clone, Copy, PartialEq, Eq, Hash)]
+#[non_exhaustive]
+pub enum LargeError {
+    /// Refused by number, as over the whole memory.
+    Refused(Refusal),
+    /// What is needed lies too far apart.
+    Apart(Apart),
+}
+
+impl fmt::Display for LargeError {
+    fn fmt(&self, f: &mut fmt::Formatter<'_>) -> fmt::Result {
+        match self {
+            LargeError::Refused(refusal) => refusal.fmt(f),
+            LargeError::Apart(apart) => apart.fmt(f),
+        }
+    }
+}
+
+impl std::error::Error for LargeError {}
+
+impl From<Refusal> for LargeError {
+    fn from(refusal: Refusal) -> LargeError {
+        LargeError::Refused(refusal)
+    }
+}
+
+impl Core {
+    /// [`Core::call`] over a memory of any length from [`Core::base`] on. See [`large`](crate::large) for what holds of
+    /// the outcome.
+    ///
+    /// # Errors
+    ///
+    /// Refused by number, or what the call needs lies too far apart. Core, memory and log are then as they came.
+    pub fn call_large(
+        &mut self,
+        call: Call,
+        memory: &mut [u8],
+        log: &mut [u32],
+    ) -> Result<Answer, LargeError> {
+        call_within(self, call, memory, log, STORE_LIMIT)
+    }
+
+    /// [`Core::return_from`] over a memory of any length from [`Core::base`] on.
+    ///
+    /// # Errors
+    ///
+    /// Refused by number, as over the whole memory; or [`LargeError::Apart`]: no part that was tried gives the frames, and none of
+    /// them holds all places where they can lie. The core is then as it came.
+    pub fn return_large(&mut self, memory: &[u8]) -> Result<Row, LargeError> {
+        return_within(self, memory, STORE_LIMIT)
+    }
+
+    /// [`Core::walk`] over a memory of any length from [`Core::base`] on: as many returns on a copy.
+    ///
+    /// # Errors
+    ///
+    /// A return of it cannot be made, as in [`Core::return_large`]. Rows before it are in the buffer.
+    pub fn walk_large(&self, n: u32, memory: &[u8], rows: &mut [u32]) -> Result<Walked, Apart> {
+        walk_within(self, n, memory, rows, STORE_LIMIT)
+    }
+}
+
+/// Addresses from the first to the one behind the last.
+type Span = Range<u64>;
+
+fn hull(a: &Span, b: &Span) -> Span {
+    a.start.min(b.start)..a.end.max(b.end)
+}
+
+fn length(span: &Span) -> u64 {
+    span.end - span.start
+}
+
+fn apart(span: &Span) -> Apart {
+    Apart { lowest: span.start as u32, highest: (span.end - 1) as u32 }
+}
+
+/// The whole memory, as accesses see it.
+struct Whole {
+    span: Span,
+    windows: Vec<Window>,
+}
+
+impl Whole {
+    fn of(core: &Core, memory: &[u8]) -> Whole {
+        let base = u64::from(core.base());
+        Whole { span: base..base + memory.len() as u64, windows: core.windows().collect() }
+    }
+
+    /// Whether all bytes are in the memory and none in a window: `servedOf` of crates/memory.
+    fn serves(&self, access: &Span) -> bool {
+        let faults = |window: &Window| {
+            let start = u64::from(window.start);
+            let end = start + u64::from(window.length);
+            window.length != 0 && access.start < end && start < access.end
+        };
+        let inside = self.span.start <= access.start && access.end <= self.span.end;
+        inside && !self.windows.iter().any(faults)
+    }
+
+    /// So many bytes of the memory that hold a span of no more; as far as they can around its middle.
+    fn part(&self, span: &Span, most: usize) -> Range<usize> {
+        let most = most as u64;
+        let start = (span.start + length(span) / 2).saturating_sub(most / 2);
+        let start = start.clamp(self.span.start, self.span.end - most) - self.span.start;
+        start as usize..(start + most) as usize
+    }
+}
+
+/// Where to begin: around the stack in supervisor mode, with the vectors if they are near.
+fn guess(core: &Core, most: usize) -> Span {
+    let pointer = if core.s_flag() == 0 { core.sp()[4] } else { core.dar()[15] };
+    let stack = u64::from(pointer & core.address_mask());
+    let vectors = u64::from(core.vbr() & core.address_mask());
+    let both = hull(&(stack.saturating_sub(0x80)..stack), &(vectors..vectors + 0x400));
+    if length(&both) <= most as u64 { both } else { stack..stack }
+}
+
+/// Whether a memory is lent as it is: it is short, or ends past all addresses and is refused for it.
+fn lent_whole(core: &Core, memory: &[u8], most: usize) -> bool {
+    memory.len() <= most || u64::from(core.base()) + memory.len() as u64 > ADDRESSES
+}
+
+fn call_within(
+    core: &mut Core,
+    call: Call,
+    memory: &mut [u8],
+    log: &mut [u32],
+    most: usize,
+) -> Result<Answer, LargeError> {
+    if lent_whole(core, memory, most) {
+        return Ok(core.call(call, memory, log)?);
+    }
+    let (whole, before) = (Whole::of(core, memory), core.clone());
+    let words = log[..log.len().min(3 * EVENTS)].to_vec();
+    let mut span = guess(core, most);
+    for _ in 0..=EVENTS {
+        let range = whole.part(&span, most);
+        let part = &mut memory[range.clone()];
+        let bytes = part.to_vec();
+        core.set_base((whole.span.start + range.start as u64) as u32);
+        let done = core.call(call, part, log);
+        core.set_base(before.base());
+        let answer = done?;
+        let Some(needed) = missed(&whole, answer, log) else { return Ok(answer) };
+        part.copy_from_slice(&bytes);
+        log[..words.len()].copy_from_slice(&words);
+        *core = before.clone();
+        if length(&needed) > most as u64 {
+            return Err(LargeError::Apart(apart(&needed)));
+        }
+        span = needed;
+    }
+    unreachable!("each attempt knows one access more of the call")
+}
+
+/// If an access was not served that the whole memory would serve: the span of all accesses that it serves, up to the
+/// first such. Until then the call went as over the whole memory.
+fn missed(whole: &Whole, answer: Answer, log: &[u32]) -> Option<Span> {
+    let mut needed: Option<Span> = None;
+    for (address, size, served) in answer.events(log).filter_map(|event| event.access()) {
+        let access = u64::from(address)..u64::from(address) + u64::from(size.bytes());
+        if served || whole.serves(&access) {
+            needed = Some(needed.map_or(access.clone(), |span| hull(&span, &access)));
+            if !served {
+                return needed;
+            }
+        }
+    }
+    None
+}
+
+/// The bytes of a frame of so many that the memory serves, each at its address modulo 2^32, masked.
+fn frame(core: &Core, whole: &Whole, pointer: u32, bytes: u32) -> Option<Span> {
+    let places = (0..bytes).map(|i| u64::from(pointer.wrapping_add(i) & core.address_mask()));
+    places.map(|at| at..at + 1).filter(|byte| whole.serves(byte)).reduce(|a, b| hull(&a, &b))
+}
+
+fn return_within(core: &mut Core, memory: &[u8], most: usize) -> Result<Row, LargeError> {
+    if lent_whole(core, memory, most) {
+        return Ok(core.return_from(memory)?);
+    }
+    let whole = Whole::of(core, memory);
+    let first = core.dar()[15];
+    // Where a second frame can lie: behind the first, or at the saved pointer of another stack.
+    let seconds = [first.wrapping_add(8), core.sp()[0], core.sp()[4], core.sp()[6]];
+    let short = if core.cpu_type() == 1 { 6 } else { 8 };
+    let (mut all_tried, mut too_far) = (true, None);
+    for second in seconds {
+        for (a, b) in [(short, 0), (short, 8), (FRAME_BYTES, FRAME_BYTES)] {
+            let frames = [frame(core, &whole, first, a), frame(core, &whole, second, b)];
+            let Some(span) = frames.into_iter().flatten().reduce(|a, b| hull(&a, &b)) else {
+                continue;
+            };
+            if length(&span) > most as u64 {
+                all_tried &= b != FRAME_BYTES;
+                too_far = Some(apart(&span));
+                continue;
+            }
+            let done = return_over(core, &whole, memory, whole.part(&span, most));
+            // All that a return has read was served, but where it is refused for its frame.
+            if done != Err(Refusal::Frame) {
+                return Ok(done?);
+            }
+        }
+    }
+    let odd = first % 2 == 1 && matches!(core.cpu_type(), 1 | 2 | 10);
+    let mut places = (0..short).map(|i| u64::from(first.wrapping_add(i) & core.address_mask()));
+    let unserved = places.any(|at| !whole.serves(&(at..at + 1)));
+    match too_far {
+        Some(apart) if !all_tried && !odd && !unserved => Err(LargeError::Apart(apart)),
+        // Each place of a second frame was held by a part, or the first frame is not there.
+        _ => Ok(return_over(core, &whole, memory, whole.part(&(0..0), most))?),
+    }
+}
+
+/// A return over a part of the memory.
+fn return_over(
+    core: &mut Core,
+    whole: &Whole,
+    memory: &[u8],
+    range: Range<usize>,
+) -> Result<Row, Refusal> {
+    let base = core.base();
+    core.set_base((whole.span.start + range.start as u64) as u32);
+    let done = core.return_from(&memory[range]);
+    core.set_base(base);
+    done
+}
+
+fn walk_within(
+    core: &Core,
+    n: u32,
+    memory: &[u8],
+    rows: &mut [u32],
+    most: usize,
+) -> Result<Walked, Apart> {
+    if lent_whole(core, memory, most) {
+        return Ok(core.walk(n, memory, rows));
+    }
+    // What a walk refuses before it looks at a frame; no frame is in an empty store.
+    let begun = core.walk(n, &[], rows);
+    if begun.refused != Some(Refusal::Frame) {
+        return Ok(begun);
+    }
+    let mut copy = core.clone();
+    for count in 0..n {
+        match return_within(&mut copy, memory, most) {
+            Ok(row) => {
+                let at = count as usize * 4;
+                rows[at..at + 4].copy_from_slice(&<[u32; 4]>::from(row));
+            }
+            Err(LargeError::Refused(refusal)) => {
+                return Ok(Walked { count, refused: Some(refusal) });
+            }
+            Err(LargeError::Apart(apart)) => return Err(apart),
+        }
+    }
+    Ok(Walked { count: n, refused: None })
+}
+
+#[cfg(test)]
+mod tests {
+    use super::*;
+    use crate::Kind;
+    use crate::random::{Numbers, any_call, likely_core};
+
+    /// Memory of a length that a store may have, so that the proved call over all of it says what is right; parts of
+    /// it that are much shorter.
+    const MOSTS: [usize; 5] = [16, 64, 128, 512, 4096];
+
+    fn memory(n: &mut Numbers, core: &Core, len: u32) -> Vec<u8> {
+        let mut memory: Vec<u8> = (0..len).map(|_| n.of(&[0, 0, 0, 0, 0x20, 0x10, 0x80])).collect();
+        // Vectors that point into the memory, half of them near the stack.
+        for place in 0..(len / 4).min(256) {
+            let at = if n.percent(50) { core.dar()[15] } else { core.base() + n.below(len) };
+            let at = at.wrapping_add(n.below(64)) & !1;
+            memory[place as usize * 4..][..4].copy_from_slice(&at.to_be_bytes());
+        }
+        memory
+    }
+
+    /// What came over parts is what comes over the whole, or what the whole call needs is too far apart for any part.
+    #[test]
+    fn a_call_over_parts_is_the_call_over_the_whole() {
+        let mut n = Numbers(1);
+        let (mut same, mut apart, mut refused) = (0, 0, 0);
+        for turn in 0..60_000 {
+            let (base, len) = (n.of(&[0, 0x4000, 0xFF_E000, 0xFFFF_E000]), 0x2000);
+            let mut core = likely_core(&mut n, base, len);
+            if n.percent(50) {
+                // All near each other.
+                core.set_vbr(core.dar()[15].wrapping_sub(n.below(0x400)) & !1);
+                *core.sp_mut() = [core.dar()[15].wrapping_add(n.below(0x80) & !1); 8];
+            }
+            let memory = memory(&mut n, &core, len);
+            let (call, most) = (any_call(&mut n), n.of(&MOSTS));
+            let (mut whole, mut by_part) =
+                ((core.clone(), memory.clone(), [9; 200]), (core, memory, [9; 200]));
+            let before = by_part.clone();
+            let right = whole.0.call(call, &mut whole.1, &mut whole.2);
+            let got = call_within(&mut by_part.0, call, &mut by_part.1, &mut by_part.2, most);
+            match got {
+                Err(LargeError::Apart(told)) => {
+                    let answer = right.unwrap();
+                    let served =
+                        answer.events(&whole.2).filter_map(|event| event.access()).filter(|a| a.2);
+                    let spans = served.map(|(at, size, _)| {
+                        u64::from(at)..u64::from(at) + u64::from(size.bytes())
+                    });
+                    let needed = spans.reduce(|a, b| hull(&a, &b)).unwrap();
+                    assert!(length(&needed) > most as u64, "turn {turn}: {call:?} fits");
+                    assert!(
+                        needed.start <= told.lowest.into() && u64::from(told.highest) < needed.end
+                    );
+                    assert!(by_part == before, "turn {turn}: {call:?} was not put back");
+                    apart += 1;
+                }
+                other => {
+                    assert_eq!(
+                        other,
+                        right.map_err(LargeError::Refused),
+                        "turn {turn}: {call:?}, {most}"
+                    );
+                    assert!(by_part == whole, "turn {turn}: {call:?}, parts of {most}");
+                    *if other.is_ok() { &mut same } else { &mut refused } += 1;
+                }
+            }
+        }
+        assert!(same > 20_000 && apart > 5_000 && refused > 2_000, "{same} {apart} {refused}");
+    }
+
+    /// A core on frames of every format, on one stack or several.
+    fn framed(n: &mut Numbers, len: u32) -> (Core, Vec<u8>) {
+        let base = n.of(&[0, 0x4000, 0xFF_E000, 0xFFFF_E000]);
+        let (mut core, mut memory) = (likely_core(n, base, len), vec![0; len as usize]);
+        for _ in 0..40 {
+            let at = (n.below(len - 8) & !1) as usize;
+            let format = n.of(&[0x00, 0x00, 0x10, 0x10, 0x20, 0x40, 0x70, 0x80, 0xB0, 0x30]);
+            memory[at] = n.of(&[0x20, 0x27, 0x30, 0x37, 0x00]);
+            memory[at + 6] = format;
+            // On 24-bit kinds the highest byte counts for nothing.
+            let high = n.of(&[0, 0, 0x5500_0000]) & !core.address_mask();
+            let pointer = core.base().wrapping_add(at as u32 + n.below(20) / 19) | high;
+            match n.below(4) {
+                0 => core.sp_mut()[4] = pointer,
+                1 => core.sp_mut()[6] = pointer,
+                _ => core.dar_mut()[15] = pointer,
+            }
+        }
+        core.set_sr(core.get_sr() | 0x2000);
+        (core, memory)
+    }
+
+    #[test]
+    fn returns_and_walks_over_parts_are_those_over_the_whole() {
+        let mut n = Numbers(2);
+        let (mut same, mut apart, mut refused) = (0, 0, 0);
+        for turn in 0..60_000 {
+            let (core, memory) = framed(&mut n, 0x2000);
+            let most = n.of(&MOSTS);
+            let (mut whole, mut by_part) = (core.clone(), core.clone());
+            let right = whole.return_from(&memory).map_err(LargeError::Refused);
+            match return_within(&mut by_part, &memory, most) {
+                Err(LargeError::Apart(_)) => {
+                    assert!(by_part == core, "turn {turn}");
+                    // The first frame is there: else the number is told.
+                    let first = core.dar()[15] & core.address_mask();
+                    let place = first.wrapping_sub(core.base()) as usize;
+                    assert!(place + 6 <= memory.len(), "turn {turn}");
+                    let odd = matches!(core.cpu_type(), 1 | 2 | 10) && first % 2 == 1;
+                    assert!(!odd, "turn {turn}");
+                    apart += 1;
+                }
+                other => {
+                    assert_eq!(other, right, "turn {turn}, parts of {most}");
+                    assert!(by_part == whole, "turn {turn}, parts of {most}");
+                    *if other.is_ok() { &mut same } else { &mut refused } += 1;
+                }
+            }
+            let (mut rows, mut by_part) = ([7; 16], [7; 16]);
+            let (steps, room) = (n.below(5), n.of(&[16, 16, 16, 8, 0]));
+            let walked = core.walk(steps, &memory, &mut rows[..room]);
+            if let Ok(other) = walk_within(&core, steps, &memory, &mut by_part[..room], most) {
+                assert_eq!((other, by_part), (walked, rows), "turn {turn}, parts of {most}");
+            }
+        }
+        assert!(same > 10_000 && apart > 3_000 && refused > 5_000, "{same} {apart} {refused}");
+    }
+
+    /// Megabytes: the outcome is that of a store that holds everything the call needs, wherever it lies.
+    #[test]
+    fn a_call_in_megabytes_is_the_call_over_a_store_that_holds_all() {
+        let mut n = Numbers(3);
+        let mut memory = vec![0; 0x40_0000];
+        let (mut same, mut apart) = (0, 0);
+        for turn in 0..3_000 {
+            let start = (n.below(0x3F_0000) & !1) as usize;
+            let mut core = likely_core(&mut n, start as u32, 0x1_0000);
+            let vbr = core.base();
+            core.set_vbr(vbr & !1);
+            for byte in memory[start..start + 0x400].chunks_exact_mut(4) {
+                let handler = start as u32 + n.below(0x1_0000) & !1;
+                byte.copy_from_slice(&handler.to_be_bytes());
+            }
+            let call = any_call(&mut n);
+            let (mut whole, mut log, mut other_log) = (core.clone(), [0; 192], [0; 192]);
+            let mut store = memory[start..start + 0x1_0000].to_vec();
+            let right = core.call(call, &mut store, &mut log);
+            whole.set_base(0);
+            let got = whole.call_large(call, &mut memory, &mut other_log);
+            // A store that holds everything: no access outside it is one that the memory serves.
+            let seen = Whole::of(&whole, &memory);
+            let holds = right.is_err() || missed(&seen, right.unwrap(), &log).is_none();
+            match got {
+                Err(LargeError::Apart(_)) => {
+                    assert!(!holds, "turn {turn}: {call:?}");
+                    apart += 1;
+                }
+                got if holds => {
+                    core.set_base(0);
+                    assert_eq!(got, right.map_err(LargeError::Refused), "turn {turn}: {call:?}");
+                    assert!(core == whole && log == other_log, "turn {turn}: {call:?}");
+                    assert!(memory[start..start + 0x1_0000] == store, "turn {turn}: {call:?}");
+                    same += 1;
+                }
+                _ => {}
+            }
+            if turn % 64 == 0 {
+                memory.fill(0);
+            }
+        }
+        assert!(same > 1_500 && apart > 20, "{same} {apart}");
+    }
+
+    #[test]
+    fn a_memory_that_ends_past_the_addresses_is_refused() {
+        let (mut core, mut memory) = (Core::fresh(Kind::M68020), vec![0; 0x2_0000]);
+        core.set_base(0xFFFE_0001);
+        let refused = LargeError::Refused(Refusal::Store);
+        assert_eq!(core.call_large(Call::ExceptionChk, &mut memory, &mut [0; 192]), Err(refused));
+        assert_eq!(core.return_large(&memory), Err(refused));
+        let walked = core.walk_large(1, &memory, &mut [0; 4]).unwrap();
+        assert_eq!(walked.refused, Some(Refusal::Store));
+        core.set_base(0xFFFE_0000);
+        assert!(core.call_large(Call::ExceptionChk, &mut memory, &mut [0; 192]).is_ok());
+    }
+}
