@@ -1,9 +1,9 @@
 #!/usr/bin/env python3
 """crossings.py [--most N]: counts how often one call crosses crates; with --most exit status 1 where it is more than N times.
 
-Walks the source (crates/*/src) from `m68k_call` on the input of a recorded example, TRAP #15 on a 68010, and counts the calls from a
-function of one crate to a function of another. Calls of `std`, the toolchain's wrapping functions, are counted apart. Prints both numbers,
-then a table by pair of crates. The answer, the log and the store must come out as the example says, else it prints no number and the exit
+Walks the source (crates/*/src) from lent's `serve`, the one function that the exported `m68k_call` calls, on the input of a recorded example,
+TRAP #15 on a 68010, and counts the calls from a function of one crate to a function of another. Calls of `std`, the toolchain's wrapping
+functions, are counted apart. Prints both numbers, then a table by pair of crates. The answer, the log and the store must come out as the example says, else it prints no number and the exit
 status is 1.
 
 Each function that is reached is translated to Python and run. The translation knows the part of Rattle that the port uses; anything else
@@ -315,7 +315,8 @@ def patched(store, patches):
 def crossings():
     """Makes the call of the example and checks how it ends; how often each pair of crates was crossed."""
     program, (given, said) = Program(), recorded()
-    cpu = program.call("cpu", "cpu::fresh::fresh", int(given["kind"]))  # its status is that of the example
+    cpu = program.call("lent", "lent::m68k_fresh", int(given["kind"]))  # its status is that of the example
+    program.crossings.clear()
     cpu["flow"].update(pc=int(given["pc"], 16), ppc=int(given["ppc"], 16))
     cpu["regs"]["dar"][15] = int(given["a7"], 16)
     none = [0] * 8
@@ -323,7 +324,7 @@ def crossings():
     call = {"number": TRAP, "a": int(given["call"].partition(":")[2], 16), "b": 0, "c": 0, "d": 0, "e": 0}
     before, log = patched([0] * STORE, given["patch"]), [0] * LOG
     store = list(before)
-    answer = program.call("boundary", "boundary::m68k_call", {"cpu": cpu, "bus": bus}, store, log, call)
+    answer = program.call("lent", "lent::serve", {"cpu": cpu, "bus": bus}, call, store, log)["said"]
 
     events = [int(word, 16) for word in re.split("[:,]", said["ev"])]
     ends = {"answer": [answer[name] for name in ("refused", "answer", "events")], "log": log, "store": store}
