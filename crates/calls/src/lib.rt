@@ -1,5 +1,5 @@
 // The public calls: one enum of calls and one function that refuses a call by number, with nothing touched, or performs it. It
-// uses `refusals`, `interrupts`, `exceptions`, `access` and everything below; `boundary` hands it to C, and `sessions`
+// uses `refusals`, `interrupts`, `exceptions`, `access` and everything below; `boundary` takes it by number, and `sessions`
 // acts through it.
 use cpu::Cpu;
 use exceptions::Entered;
