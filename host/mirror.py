@@ -51,7 +51,7 @@ C_HEAD = """\
 extern "C" {
 #endif
 """
-C_TYPES = {"u8": "uint8_t", "u16": "uint16_t", "u32": "uint32_t", "i32": "int32_t", "usize": "size_t", "bool": "bool"}
+C_TYPES = {"u8": "uint8_t", "u16": "uint16_t", "u32": "uint32_t", "i32": "int32_t", "usize": "size_t"}
 
 # What a reader of the header is told of each function.
 C_SAYS = {
@@ -253,7 +253,7 @@ def numbers(crates):
 def answers(crates):
     """{call: the case of `Answer` that `run` gives it}."""
     text = source(crates, ANSWERED)
-    found = {}
+    found, made = {}, {function[1] for function in FUNCTION.finditer(text)}
     for call, maker in re.findall(r"Call::(\w+)(?:\([^)]*\))? => (\w+)\(", function_of(text, "run")):
         seen = []
         while True:
@@ -263,7 +263,7 @@ def answers(crates):
                 found[call] = case[1]
                 break
             seen.append(maker)
-            inner = [name for name in re.findall(r"\b(flagged|done|entered|read)\(", body) if name not in seen]
+            inner = [name for name in re.findall(r"\b(\w+)\(", body) if name in made and name not in seen]
             if not inner:
                 raise Bad(f"run: no answer of {call}")
             maker = inner[0]
@@ -292,10 +292,12 @@ def c_field(field, kind):
     array = ARRAY.match(kind)
     name = bare(array[1]) if array else bare(kind)
     size = f"[{array[2]}]" if array else ""
+    if name in SCALARS and name not in C_TYPES:
+        raise Bad(f"no type of C for {field}: {kind}")
     return f"{C_TYPES.get(name) or 'struct ' + c_name(name)} {field}{size}"
 
 
-def c_function(layout, name, args, answer):
+def c_function(name, args, answer):
     """The declaration of an exported function."""
     given = []
     for parameter, kind in args:
@@ -337,7 +339,7 @@ def c_header(crates):
         out.append(f"    M68K_{snake(call, capital=True)} = {number}, /* {told + ' ' if told else ''}-> {sort} */")
     out[-1] = out[-1].replace(", /*", " /*", 1)
     out.append("};\n")
-    out += [c_function(layout, *export) for export in exports]
+    out += [c_function(*export) for export in exports]
     out.append("#ifdef __cplusplus\n}\n#endif\n\n#endif")
     return "\n".join(out) + "\n"
 

@@ -178,7 +178,7 @@ class Walk:
         assert [n for n, _ in rest] == [n for n, _ in self.plain + self.read + self.written], f"{name}: numbers, then slices read, then slices written"
         self.A, self.C = Kind(self.f.result), Kind(self.core.result)     # what f answers, and what the core does
         self.fields = [x for x, _ in fields_of(crate, self.core.result)] if core else []
-        self.kept, self.answer, self.answer_type = kept, answer, self.f.result
+        self.kept, self.answer = kept, answer
         self.name_parts()
 
     def name_parts(self):
@@ -219,10 +219,9 @@ class Walk:
         names = dict(zip((n for n, _ in self.core.params), ["h", *self.pn, *self.tn, *self.sn]))
         last = dict(zip((n for n, _ in self.written), self.zn))
 
-        def put(m):
-            return (last[m[1]] if m[2] == "exit" else f"{names[m[1]]} .now")
-        text = re.sub(r"\(now \((\w+) \.(entry|exit)\)\)", lambda m: put(m) if m[2] == "exit" else f"({put(m)})", text)
-        return re.sub(r"(?<![\w«.])(\w+)(?![\w»])", lambda m: names.get(m[1], m[1]) if m[1] in dict(self.core.params) else m[1], text)
+        text = re.sub(r"\(now \((\w+) \.exit\)\)", lambda m: last[m[1]], text)
+        text = re.sub(r"\(now \((\w+) \.entry\)\)", lambda m: f"({names[m[1]]} .now)", text)
+        return re.sub(r"(?<![\w«.])(\w+)(?![\w»])", lambda m: names.get(m[1], m[1]), text)
 
     def statement(self):
         """The parts of the statement: what stays with the caller, the contract that the proof cites, the parameters."""
@@ -519,7 +518,7 @@ module _ {HEAD} (W : Given 𝓤 H A) (at-mem : Memory → SProp 𝓤) (run : Rou
     def loads(self, kind, field):
         """The load of a field of what the core handed back; its type and its offset are given, for the checker is long about them."""
         k = self.fields.index(field)
-        offset = 0 if k == 0 else size(self.crate, self.answer_type)
+        offset = 0 if k == 0 else size(self.crate, self.A.type)
         assert [field == self.answer, len(self.fields)] == [k == 0, 2], "what the core hands back is the answer, then the record"
         place = f"{{τ = {kind.mir}}} {{d = {offset}}}"
         return f"assigns ! (of-opd ! (load ! (from ! (fld ! {place} refl (stop !))) (look-in ! {self.place(self.done)} (sub ! {k} {place} refl (whole !)))))"

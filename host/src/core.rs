@@ -248,6 +248,21 @@ impl Core {
     }
 }
 
+/// The record over the bus of [`Core::fresh`].
+impl From<&Record> for Core {
+    fn from(record: &Record) -> Core {
+        let mut core = Core::fresh(record.cpu_type);
+        core.set_record(record);
+        core
+    }
+}
+
+impl From<&Core> for Record {
+    fn from(core: &Core) -> Record {
+        core.record()
+    }
+}
+
 impl fmt::Debug for Core {
     fn fmt(&self, f: &mut fmt::Formatter<'_>) -> fmt::Result {
         f.debug_struct("Core")

@@ -6,7 +6,7 @@ use std::fmt;
 ///
 /// The record has room for 256 kinds, of which these 12 are known; a call on another is refused
 /// ([`Refusal::Kind`](crate::Refusal::Kind)). So a kind is a byte where a record holds it ([`Core::cpu_type`](crate::Core::cpu_type),
-/// [`Record::cpu_type`](crate::Record::cpu_type)), and functions that take one take either: `Core::fresh(Kind::M68010)`,
+/// [`Record::cpu_type`](crate::Record::cpu_type)), and what makes a core or a record takes either: `Core::fresh(Kind::M68010)`,
 /// `Core::fresh(12)`.
 ///
 /// ```

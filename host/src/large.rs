@@ -346,7 +346,7 @@ mod tests {
 
     /// Memory of a length that a store may have, so that the proved call over all of it says what is right; parts of
     /// it that are much shorter.
-    const MOSTS: [usize; 5] = [16, 64, 128, 512, 4096];
+    const MOSTS: [usize; 6] = [16, 64, 80, 128, 512, 4096];
 
     fn memory(n: &mut Numbers, core: &Core, len: u32) -> Vec<u8> {
         let mut memory: Vec<u8> = (0..len).map(|_| n.of(&[0, 0, 0, 0, 0x20, 0x10, 0x80])).collect();
@@ -428,6 +428,9 @@ mod tests {
             }
         }
         core.set_sr(core.get_sr() | 0x2000);
+        if n.percent(40) {
+            *core.sp_mut() = [core.dar()[15]; 8];
+        }
         (core, memory)
     }
 

@@ -80,7 +80,7 @@ impl Refusal {
     pub fn number(self) -> u32 {
         match self {
             Refusal::Other(number) => number.get(),
-            named => 1 + named.place().map_or(98, |i| i as u32),
+            named => 1 + named.place().expect("every other refusal has a name") as u32,
         }
     }
 }

@@ -2,7 +2,7 @@
 
 mod random;
 
-use m68k_host::{Answer, Call, Core, Event, FaultCause, Kind, Refusal, Size, Window};
+use m68k_host::{Answer, Call, Core, Event, FaultCause, Kind, Record, Refusal, Size, Window};
 use random::{Numbers, any_call, any_record, likely_core};
 
 /// Every call once.
@@ -340,6 +340,7 @@ fn a_record_survives_the_core() {
         let (record, mut core) = (any_record(&mut numbers), Core::fresh(numbers.next() as u8));
         core.set_record(&record);
         assert_eq!(core.record(), record);
+        assert_eq!(Record::from(&Core::from(&record)), record);
         assert_eq!(core.dar(), &record.dar);
         assert_eq!((core.pc(), core.fault_resume()), (record.pc, record.fault_resume));
     }

@@ -1,8 +1,8 @@
-/* Random calls, returns and walks over blocks of exactly the size that is lent. usage: lent TURNS [SEED]
+/* Random calls, returns and walks over blocks of exactly the size that is lent. usage: lent TURNS [SEED [exact]]
  *
  * What is looked at: nothing is written beside the blocks, a refused call leaves every field of the record, an accepted one leaves flags of
- * 0 and 1, and a flag of any other byte but 0 does what a flag of 1 does. Under valgrind a read or a write outside a block is an error too,
- * and so is a block that is lost. */
+ * 0 and 1, and a flag of any other byte but 0 does what a flag of 1 does. With
+ * `exact` the blocks have no guards, so that valgrind sees a read or a write outside them, and a block that is lost. */
 #include "m68k.h"
 
 #include <stdio.h>
