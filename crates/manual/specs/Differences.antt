@@ -1,4 +1,5 @@
--- THE TABLE of differences from the manuals. A row names the parts, how the exception is called for, the exception, what differs, and when.
+-- THE TABLE of differences from the manuals. A row names the parts, how the exception is called for, the exception, what differs, and when; behind it
+-- stands what a program that runs there would notice. docs/DIFFERENCES.md is written from it.
 -- `Holds` proves that nothing else differs, `Shown` that each row does.
 use Prim.Native.Nat.{ℕ}
 use mathlib.Core.Bool.{Bool, true, false, cond, not, _&&_, _||_}
@@ -53,37 +54,37 @@ row f v c what when = record { families = f; ways = v; classes = c; what = what;
 
 unfoldable pub differences : List Row
 differences =
-    row (mc68000 ∷ []) (own ∷ []) errors (field 0x00 4) always
-    ∷ row (mc68000 ∷ []) (own ∷ []) errors (field 0x00 3) always
-    ∷ row (mc68000 ∷ []) (own ∷ []) errors (field 0x00 0) always
-    ∷ row (mc68000 ∷ []) (own ∷ []) errors (field 0x02 0) always
-    ∷ row (mc68000 ∷ []) (own ∷ []) errors (field 0x08 0) always
-    ∷ row (mc68010 ∷ []) (own ∷ []) errors (field 0x08 13) nonzero
-    ∷ row (mc68010 ∷ []) (own ∷ []) errors (field 0x08 12) nonzero
-    ∷ row (mc68010 ∷ []) (own ∷ []) (busError ∷ []) (field 0x08 10) nonzero
-    ∷ row (mc68010 ∷ []) (own ∷ []) (busError ∷ []) (field 0x08 9) nonzero
-    ∷ row (mc68010 ∷ []) (own ∷ []) errors (field 0x08 8) nonzero
-    ∷ row (mc68010 ∷ []) (own ∷ []) errors (field 0x08 0) nonzero
-    ∷ row (mc68010 ∷ []) (own ∷ []) errors (field 0x0A 0) nonzero
-    ∷ row (mc68010 ∷ []) (own ∷ []) (busError ∷ []) (field 0x10 0) nonzero
-    ∷ row (mc68020 ∷ mc68030 ∷ mc68060 ∷ []) (own ∷ []) (addressError ∷ []) format always
-    ∷ row (mc68040 ∷ []) (own ∷ []) (busError ∷ []) (field 0x0C 10) ofTheBus
-    ∷ row (mc68060 ∷ []) (own ∷ []) (busError ∷ []) (field 0x0C 21) always
-    ∷ row (mc68060 ∷ []) (own ∷ []) (fpDisabled ∷ []) (field 0x02 0) always
-    ∷ row (mc68000 ∷ []) (byVector ∷ []) errors fields always
-    ∷ row (mc68000 ∷ []) (byVector ∷ []) errors length always
-    ∷ row (mc68010 ∷ mc68020 ∷ mc68030 ∷ mc68040 ∷ mc68060 ∷ []) (byVector ∷ []) errors format always
-    ∷ row from68020 (byVector ∷ []) (group2 ∷ []) format always
-    ∷ row every (byVector ∷ []) (group2 ∷ []) (field 0x02 0) chk
-    ∷ row (mc68020 ∷ mc68030 ∷ []) (byVector ∷ []) (protocol ∷ []) format always
-    ∷ row (mc68030 ∷ []) (byVector ∷ []) (configuration ∷ []) format always
-    ∷ row (mc68030 ∷ []) (byVector ∷ []) (configuration ∷ []) (field 0x02 0) always
-    ∷ row every (byVector ∷ []) (interrupt ∷ []) status always
-    ∷ row every (byVector ∷ []) (interrupt ∷ []) (field 0x02 0) vectored
-    ∷ row (mc68020 ∷ mc68030 ∷ mc68040 ∷ []) (byVector ∷ []) (interrupt ∷ []) fields inMaster
-    ∷ row (mc68020 ∷ mc68030 ∷ mc68040 ∷ []) (byVector ∷ []) (interrupt ∷ []) length inMaster
-    ∷ row (mc68000 ∷ []) (byVector ∷ own ∷ []) any pc based
-    ∷ row (mc68020 ∷ []) (byVector ∷ own ∷ []) any pins past24
+    row (mc68000 ∷ []) (own ∷ []) errors (field 0x00 4) always  -- a handler reads R/W in the first word and finds bits of the program counter
+    ∷ row (mc68000 ∷ []) (own ∷ []) errors (field 0x00 3) always  -- a handler reads I/N there
+    ∷ row (mc68000 ∷ []) (own ∷ []) errors (field 0x00 0) always  -- a handler reads the function code there
+    ∷ row (mc68000 ∷ []) (own ∷ []) errors (field 0x02 0) always  -- a handler takes another address for the one that failed
+    ∷ row (mc68000 ∷ []) (own ∷ []) errors (field 0x08 0) always  -- a handler that returns puts another status back; RTE takes 6 of the 14 bytes
+    ∷ row (mc68010 ∷ []) (own ∷ []) errors (field 0x08 13) nonzero  -- a handler cannot tell that an instruction was fetched
+    ∷ row (mc68010 ∷ []) (own ∷ []) errors (field 0x08 12) nonzero  -- a handler cannot tell that a datum was accessed
+    ∷ row (mc68010 ∷ []) (own ∷ []) (busError ∷ []) (field 0x08 10) nonzero  -- a handler cannot tell which byte of the bus was used
+    ∷ row (mc68010 ∷ []) (own ∷ []) (busError ∷ []) (field 0x08 9) nonzero  -- a handler cannot tell a byte from a word
+    ∷ row (mc68010 ∷ []) (own ∷ []) errors (field 0x08 8) nonzero  -- a handler takes every access for a write
+    ∷ row (mc68010 ∷ []) (own ∷ []) errors (field 0x08 0) nonzero  -- a handler cannot tell the address space
+    ∷ row (mc68010 ∷ []) (own ∷ []) errors (field 0x0A 0) nonzero  -- a handler does not learn which address failed; virtual memory cannot work
+    ∷ row (mc68010 ∷ []) (own ∷ []) (busError ∷ []) (field 0x10 0) nonzero  -- a handler that makes the write itself writes 0
+    ∷ row (mc68020 ∷ mc68030 ∷ mc68060 ∷ []) (own ∷ []) (addressError ∷ []) format always  -- a handler reads format 0: RTE takes 8 bytes, and the odd address is not told
+    ∷ row (mc68040 ∷ []) (own ∷ []) (busError ∷ []) (field 0x0C 10) ofTheBus  -- a handler takes a physical bus error for a missing page
+    ∷ row (mc68060 ∷ []) (own ∷ []) (busError ∷ []) (field 0x0C 21) always  -- a handler that goes by the manual's text takes a byte for a word, a word for a long; by the outside emulators ours is what the part does
+    ∷ row (mc68060 ∷ []) (own ∷ []) (fpDisabled ∷ []) (field 0x02 0) always  -- a handler that emulates the instruction and returns runs it again; the 68060 software package copies +0xC to +2 before RTE, and does not notice
+    ∷ row (mc68000 ∷ []) (byVector ∷ []) errors fields always  -- a caller that raises an error by its vector gets a frame of 6 bytes without address
+    ∷ row (mc68000 ∷ []) (byVector ∷ []) errors length always  -- the stack is 8 bytes higher than a handler expects
+    ∷ row (mc68010 ∷ mc68020 ∷ mc68030 ∷ mc68040 ∷ mc68060 ∷ []) (byVector ∷ []) errors format always  -- a caller that raises an error by its vector gets a frame of 8 bytes without address
+    ∷ row from68020 (byVector ∷ []) (group2 ∷ []) format always  -- a handler finds no address of the instruction at +8
+    ∷ row every (byVector ∷ []) (group2 ∷ []) (field 0x02 0) chk  -- a return runs CHK again
+    ∷ row (mc68020 ∷ mc68030 ∷ []) (byVector ∷ []) (protocol ∷ []) format always  -- RTE takes 8 bytes, and the instruction's address is not told
+    ∷ row (mc68030 ∷ []) (byVector ∷ []) (configuration ∷ []) format always  -- RTE takes 8 bytes, and the instruction's address is not told
+    ∷ row (mc68030 ∷ []) (byVector ∷ []) (configuration ∷ []) (field 0x02 0) always  -- a return runs the instruction again
+    ∷ row every (byVector ∷ []) (interrupt ∷ []) status always  -- a handler that is entered so keeps the old mask: an interrupt of its own level comes in again
+    ∷ row every (byVector ∷ []) (interrupt ∷ []) (field 0x02 0) vectored  -- a return runs the interrupted instruction again
+    ∷ row (mc68020 ∷ mc68030 ∷ mc68040 ∷ []) (byVector ∷ []) (interrupt ∷ []) fields inMaster  -- a handler runs on the master stack, and no frame of format 1 lies on the interrupt stack
+    ∷ row (mc68020 ∷ mc68030 ∷ mc68040 ∷ []) (byVector ∷ []) (interrupt ∷ []) length inMaster  -- A7 is the master stack's
+    ∷ row (mc68000 ∷ []) (byVector ∷ own ∷ []) any pc based  -- a record with a vector base takes its handlers from there; the part has no such register
+    ∷ row (mc68020 ∷ []) (byVector ∷ own ∷ []) any pins past24  -- addresses from 0x1000000 on are not those below it
     ∷ []
 
 -- ---- where a row applies
@@ -114,11 +115,11 @@ met past24 s c v x = eqb (s .lines) 24 && past x
 abbrev pub applies : State → Via → Class → ℕ → Option ℕ → Row → Bool
 applies s w c v x r = (member number (s .family) (r .families) && (member way w (r .ways) && member place c (r .classes))) && met (r .when) s c v x
 
-abbrev lowest : Span → ℕ
+abbrev pub lowest : Span → ℕ
 lowest whole = 0
 lowest (bits low n) = low
 
-abbrev coversField : What → Field → Bool
+abbrev pub coversField : What → Field → Bool
 coversField (field o l) t = eqb o (t .offset) && eqb l (lowest (t .span))
 coversField fields t = true
 coversField format t = leb 6 (t .offset)

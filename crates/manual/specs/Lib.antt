@@ -17,3 +17,5 @@ pub mod ErrorEntries
 pub mod Double
 pub mod Levels
 pub mod Holds
+pub mod Computed
+pub mod Shown
