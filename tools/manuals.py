@@ -153,6 +153,11 @@ def section():
         ours = "; ".join(dict.fromkeys(u for _, _, u in values))
         smallest = shown[n][0][1] + "".join(f", {m}" for m in shown[n][0][2])
         lines.append(f"| {n} | {reference.listed(ks)} | {call_of(row)} | {what_of(row)} | {WHENS[row[4]]} | {manual} | {ours} | `{smallest}` | {row[5]} |")
+    lines += ["", "The return refuses these frames by 13, which RTE takes (`formats-are`, `return-rows-shown`):", "", "| Kinds | Format | Bytes by the manual |", "|---|---|---|"]
+    source = text("Returns")
+    for family, number in re.findall(r"untaken (mc\w+) (\d+)", source):
+        length = re.findall(r"\d+", re.search(rf"^formats {family} = (.*)$", source, re.M)[1])[int(number)]
+        lines.append(f"| {reference.listed(parts[family])} | {int(number):X} | {length} |")
     return "\n".join(lines + ["", END])
 
 

@@ -19,3 +19,5 @@ pub mod Levels
 pub mod Holds
 pub mod Computed
 pub mod Shown
+pub mod Returns
+pub mod ReturnHolds

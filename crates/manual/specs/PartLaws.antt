@@ -57,7 +57,7 @@ twenty mc68030 = false
 twenty mc68040 = false
 twenty mc68060 = false
 
-abbrev same : Bool → Bool → Bool
+abbrev pub same : Bool → Bool → Bool
 same true b = b
 same false b = not b
 
