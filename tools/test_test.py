@@ -21,10 +21,10 @@ ci) echo "rt: types proved (1 s)"; cat "$CI" ;;
 check) echo "rt: types proved (unchanged since it was last proved)" ;;
 esac
 """
-TOOLS = ["generate.py", "drawing.py", "crossings.py", "assurance.py", "reference.py", "run_test.py", "test_test.py", "long_test.py", "sample.sh",
+TOOLS = ["generate.py", "drawing.py", "crossings.py", "assurance.py", "reference.py", "manuals.py", "run_test.py", "test_test.py", "long_test.py", "sample.sh",
          "sessions.sh", "compare.sh"]
 FIRST = ["generate.py --check", "drawing.py --check", "crossings.py --most 85", "assurance.py --check",
-         "reference.py --check", "run_test.py", "test_test.py", "long_test.py"]
+         "reference.py --check", "manuals.py --check", "run_test.py", "test_test.py", "long_test.py"]
 
 
 def compared(sessions, count, lists):
@@ -130,7 +130,7 @@ class Test(unittest.TestCase):
         self.write("kit", "kit 2\n")
         for arguments in [], ["--quick"]:
             code, out, _, calls = self.call(*arguments)
-            self.assertEqual((code, len(calls)), (0, 13))
+            self.assertEqual((code, len(calls)), (0, 14))
             said = [at for at, line in enumerate(out) if "warning" in line and "kit 1" in line and "kit 2" in line]
             self.assertEqual(said, [1, len(out) - 2])
 

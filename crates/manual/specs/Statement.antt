@@ -1,0 +1,47 @@
+-- WHAT IS CLAIMED of an entry: the frame at A7, the frame under it, A7, status and PC are the manual's, wherever it defines them and no row of the table of
+-- differences stands. Bytes are those of the store; its addresses are those that the kind masks, and `pins` says when these are the part's.
+use Prim.Native.Nat.{ℕ, _+_, _%_, _≤_, _<_}
+use mathlib.Core.Path.{_≡_}
+use mathlib.Core.Bool.{Bool, true, false}
+use mathlib.Core.Logic.{_⊎_}
+use mathlib.Core.List.{List, [], _∷_}
+use mathlib.Core.Option.{Option, some}
+use Rattle.types.specs.Kinds.{maskAddress}
+use Rattle.cpu.specs.Fields.{kindOf, pcOf, a7Of}
+use Rattle.status.specs.Status.{getSr}
+use Rattle.memory.specs.World.{World, cpuOf}
+use Rattle.nest.specs.View.{Bytes, peek, view}
+use Rattle.nest.specs.Written.{longAt}
+use Rattle.entered.specs.Bytes.{mem}
+use Rattle.entered.specs.Pointers.{regsOf}
+use Rattle.manual.specs.State.{State, onPins}
+use Rattle.manual.specs.Vectors.{vectorAt}
+use Rattle.manual.specs.Formats.{Field}
+use Rattle.manual.specs.Exceptions.{fieldsOf, topFields, throwsAway, firstFrame, pointerAfter, statusAfter}
+use Rattle.manual.specs.Differences.{Row, fieldDiffers, lengthDiffers, statusDiffers, pcDiffers, pinsDiffer}
+use Rattle.manual.specs.Calls.{Event}
+use Rattle.manual.specs.Cells.{partOf, readAt}
+
+-- the bytes hold x in field t of the frame at p
+abbrev pub Reads : Bytes → ℕ → ℕ → Field → ℕ → Type 0
+Reads b k p t x = partOf (t .span) (readAt b (t .long) (maskAddress k ((p + t .offset) % 0x100000000))) ≡ some x
+
+-- a field that has a value and no row lies where the manual has it
+abbrev pub Found : List Row → State → Event → Bytes → ℕ → ℕ → Field → Type 0
+Found rows s e b k p t = (x : ℕ) → t .value ≡ some x → fieldDiffers rows s (e .via) (e .class) (e .vector) t ≡ false → Reads b k p t x
+
+abbrev pub Each : (Field → Type 0) → List Field → Type 0
+Each P [] = Unit {0}
+Each P (t ∷ ts) = P t × Each P ts
+
+-- two frames of 8 bytes that share none
+abbrev pub Apart : ℕ → ℕ → ℕ → Type 0
+Apart k p q = (maskAddress k p + 8 ≤ maskAddress k q) ⊎ (maskAddress k q + 8 ≤ maskAddress k p)
+
+-- an entry from w that is the exception e in state s, and leaves z
+pub record Agrees (rows : List Row) (s : State) (e : Event) (w z : World) : Type 0 where
+  pub frame : Each (Found rows s e (peek (mem z)) (kindOf (cpuOf w)) (a7Of (cpuOf z))) (topFields s (e .class) (e .vector))
+  pub pointer : lengthDiffers rows s (e .via) (e .class) (e .vector) ≡ false → a7Of (cpuOf z) ≡ pointerAfter s (e .class)
+  pub status : statusDiffers rows s (e .via) (e .class) (e .vector) ≡ false → getSr (cpuOf z) ≡ statusAfter s (e .class)
+  pub pc : pcDiffers rows s (e .via) (e .class) (e .vector) ≡ false → longAt (peek (mem z)) (maskAddress (kindOf (cpuOf w)) (vectorAt s (e .vector))) ≡ some (pcOf (cpuOf z))
+  pub pins : (a : ℕ) → pinsDiffer rows s (e .via) (e .class) (e .vector) a ≡ false → onPins (s .lines) a ≡ maskAddress (kindOf (cpuOf w)) a
