@@ -43,6 +43,9 @@ if command -v gcc >/dev/null 2>&1; then
     for name in examples/entry tests/lent; do
         gcc -std=c11 -O1 -g -Wall -Wextra -Werror -I "$here/include" -o "$made/$(basename $name)" "$here/$name.c" "$lib/liblent.a" || exit 1
     done
+    for language in '-x c -std=c99 -pedantic' '-x c -std=c17 -pedantic' '-x c++ -std=c++17 -pedantic'; do
+        echo '#include "m68k.h"' | gcc $language -Wall -Wextra -Werror -fsyntax-only -I "$here/include" - || exit 1
+    done
     if ! "$made/entry" | cmp - "$here/examples/entry.out" || ! "$made/lent" 200000 68010; then
         echo "host: error: a test in C failed"
         exit 1

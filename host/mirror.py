@@ -51,6 +51,14 @@ C_HEAD = """\
 extern "C" {
 #endif
 """
+C_ASSERT = """\
+/* The layout that the archive was compiled for, asserted where the language can. */
+#if defined(__cplusplus) && __cplusplus >= 201103L
+#define M68K_ASSERT static_assert
+#elif defined(__STDC_VERSION__) && __STDC_VERSION__ >= 201112L
+#define M68K_ASSERT _Static_assert
+#endif
+#ifdef M68K_ASSERT"""
 C_TYPES = {"u8": "uint8_t", "u16": "uint16_t", "u32": "uint32_t", "i32": "int32_t", "usize": "size_t"}
 
 # What a reader of the header is told of each function.
@@ -323,13 +331,13 @@ def c_header(crates):
         out.append(f"struct {c_name(name)} {{")
         out += [f"    {c_field(field, kind)};" for field, kind in fields]
         out.append("};\n")
-    out.append("#if defined(__STDC_VERSION__) && __STDC_VERSION__ >= 201112L")
+    out.append(C_ASSERT)
     for name in layout.structs:
         size, _, offsets = layout.struct(name)
         tag = "struct " + c_name(name)
-        out.append(f'_Static_assert(sizeof({tag}) == {size}, "{c_name(name)}");')
-        out += [f'_Static_assert(offsetof({tag}, {field}) == {at}, "{field}");' for field, at in offsets]
-    out.append("#endif\n")
+        out.append(f'M68K_ASSERT(sizeof({tag}) == {size}, "{c_name(name)}");')
+        out += [f'M68K_ASSERT(offsetof({tag}, {field}) == {at}, "{field}");' for field, at in offsets]
+    out.append("#undef M68K_ASSERT\n#endif\n")
     out.append("/* The calls by number, with their arguments: a byte or a word is the low bits of its argument, a flag is set where it is not 0, a\n"
                " * cause is 0 for none or 1 to 8. `answer` is what stands behind the arrow. */\nenum m68k_number {")
     gives = answers(crates)

@@ -482,7 +482,7 @@ mod tests {
             let vbr = core.base();
             core.set_vbr(vbr & !1);
             for byte in memory[start..start + 0x400].chunks_exact_mut(4) {
-                let handler = start as u32 + n.below(0x1_0000) & !1;
+                let handler = (start as u32 + n.below(0x1_0000)) & !1;
                 byte.copy_from_slice(&handler.to_be_bytes());
             }
             let call = any_call(&mut n);

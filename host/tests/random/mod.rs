@@ -14,7 +14,7 @@ impl Numbers {
     }
 
     pub fn below(&mut self, limit: u32) -> u32 {
-        (u64::from(self.next()) * u64::from(limit) >> 32) as u32
+        ((u64::from(self.next()) * u64::from(limit)) >> 32) as u32
     }
 
     pub fn of<T: Copy>(&mut self, all: &[T]) -> T {
