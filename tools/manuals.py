@@ -31,6 +31,7 @@ DRAWN = [("68000-6-bytes", "68000: all but errors", "short68000", "shortFrame", 
          ("format-4-disabled", "68060: floating-point unit disabled, format 4", "format4Disabled", "disabledFrame", 16),
          ("format-7", "68040: access error, format 7", "format7", "frame7", 60), ("format-8", "68010: bus and address error, format 8", "format8", "frame8", 58),
          ("format-9", "68020, 68030: coprocessor protocol violation, format 9; ours is format 0", "format9", "shortFrame", 20),
+         ("format-A", "68020, 68030: bus error at an instruction's boundary, format A; never made here", "formatA", "", 32),
          ("format-B", "68020, 68030: bus error, format B", "formatB", "frame11", 92),
          ("format-B-address-error", "68020, 68030: address error, format B; ours is format 0", "formatB", "frame0", 92)]
 # which rows of the table of differences a drawing marks: parts, exception, way
@@ -230,7 +231,7 @@ def drawing(key, title, table, own, size):
     height = max(bottom, y2) + 12
     head = [f'<svg xmlns="http://www.w3.org/2000/svg" width="{LEFT + 2 * WIDE + GAP + 12}" height="{height}" font-family="monospace" font-size="11">',
             "<!-- written by tools/manuals.py -->", f'<rect width="100%" height="100%" fill="#ffffff"/>', f'<text x="{LEFT}" y="18" font-size="13" font-weight="bold">{escaped(title)}</text>',
-            f'<text x="{LEFT}" y="44">manual ({size} bytes)</text>', f'<text x="{LEFT + WIDE + GAP}" y="44">ours (`{own}`)</text>']
+            f'<text x="{LEFT}" y="44">manual ({size} bytes)</text>', f'<text x="{LEFT + WIDE + GAP}" y="44">{f"ours (`{own}`)" if own else "ours: never made"}</text>']
     return "\n".join(head + out + ["</svg>", ""])
 
 

@@ -152,6 +152,33 @@ module _ (y : World) (f : Frame) (s : Shape f) (h : Ready y f) (z : World) (m : 
           let b : Back (t .offset) (t .long) u = found-back (t .offset) (t .long) u p in
           ap (λ (a : ℕ). partOf (t .span) (readAt (peek (mem z)) (t .long) a)) (b .spot) ∙ ap (partOf (t .span)) (b .value) ∙ q
 
+-- the same, at its offset from the frame's lowest byte
+module _ (y : World) (f : Frame) (s : Shape f) (h : Ready y f) (z : World) (m : Image y z f) where
+  pub frame-at : (t : Field) (x : ℕ) → partOf (t .span) (inFrame f (t .offset) (t .long)) ≡ some x
+      → (partOf (t .span) (readAt (peek (mem z)) (t .long) (bottom y f + t .offset)) ≡ some x) × (maskAddress (kindOf (cpuOf y)) ((newA7 y f + t .offset) % 2 ^ 32) ≡ bottom y f + t .offset)
+  frame-at t x e = go (inFrame f (t .offset) (t .long)) refl e
+    where
+      go : (o : Option ℕ) → inFrame f (t .offset) (t .long) ≡ o → partOf (t .span) o ≡ some x
+          → (partOf (t .span) (readAt (peek (mem z)) (t .long) (bottom y f + t .offset)) ≡ some x) × (maskAddress (kindOf (cpuOf y)) ((newA7 y f + t .offset) % 2 ^ 32) ≡ bottom y f + t .offset)
+      go none p q = no-some x q
+      go (some u) p q =
+          let b : Back y f s h z m (t .offset) (t .long) u = found-back y f s h z m (t .offset) (t .long) u p in
+          (ap (partOf (t .span)) (b .value) ∙ q, b .spot)
+
+-- what is read is the same where the bytes are
+pub read-same : (b d : Bytes) (g : Bool) (a : ℕ) → ((j : ℕ) → j < cond g 4 2 → b (a + j) ≡ d (a + j)) → readAt b g a ≡ readAt d g a
+read-same b d true a h =
+    let z : a + 0 ≡ a = omega arith in
+    let u : a + 1 + 1 ≡ a + 2 = omega arith in
+    let v : a + 2 + 1 ≡ a + 3 = omega arith in
+    let p : b a ≡ d a = rw z at (h 0 (omega arith)) in
+    let q : b (a + 2 + 1) ≡ d (a + 2 + 1) = rw v (h 3 (omega arith)) in
+    rw (p, h 1 (omega arith), h 2 (omega arith), q)
+read-same b d false a h =
+    let z : a + 0 ≡ a = omega arith in
+    let p : b a ≡ d a = rw z at (h 0 (omega arith)) in
+    rw (p, h 1 (omega arith))
+
 -- ---- a frame that holds what the manual's table says, but where a row of the table of differences stands
 
 -- one field: excluded, without a value, or held

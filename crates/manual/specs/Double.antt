@@ -1,7 +1,8 @@
 -- An interrupt in the master state: two frames. What lies at A7, A7, status and PC.
 use Prim.Native.Nat.{ℕ, _+_, _-_, _*_, _/_, _%_, _^_, _≤_, _<_}
 use mathlib.Core.Path.{_≡_, refl, sym, ap, _∙_, subst}
-use mathlib.Core.Bool.{Bool, true, false}
+use mathlib.Core.Bool.{Bool, true, false, cond}
+use mathlib.Core.Logic.{inl, inr}
 use mathlib.Core.List.{List, [], _∷_}
 use mathlib.Core.Option.{Option, none, some}
 use native.Mathlib.Omega.{arith}
@@ -11,9 +12,10 @@ use Rattle.cpu.specs.Fields.{kindOf, pcOf, vbrOf, a7Of, addressOf, setA7, setPc
 use Rattle.status.specs.Status.{getSr, compose}
 use Rattle.status.specs.Banks.{backupSp, restoreSp, setSmFlagNosp, setSmFlag}
 use Rattle.memory.specs.World.{World, putCpu, stored, cpuOf}
+use Rattle.memory.specs.Runs.{Outside}
 use Rattle.frames.specs.declared.Frame.{Frame}
 use Rattle.steps.specs.Steps.{vectorAddress}
-use Rattle.images.specs.Images.{Shape, Ready, Image, frameBytes, newA7}
+use Rattle.images.specs.Images.{Shape, Ready, Image, frameBytes, newA7, bottom}
 use Rattle.images.specs.Jumps.{handler, vectorPlace}
 use Rattle.forms.specs.Gist.{gist, gistCpu, framedBy}
 use Rattle.forms.specs.Jumps.{jumped}
@@ -24,13 +26,13 @@ use Rattle.nest.specs.Reading.{view-a7, view-kind}
 use Rattle.nest.specs.Banks.{select, withA7, view-select, view-withA7}
 use Rattle.nest.specs.Written.{longAt}
 use Rattle.entered.specs.Pointers.{stacksOf, Fit, leave-stacks, leave-fit}
-use Rattle.entered.specs.Bytes.{mem, long-read, turned-mem, jumped-mem}
+use Rattle.entered.specs.Bytes.{mem, long-read, turned-mem, jumped-mem, same-peek}
 use Rattle.entered.specs.Heads.{framed-image}
 use Rattle.entered.specs.One.{Enters, Keeps, turned-stacks, turned-fit, turned-kind, turned-gist, jumped-stacks, framed-stacks, framed-fit, framed-kind, top-of}
 use Rattle.entered.specs.Two.{twoOf}
 use Rattle.manual.specs.Formats.{Field}
-use Rattle.manual.specs.Cells.{partOf, readAt, inFrame, frame-back}
-use Rattle.manual.specs.Statement.{Reads}
+use Rattle.manual.specs.Cells.{partOf, readAt, inFrame, frame-back, frame-at, read-same}
+use Rattle.manual.specs.Statement.{Reads, Apart}
 use Rattle.manual.specs.Single.{Still}
 
 leave-kind : (c : Cpu) → kindOf (setSmFlag c 4) ≡ kindOf c
@@ -156,3 +158,38 @@ module _ (x : World) (turn close : Cpu → Cpu) (f h : Frame) (v : ℕ) (fit : F
       ap (λ (s : Store). longAt (peek s) (maskAddress (kindOf (cpuOf x)) ((vbrOf (cpuOf x) + 4 * v) % 0x100000000))) (turned-mem (jumped U v) close ∙ jumped-mem U v)
       ∙ ap (longAt (peek (mem U))) (sym (u-place l)) ∙ long-read U (vectorPlace U v) (handler U v) (cl .reach .serves) refl
       ∙ ap {B = Option ℕ} some (sym (planned-pc x (twoOf turn f h v close) kp))
+
+  -- the first frame, where the second shares no byte with it
+  ready-1 : Ready Y f
+  unfolding AllReady
+  ready-1 = cl .stacks .0
+
+  image-1 : Image Y X f
+  image-1 = framed-image Y f (turned-gist x turn) sf ready-1
+
+  y-kind : kindOf (cpuOf Y) ≡ kindOf (cpuOf x)
+  y-kind = turned-kind x turn ∙ en (cpuOf x) fit .kind
+
+  pub two-under : frameBytes h (h .count) ≡ 8 → (p : ℕ) → p ≡ newA7 Y f → Apart (kindOf (cpuOf x)) (a7Of (cpuOf Z)) p
+      → (t : Field) (n : ℕ) → t .offset + cond (t .long) 4 2 ≤ 8 → partOf (t .span) (inFrame f (t .offset) (t .long)) ≡ some n → Reads (peek (mem Z)) (kindOf (cpuOf x)) p t n
+  two-under eight p pe part t n l e =
+      let v = frame-at Y f sf ready-1 X image-1 t n e in
+      ap (λ (q : ℕ). partOf (t .span) (readAt (peek (mem Z)) (t .long) (maskAddress (kindOf (cpuOf x)) ((q + t .offset) % 0x100000000)))) pe
+      ∙ ap (λ (k : ℕ). partOf (t .span) (readAt (peek (mem Z)) (t .long) (maskAddress k ((newA7 Y f + t .offset) % 0x100000000)))) (sym y-kind)
+      ∙ ap (λ (a : ℕ). partOf (t .span) (readAt (peek (mem Z)) (t .long) a)) (v .1)
+      ∙ ap (partOf (t .span)) (read-same (peek (mem Z)) (peek (mem X)) (t .long) (bottom Y f + t .offset) same-bytes) ∙ v .0
+    where
+      upper : maskAddress (kindOf (cpuOf x)) (a7Of (cpuOf Z)) ≡ bottom R h
+      upper = ap (maskAddress (kindOf (cpuOf x))) z-a7 ∙ ap (λ (k : ℕ). maskAddress k (newA7 R h)) (sym v-kind)
+
+      lower-one : maskAddress (kindOf (cpuOf x)) p ≡ bottom Y f
+      lower-one = ap (maskAddress (kindOf (cpuOf x))) pe ∙ ap (λ (k : ℕ). maskAddress k (newA7 Y f)) (sym y-kind)
+
+      out : (j : ℕ) → j < cond (t .long) 4 2 → Apart (kindOf (cpuOf x)) (a7Of (cpuOf Z)) p → Outside (bottom R h) (frameBytes h (h .count)) (bottom Y f + t .offset + j)
+      out j m (inl q) = inr (omega (arith, eight, upper, lower-one))
+      out j m (inr q) = inl (omega (arith, eight, upper, lower-one))
+
+      same-bytes : (j : ℕ) → j < cond (t .long) 4 2 → peek (mem Z) (bottom Y f + t .offset + j) ≡ peek (mem X) (bottom Y f + t .offset + j)
+      same-bytes j m =
+          ap (λ (s : Store). peek s (bottom Y f + t .offset + j)) z-mem ∙ same-peek R Q (bottom Y f + t .offset + j) (image .bus) (image .size) (image .others (bottom Y f + t .offset + j) (out j m part))
+          ∙ ap (λ (s : Store). peek s (bottom Y f + t .offset + j)) (turned-mem X (λ d. setSmFlag d 4))

@@ -40,7 +40,8 @@ use Rattle.manual.specs.Parts.{Family, mc68000, mc68010, mc68020, mc6803
 use Rattle.manual.specs.State.{State, Fault, isSet, entered, supervisorPointer, down, onPins}
 use Rattle.manual.specs.State.{functionCode as codeBy}
 use Rattle.manual.specs.Vectors.{Class, instruction, trap, group2, interrupt, busError, addressError, protocol, configuration, fpUnimplemented, fpDisabled, vectorAt, classOf}
-use Rattle.manual.specs.Exceptions.{fieldsOf, topFields, pointerAfter, statusAfter}
+use Rattle.manual.specs.Exceptions.{fieldsOf, topFields, throwsAway, pointerAfter, statusAfter}
+use Rattle.manual.specs.Formats.{Field}
 use Rattle.manual.specs.Differences.{Via, byVector, own, way, differences, fieldDiffers, lengthDiffers, statusDiffers, pcDiffers, pinsDiffer}
 use Rattle.manual.specs.Calls.{Event, event, stateBy, codeOf, faultBy, noFault}
 use Rattle.manual.specs.Cells.{Holding}
@@ -50,7 +51,7 @@ use Rattle.manual.specs.Plain.{of, first, early, plain, twelve, instruct
 use Rattle.manual.specs.Errors.{fault, first-busError, first-addressError, second-busError, second-addressError, third-busError, third-addressError, fourth-busError, fourth-addressError, sixth-busError, sixth-addressError}
 use Rattle.manual.specs.Errors.{at as withFault}
 use Rattle.manual.specs.PartLaws.{Tests, impossible, both-true, forty, sixty, pointer-is, entered-status, bus-status, vector-is, pins-are}
-use Rattle.manual.specs.Lengths.{plainBytes, group2Bytes, busBytes, addressBytes, isInterrupt, hasProtocol, hasConfiguration, rule, rules, instruction-byVector-length, instruction-own-length, trap-byVector-length, trap-own-length, group2-own-length, group2-byVector-length, busError-own-length, addressError-own-length, busError-byVector-length, addressError-byVector-length, protocol-length, configuration-length, unimplemented-length, disabled-length, interrupt-byVector-length, status-is}
+use Rattle.manual.specs.Lengths.{plainBytes, group2Bytes, busBytes, addressBytes, isInterrupt, hasProtocol, hasConfiguration, rule, rules, instruction-byVector-length, instruction-own-length, trap-byVector-length, trap-own-length, group2-own-length, group2-byVector-length, busError-own-length, addressError-own-length, busError-byVector-length, addressError-byVector-length, protocol-length, configuration-length, unimplemented-length, disabled-length, interrupt-byVector-length, status-is, under-of}
 
 -- ---- one frame, any plan
 
@@ -118,7 +119,7 @@ module _ (w : World) (F : Family) (t : Tests F (kindOf (cpuOf w))) (so : Sound (
   unfolding stackTop stacksOf gist gistCpu kindOf a7Of
   top-gist = refl
 
-  pointer-of : (fa : Fault) (op : Option ℕ) → stackTop (cpuOf (gist w)) ≡ supervisorPointer (stateBy w F fa op)
+  pub pointer-of : (fa : Fault) (op : Option ℕ) → stackTop (cpuOf (gist w)) ≡ supervisorPointer (stateBy w F fa op)
   unfolding supervisorPointer stateBy
   pointer-of fa op = top-gist ∙ pointer-is F (cpuOf w) t so
 
@@ -146,6 +147,10 @@ module _ (w : World) (F : Family) (t : Tests F (kindOf (cpuOf w))) (so : Sound (
     unfolding stateBy
     status-of e i = status-is (stateBy w F fa op) v F via cl e i
 
+    under-here : (via ≡ own → isInterrupt cl ≡ false) → (P : Field → ℕ → Type 0) → throwsAway S cl ≡ true → Each (λ q. (m : ℕ) → q .value ≡ some m → fieldDiffers differences S via cl v q ≡ false → P q m) (fieldsOf S cl v)
+    unfolding stateBy
+    under-here i P d = under-of (stateBy w F fa op) v P F via cl i d
+
     pub flags-status : (c d : Cpu) → c .flags ≡ d .flags → getSr (same c) ≡ getSr (same d)
     unfolding getSr
     flags-status c d e = ap compose e
@@ -154,9 +159,11 @@ module _ (w : World) (F : Family) (t : Tests F (kindOf (cpuOf w))) (so : Sound (
     pub settled-agrees : (turn settle close : Cpu → Cpu) (f : Frame) (n : ℕ) → Enters turn → Still turn → Still settle → ((c : Cpu) → stacksOf (settle c) .a7 ≡ stacksOf c .a7)
         → ((c d : Cpu) → c .flags ≡ d .flags → getSr (settle c) ≡ getSr (settle d)) → End close → Sized f n → Holding f (fieldDiffers differences S via cl v) (topFields S cl v)
         → (lengthDiffers differences S via cl v ≡ false → pointerAfter S cl ≡ down (supervisorPointer S) n) → (statusDiffers differences S via cl v ≡ false → getSr (settle (turn (cpuOf (gist w)))) ≡ statusAfter S cl)
+        → ((P : Field → ℕ → Type 0) → throwsAway S cl ≡ true → Each (λ q. (m : ℕ) → q .value ≡ some m → fieldDiffers differences S via cl v q ≡ false → P q m) (fieldsOf S cl v))
         → Clean (gist w) (oneOf turn f settle v close) → Agrees differences S (event cl v via) w (planned (gist w) (oneOf turn f settle v close))
-    settled-agrees turn settle close f n te ts ss sa sf en z h l st c =
+    settled-agrees turn settle close f n te ts ss sa sf en z h l st un c =
         record {
+          under = λ d a. un _ d;
           frame = subst (λ (k : ℕ). Each (λ q. (m : ℕ) → q .value ≡ some m → fieldDiffers differences S via cl v q ≡ false → Reads (peek (mem P)) k (a7Of (cpuOf P)) q m) (topFields S cl v)) kind-gist
               (holding-found f (fieldDiffers differences S via cl v) (Reads (peek (mem P)) (kindOf (cpuOf (gist w))) (a7Of (cpuOf P)))
               (one-reads (gist w) turn settle close f v fit te ts ss sa (en .keeps) (en .pc) (en .status) (z .shape) c) (topFields S cl v) h);
@@ -177,6 +184,7 @@ module _ (w : World) (F : Family) (t : Tests F (kindOf (cpuOf w))) (so : Sound (
         → Agrees differences S (event cl v via) w (planned (gist w) (single turn f v close))
     one-agrees turn close f n tu en z h l i =
         settled-agrees turn same close f n (tu .enters) (tu .still) still-same (λ d. refl) flags-status en z h l (λ e. tu .status (cpuOf (gist w)) ∙ ap entered status-gist ∙ status-of e i)
+        (under-here i)
 
 -- ---- sizes of frames
 

@@ -161,3 +161,15 @@ formatB sr pc fw f =
     ∷ word 0x32 internal none ∷ word 0x34 internal none ∷ word 0x36 internal none ∷ long 0x38 internal none ∷ long 0x3C internal none
     ∷ long 0x40 internal none ∷ long 0x44 internal none ∷ long 0x48 internal none ∷ long 0x4C internal none ∷ long 0x50 internal none
     ∷ long 0x54 internal none ∷ long 0x58 internal none ∷ []
+
+-- format A of the 68020 and 68030, 32 bytes, at an instruction's boundary: MC68020UM 6.3.5, MC68030UM 8.4 (recalled). The program counter is the next instruction's. No exception of
+-- `Exceptions` stacks it: a call names the instruction in execution
+abbrev pub formatA : ℕ → ℕ → ℕ → Fault → List Field
+formatA sr next fw f =
+    word 0x00 statusRegister (some sr) ∷ long 0x02 programCounter (some next) ∷ word 0x06 formatVector (some fw) ∷ word 0x08 internal none
+    ∷ inWord 0x0A 15 1 faultOnC (some 0) ∷ inWord 0x0A 14 1 faultOnB (flag (f .instruction)) ∷ inWord 0x0A 13 1 rerunC (some 0)
+    ∷ inWord 0x0A 12 1 rerunB (flag (f .instruction)) ∷ inWord 0x0A 8 1 dataFault (flag (not (f .instruction))) ∷ inWord 0x0A 7 1 readModifyWrite unsaid
+    ∷ inWord 0x0A 6 1 readWrite (only (not (f .instruction)) (cond (f .write) 0 1)) ∷ inWord 0x0A 4 2 size (cond (f .instruction) none (size020 (f .size)))
+    ∷ inWord 0x0A 0 3 functionCode (only (not (f .instruction)) (f .code)) ∷ word 0x0C stageC unsaid ∷ word 0x0E stageB unsaid
+    ∷ long 0x10 faultAddress (only (not (f .instruction)) (f .address)) ∷ long 0x14 internal none
+    ∷ long 0x18 dataOutput (only (not (f .instruction) && f .write) (f .datum)) ∷ long 0x1C internal none ∷ []

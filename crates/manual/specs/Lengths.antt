@@ -13,8 +13,10 @@ use Rattle.steps.specs.Steps.{stacksNext}
 use Rattle.manual.specs.Parts.{Family, mc68000, mc68010, mc68020, mc68030, mc68040, mc68060, hasMaster}
 use Rattle.manual.specs.State.{State, isSet, entered, interrupted, supervisorPointer, down}
 use Rattle.manual.specs.Vectors.{Class, instruction, trap, group2, interrupt, busError, addressError, protocol, configuration, fpUnimplemented, fpDisabled, classOf}
-use Rattle.manual.specs.Exceptions.{lengthOf, firstFrame, pointerAfter, statusAfter, throwsAway}
-use Rattle.manual.specs.Differences.{Via, byVector, own, differences, lengthDiffers, statusDiffers}
+use Rattle.manual.specs.Exceptions.{fieldsOf, lengthOf, firstFrame, pointerAfter, statusAfter, throwsAway}
+use Rattle.manual.specs.Formats.{Field}
+use Rattle.manual.specs.Statement.{Each}
+use Rattle.manual.specs.Differences.{Via, byVector, own, differences, fieldDiffers, lengthDiffers, statusDiffers}
 use Rattle.manual.specs.Plain.{of, first, early, second}
 use Rattle.manual.specs.PartLaws.{impossible, both-true, forty, sixty}
 
@@ -193,6 +195,32 @@ module _ (s : State) (v : ℕ) where
   status-is f w configuration e h = refl
   status-is f w fpUnimplemented e h = refl
   status-is f w fpDisabled e h = refl
+
+-- ---- no frame under the first but of an interrupt
+
+or-true : (a : Bool) → (a || true) ≡ true
+or-true true = refl
+or-true false = refl
+
+pub under-of : (s : State) (v : ℕ) (P : Field → ℕ → Type 0) (f : Family) (w : Via) (c : Class) → (w ≡ own → isInterrupt c ≡ false) → throwsAway (of f s) c ≡ true
+    → Each (λ t. (x : ℕ) → t .value ≡ some x → fieldDiffers differences (of f s) w c v t ≡ false → P t x) (fieldsOf (of f s) c v)
+unfolding differences fieldDiffers fieldsOf
+under-of s v P f w instruction h d = impossible (sym d)
+under-of s v P f w trap h d = impossible (sym d)
+under-of s v P f w group2 h d = impossible (sym d)
+under-of s v P f w busError h d = impossible (sym d)
+under-of s v P f w addressError h d = impossible (sym d)
+under-of s v P f w protocol h d = impossible (sym d)
+under-of s v P f w configuration h d = impossible (sym d)
+under-of s v P f w fpUnimplemented h d = impossible (sym d)
+under-of s v P f w fpDisabled h d = impossible (sym d)
+under-of s v P f own interrupt h d = impossible (h refl)
+under-of s v P mc68000 byVector interrupt h d = impossible (sym d)
+under-of s v P mc68010 byVector interrupt h d = impossible (sym d)
+under-of s v P mc68020 byVector interrupt h d = (λ x q o. impossible (rw d at o), (λ x q o. impossible (sym (or-true (eqb v 15 || leb 64 v)) ∙ (rw d at o)), (λ x q o. impossible (rw d at o), tt)))
+under-of s v P mc68030 byVector interrupt h d = (λ x q o. impossible (rw d at o), (λ x q o. impossible (sym (or-true (eqb v 15 || leb 64 v)) ∙ (rw d at o)), (λ x q o. impossible (rw d at o), tt)))
+under-of s v P mc68040 byVector interrupt h d = (λ x q o. impossible (rw d at o), (λ x q o. impossible (sym (or-true (eqb v 15 || leb 64 v)) ∙ (rw d at o)), (λ x q o. impossible (rw d at o), tt)))
+under-of s v P mc68060 byVector interrupt h d = impossible (sym d)
 
 -- ---- the address that `take_exception` stacks, by the class of its vector
 

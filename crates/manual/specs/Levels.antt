@@ -22,35 +22,37 @@ use Rattle.frames.specs.Frames.{fieldAt, isCounted}
 use Rattle.steps.specs.Steps.{iackVector, enterLevel}
 use Rattle.steps.specs.Steps.{withS as engineS}
 use Rattle.formats.specs.Formats.{formatWord, offsetWord, shortFrame}
-use Rattle.images.specs.Images.{frameBytes}
+use Rattle.images.specs.Images.{frameBytes, newA7}
 use Rattle.forms.specs.Gist.{gist, gistCpu}
 use Rattle.forms.specs.Orders.{words6, words8}
-use Rattle.forms.specs.Plans.{Plan, planned, Clean, same, interruptVector, interruptFrame, throwaways, settles, interruptBy, interruptPlan}
+use Rattle.forms.specs.Plans.{Plan, turned, planned, Clean, same, interruptVector, interruptFrame, throwaways, settles, interruptBy, interruptPlan}
 use Rattle.nest.specs.View.{Regs, Bank, srMask, master, bankOf, nonzero, view, peek}
 use Rattle.nest.specs.View.{interrupt as interruptBank}
 use Rattle.nest.specs.Nest.{Sound}
+use Rattle.nest.specs.Banks.{up-a7}
 use Rattle.nest.specs.Laws.{lower}
 use Rattle.nest.specs.Written.{longAt}
 use Rattle.entered.specs.Pointers.{regsOf, stacksOf, view-of, Fit, clearM-stacks}
 use Rattle.entered.specs.Bytes.{mem}
-use Rattle.entered.specs.One.{oneOf, lowers}
+use Rattle.entered.specs.One.{oneOf, lowers, turned-stacks, top-of, stackTop}
 use Rattle.entered.specs.Two.{twoOf}
 use Rattle.entered.specs.Does.{status-fits}
 use Rattle.entered.specs.Turns.{enters-level, keeps-close}
 use Rattle.manual.specs.Parts.{Family, mc68000, mc68010, mc68020, mc68030, mc68040, mc68060, hasMaster}
 use Rattle.manual.specs.State.{State, Fault, isSet, interrupted, supervisorPointer, down, mask}
 use Rattle.manual.specs.Vectors.{interrupt, acknowledged, takesLevel}
-use Rattle.manual.specs.Exceptions.{fieldsOf, throwaway, topFields, pointerAfter, statusAfter, firstFrame, lengthOf, withS}
+use Rattle.manual.specs.Exceptions.{fieldsOf, throwaway, throwsAway, topFields, pointerAfter, statusAfter, firstFrame, lengthOf, withS}
 use Rattle.manual.specs.Differences.{own, differences, fieldDiffers, lengthDiffers, statusDiffers}
 use Rattle.manual.specs.Calls.{event, stateBy, responseFor}
-use Rattle.manual.specs.Cells.{Holding}
-use Rattle.manual.specs.Statement.{Reads, Each, Agrees}
-use Rattle.manual.specs.Single.{Still, holding-found}
-use Rattle.manual.specs.Double.{two-pointer, two-reads, two-status, two-pc}
+use Rattle.manual.specs.Formats.{Field}
+use Rattle.manual.specs.Cells.{partOf, inFrame, Holding}
+use Rattle.manual.specs.Statement.{Reads, Each, Apart, Agrees}
+use Rattle.manual.specs.Single.{Still, Within, holding-found, holding-within}
+use Rattle.manual.specs.Double.{two-pointer, two-reads, two-status, two-pc, two-under}
 use Rattle.manual.specs.Plain.{of, first, early, second, level, interrupt-cells, throwaway-cells}
 use Rattle.manual.specs.PartLaws.{Tests, impossible, mask-bits, sixty, no-m, sound-m, sound-mask, level-status, clear-none, sixty-is}
 use Rattle.manual.specs.Lengths.{plainBytes, interrupt-own-length}
-use Rattle.manual.specs.Entries.{Sized, End, still-same, still-supervisor, settled-agrees, flags-status, vector-of, pins-of, kind-gist, size6, size8}
+use Rattle.manual.specs.Entries.{Sized, End, still-same, still-supervisor, settled-agrees, flags-status, pointer-of, vector-of, pins-of, kind-gist, size6, size8}
 
 -- ---- the vector, and when an interrupt is taken
 
@@ -203,6 +205,10 @@ module _ (w : World) (F : Family) (t : Tests F (kindOf (cpuOf w))) (so : Sound (
   unfolding stateBy
   first-length e = interrupt-own-length S N F e
 
+  no-second : (hasMaster F && isSet 12 (getSr C)) ≡ false → throwsAway S interrupt ≡ true → false ≡ true
+  unfolding stateBy
+  no-second e d = sym e ∙ d
+
   level-after : interrupted L (getSr C) ≡ statusAfter S interrupt
   unfolding statusAfter stateBy pendingLevel
   level-after = refl
@@ -214,7 +220,7 @@ module _ (w : World) (F : Family) (t : Tests F (kindOf (cpuOf w))) (so : Sound (
   one-level settle ss sa sf st e =
       subst (λ (f : Frame). Clean (gist w) (oneOf (λ d. enterLevel d L) f settle N end) → Agrees differences S (event interrupt N own) w (planned (gist w) (oneOf (λ d. enterLevel d L) f settle N end))) (sym (frame-is N))
       (settled-agrees w F t so fit fa none interrupt N own (vector-small C (w .core .bus)) (λ d. enterLevel d L) settle end (level F (getSr C) (pcOf C) (offsetWord N)) (plainBytes F)
-      (enters-level L) (still-level L) ss sa sf end-level (level-size F (getSr C) (pcOf C) (offsetWord N)) (rw (single-top e) first-cells) (λ x. first-length e) (λ x. st ∙ level-after))
+      (enters-level L) (still-level L) ss sa sf end-level (level-size F (getSr C) (pcOf C) (offsetWord N)) (rw (single-top e) first-cells) (λ x. first-length e) (λ x. st ∙ level-after) (λ P d. impossible (sym (no-second e d))))
 
   -- two frames
   top-two : (hasMaster F && isSet 12 (getSr C)) ≡ true → topFields S interrupt N ≡ throwaway S N
@@ -249,6 +255,45 @@ module _ (w : World) (F : Family) (t : Tests F (kindOf (cpuOf w))) (so : Sound (
   unfolding gist gistCpu kindOf
   bank-is e = ap (λ (b : Bool). cond b interruptBank master) (sixty-is (kindOf C) (t .is6) ∙ no-sixty F e)
 
+  eight-of : (f : Family) → hasMaster f ≡ true → plainBytes f ≡ 8
+  eight-of mc68000 e = impossible (sym e)
+  eight-of mc68010 e = refl
+  eight-of mc68020 e = refl
+  eight-of mc68030 e = refl
+  eight-of mc68040 e = refl
+  eight-of mc68060 e = refl
+
+  first-place-by : (f : Family) (s : State) → hasMaster f ≡ true → firstFrame (of f s) interrupt ≡ down (supervisorPointer (of f s)) 8
+  unfolding firstFrame lengthOf
+  first-place-by mc68000 s e = impossible (sym e)
+  first-place-by mc68010 s e = refl
+  first-place-by mc68020 s e = refl
+  first-place-by mc68030 s e = refl
+  first-place-by mc68040 s e = refl
+  first-place-by mc68060 s e = refl
+
+  first-place : hasMaster F ≡ true → firstFrame S interrupt ≡ down (supervisorPointer S) 8
+  unfolding stateBy
+  first-place e = first-place-by F S e
+
+  within-by : (f : Family) (s : State) (v : ℕ) → hasMaster f ≡ true → Within (fieldsOf (of f s) interrupt v)
+  unfolding fieldsOf
+  within-by mc68000 s v e = impossible (sym e)
+  within-by mc68010 s v e = impossible (sym e)
+  within-by mc68020 s v e = (omega arith, (omega arith, (omega arith, tt)))
+  within-by mc68030 s v e = (omega arith, (omega arith, (omega arith, tt)))
+  within-by mc68040 s v e = (omega arith, (omega arith, (omega arith, tt)))
+  within-by mc68060 s v e = impossible (sym e)
+
+  within-of : hasMaster F ≡ true → Within (fieldsOf S interrupt N)
+  unfolding stateBy
+  within-of e = within-by F S N e
+
+  enter-top : a7Of (cpuOf (turned (gist w) (λ d. enterLevel d L))) ≡ stackTop (cpuOf (gist w))
+  unfolding stackTop stacksOf
+  enter-top =
+      top-of (cpuOf (turned (gist w) (λ d. enterLevel d L))) ∙ ap (λ (g : Regs). g .a7) (turned-stacks (gist w) (λ d. enterLevel d L) ∙ enters-level L (cpuOf (gist w)) fit .stacks) ∙ up-a7 (stacksOf (cpuOf (gist w)))
+
   two-level : hasMaster F ≡ true → nonzero (C .flags .«m_flag») ≡ true
       → Clean (gist w) (twoOf (λ d. enterLevel d L) (interruptFrame (kindOf C) (getSr C) (pcOf C) N) (shortFrame (engineS (getSr C)) (pcOf C) (formatWord 1 N)) N end)
       → Agrees differences S (event interrupt N own) w (planned (gist w) (twoOf (λ d. enterLevel d L) (interruptFrame (kindOf C) (getSr C) (pcOf C) N) (shortFrame (engineS (getSr C)) (pcOf C) (formatWord 1 N)) N end))
@@ -267,10 +312,26 @@ module _ (w : World) (F : Family) (t : Tests F (kindOf (cpuOf w))) (so : Sound (
       q : (hasMaster F && isSet 12 (getSr C)) ≡ true
       q = rw (hm, m-bit, ms)
 
+      first-is : firstFrame S interrupt ≡ newA7 (turned (gist w) (λ d. enterLevel d L)) f1
+      first-is =
+          first-place hm ∙ ap (λ (n : ℕ). down n 8) (sym (pointer-of w F t so fit fa none)) ∙ sym (lower-eight (stackTop (cpuOf (gist w)))) ∙ sym (lowers (stackTop (cpuOf (gist w))) 8 (omega arith))
+          ∙ ap (λ (n : ℕ). minus32 (stackTop (cpuOf (gist w))) n) (sym (eight-of F hm)) ∙ ap (λ (n : ℕ). minus32 (stackTop (cpuOf (gist w))) n) (sym (level-size F (getSr C) (pcOf C) (offsetWord N) .size))
+          ∙ ap (λ (n : ℕ). minus32 n (frameBytes f1 (f1 .count))) (sym enter-top)
+
+      under-fields : throwsAway S interrupt ≡ true → (c : Clean (gist w) (twoOf (λ d. enterLevel d L) f1 h N end)) → Apart (kindOf C) (a7Of (cpuOf (planned (gist w) (twoOf (λ d. enterLevel d L) f1 h N end)))) (firstFrame S interrupt)
+          → Each (λ y. (m : ℕ) → y .value ≡ some m → fieldDiffers differences S own interrupt N y ≡ false → Reads (peek (mem (planned (gist w) (twoOf (λ d. enterLevel d L) f1 h N end)))) (kindOf C) (firstFrame S interrupt) y m) (fieldsOf S interrupt N)
+      under-fields d c a =
+          holding-within f1 (fieldDiffers differences S own interrupt N) (Reads (peek (mem (planned (gist w) (twoOf (λ d. enterLevel d L) f1 h N end)))) (kindOf C) (firstFrame S interrupt))
+          (subst (λ (k : ℕ). Apart k (a7Of (cpuOf (planned (gist w) (twoOf (λ d. enterLevel d L) f1 h N end)))) (firstFrame S interrupt) → (y : Field) (m : ℕ) → y .offset + cond (y .long) 4 2 ≤ 8 → partOf (y .span) (inFrame f1 (y .offset) (y .long)) ≡ some m
+          → Reads (peek (mem (planned (gist w) (twoOf (λ d. enterLevel d L) f1 h N end)))) k (firstFrame S interrupt) y m) (kind-gist w F t so fit fa none interrupt N own (vector-small C (w .core .bus)))
+          (two-under (gist w) (λ d. enterLevel d L) end f1 h N fit (enters-level L) (still-level L) (end-level .keeps) (end-level .pc) (end-level .status) (level-size F (getSr C) (pcOf C) (offsetWord N) .shape) (z .shape) (m-gist ms) (bank-is hm) c (z .size) (firstFrame S interrupt) first-is) a)
+          (fieldsOf S interrupt N) first-cells (within-of hm)
+
       go : Clean (gist w) (twoOf (λ d. enterLevel d L) f1 h N end) → Agrees differences S (event interrupt N own) w (planned (gist w) (twoOf (λ d. enterLevel d L) f1 h N end))
       go c =
           let P : World = planned (gist w) (twoOf (λ d. enterLevel d L) f1 h N end) in
           record {
+            under = λ d a. under-fields d c a;
             frame = subst (λ (k : ℕ). Each (λ y. (m : ℕ) → y .value ≡ some m → fieldDiffers differences S own interrupt N y ≡ false → Reads (peek (mem P)) k (a7Of (cpuOf P)) y m) (topFields S interrupt N))
                 (kind-gist w F t so fit fa none interrupt N own (vector-small C (w .core .bus)))
                 (holding-found h (fieldDiffers differences S own interrupt N) (Reads (peek (mem P)) (kindOf (cpuOf (gist w))) (a7Of (cpuOf P)))

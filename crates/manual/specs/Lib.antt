@@ -21,3 +21,4 @@ pub mod Computed
 pub mod Shown
 pub mod Returns
 pub mod ReturnHolds
+pub mod Faults

@@ -1,7 +1,7 @@
 -- An entry of one frame, whatever its frame: what lies in the store, A7, status and PC.
 use Prim.Native.Nat.{ℕ, _+_, _-_, _*_, _/_, _%_, _^_, _≤_, _<_}
 use mathlib.Core.Path.{_≡_, refl, sym, ap, _∙_, subst}
-use mathlib.Core.Bool.{Bool, true, false}
+use mathlib.Core.Bool.{Bool, true, false, cond}
 use mathlib.Core.List.{List, [], _∷_}
 use mathlib.Core.Option.{Option, none, some}
 use native.Mathlib.Omega.{arith}
@@ -46,6 +46,16 @@ pub holding-found : (f : Frame) (out : Field → Bool) (P : Field → ℕ → Ty
     → (ts : List Field) → Holding f out ts → Each (λ t. (x : ℕ) → t .value ≡ some x → out t ≡ false → P t x) ts
 holding-found f out P h [] c = tt
 holding-found f out P h (t ∷ ts) c = (λ x e b. h t x (cell-value f t (out t) (t .value) x (c .0) e b), holding-found f out P h ts (c .1))
+
+-- fields of a frame of 8 bytes
+abbrev pub Within : List Field → Type 0
+Within [] = Unit {0}
+Within (t ∷ ts) = (t .offset + cond (t .long) 4 2 ≤ 8) × Within ts
+
+pub holding-within : (f : Frame) (out : Field → Bool) (P : Field → ℕ → Type 0) → ((t : Field) (x : ℕ) → t .offset + cond (t .long) 4 2 ≤ 8 → partOf (t .span) (inFrame f (t .offset) (t .long)) ≡ some x → P t x)
+    → (ts : List Field) → Holding f out ts → Within ts → Each (λ t. (x : ℕ) → t .value ≡ some x → out t ≡ false → P t x) ts
+holding-within f out P h [] c w = tt
+holding-within f out P h (t ∷ ts) c w = (λ x e b. h t x (w .0) (cell-value f t (out t) (t .value) x (c .0) e b), holding-within f out P h ts (c .1) (w .1))
 
 -- a change that leaves the vector base and the kind
 pub record Still (f : Cpu → Cpu) : Type 0 where

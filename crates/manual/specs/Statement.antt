@@ -38,9 +38,11 @@ Each P (t ∷ ts) = P t × Each P ts
 abbrev pub Apart : ℕ → ℕ → ℕ → Type 0
 Apart k p q = (maskAddress k p + 8 ≤ maskAddress k q) ⊎ (maskAddress k q + 8 ≤ maskAddress k p)
 
--- an entry from w that is the exception e in state s, and leaves z
+-- an entry from w that is the exception e in state s, and leaves z: the frame at A7; the frame under one of format 1, where that did not overwrite it; A7; the
+-- status; PC; the pins
 pub record Agrees (rows : List Row) (s : State) (e : Event) (w z : World) : Type 0 where
   pub frame : Each (Found rows s e (peek (mem z)) (kindOf (cpuOf w)) (a7Of (cpuOf z))) (topFields s (e .class) (e .vector))
+  pub under : throwsAway s (e .class) ≡ true → Apart (kindOf (cpuOf w)) (a7Of (cpuOf z)) (firstFrame s (e .class)) → Each (Found rows s e (peek (mem z)) (kindOf (cpuOf w)) (firstFrame s (e .class))) (fieldsOf s (e .class) (e .vector))
   pub pointer : lengthDiffers rows s (e .via) (e .class) (e .vector) ≡ false → a7Of (cpuOf z) ≡ pointerAfter s (e .class)
   pub status : statusDiffers rows s (e .via) (e .class) (e .vector) ≡ false → getSr (cpuOf z) ≡ statusAfter s (e .class)
   pub pc : pcDiffers rows s (e .via) (e .class) (e .vector) ≡ false → longAt (peek (mem z)) (maskAddress (kindOf (cpuOf w)) (vectorAt s (e .vector))) ≡ some (pcOf (cpuOf z))
