@@ -4,7 +4,8 @@
 Reads as text: the frames (specs/Formats, with Exceptions for which exception stacks which), the table of differences (specs/Differences, with
 what a program would notice behind each row), the inputs that show each row (specs/Shown), and our own frames (by reference.py). Writes the part
 of docs/DIFFERENCES.md between `<!-- manuals -->` and `<!-- end of manuals -->`, docs/FRAMES.md, and a drawing of each frame in docs/frames/.
-With --check it writes nothing and fails where a file is not what it would write.
+With --check it writes nothing and fails where a file is not what it would write. It is tried on tables with one thing changed: if one of them would
+give the same, it fails too.
 """
 import os
 import re
@@ -40,8 +41,15 @@ MARKS = {"68000-14-bytes": ("mc68000", "busError", "own"), "format-8": ("mc68010
          "format-9": ("mc68020", "protocol", "byVector"), "format-B-address-error": ("mc68020", "addressError", "own")}
 
 
+# Changes of the tables that must be noticed.
+WRONG = [("Formats", "long 0x14 faultAddress", "long 0x20 faultAddress"), ("Formats", "inWord 0x0C 10 1 translation", "inWord 0x0C 11 1 translation"),
+         ("Differences", "(field 0x0C 10) ofTheBus", "(field 0x0C 10) always"), ("Differences", "row from68020 (byVector ∷ []) (group2", "row every (byVector ∷ []) (group2"),
+         ("Shown", "0x0C 21 0 1", "0x0C 21 0 2"), ("Parts", "∷ some mc68020 ∷ some mc68030", "∷ some mc68030 ∷ some mc68030"), ("Returns", "untaken mc68040 3 ∷ ", "")]
+changed = {}
+
+
 def text(name):
-    return reference.read(f"{SPECS}{name}.antt")
+    return changed.get(name) or reference.read(f"{SPECS}{name}.antt")
 
 
 def words(name):
@@ -249,13 +257,35 @@ def page():
     return "\n".join(lines)
 
 
+def written(document):
+    """What is to be written, by file."""
+    begin, end = document.index(START), document.index(END) + len(END)
+    files = {"docs/DIFFERENCES.md": document[:begin] + section() + document[end:], "docs/FRAMES.md": page()}
+    return files | {f"docs/frames/{drawn[0]}.svg": drawing(*drawn) for drawn in DRAWN}
+
+
+def unnoticed(document, files):
+    """The changes of the tables after which the same would be written."""
+    found = []
+    for name, old, new in WRONG:
+        source = text(name)
+        changed[name] = source.replace(old, new, 1)
+        try:
+            if changed[name] == source or written(document) == files:
+                found.append((name, old))
+        except (SystemExit, KeyError, TypeError, IndexError):
+            pass
+        del changed[name]
+    return found
+
+
 def main():
     if sys.argv[1:] not in ([], ["--check"]):
         sys.exit(__doc__)
     document = reference.read("docs/DIFFERENCES.md")
-    begin, end = document.index(START), document.index(END) + len(END)
-    files = {"docs/DIFFERENCES.md": document[:begin] + section() + document[end:], "docs/FRAMES.md": page()}
-    files |= {f"docs/frames/{drawn[0]}.svg": drawing(*drawn) for drawn in DRAWN}
+    files = written(document)
+    if passed := unnoticed(document, files):
+        sys.exit(f"manuals.py does not notice a change of {passed}")
     if len(differences()) != len(re.findall(r"^    (?:∷ )?row ", text("Differences"), re.M)) or sorted(inputs()) != list(range(len(differences()))):
         sys.exit("manuals.py: a row or an input was not read")
     for path, content in files.items():
@@ -267,7 +297,7 @@ def main():
             os.makedirs(os.path.dirname(full), exist_ok=True)
             with open(full, "w", encoding="utf-8") as file:
                 file.write(content)
-    print(f"{len(files)} files: as the tables give, {len(differences())} rows")
+    print(f"{len(files)} files: as the tables give, {len(differences())} rows; {len(WRONG)} wrong tables are found")
 
 
 if __name__ == "__main__":

@@ -193,3 +193,23 @@ module _ (x : World) (turn close : Cpu → Cpu) (f h : Frame) (v : ℕ) (fit : F
       same-bytes j m =
           ap (λ (s : Store). peek s (bottom Y f + t .offset + j)) z-mem ∙ same-peek R Q (bottom Y f + t .offset + j) (image .bus) (image .size) (image .others (bottom Y f + t .offset + j) (out j m part))
           ∙ ap (λ (s : Store). peek s (bottom Y f + t .offset + j)) (turned-mem X (λ d. setSmFlag d 4))
+
+  fit-r : Fit (cpuOf R)
+  fit-r = turned-fit X (λ d. setSmFlag d 4) (leave-fit (cpuOf X) fit-x)
+
+  q-stacks : stacksOf (cpuOf Q) ≡ withA7 (select (withA7 (select (stacksOf (cpuOf x)) 4 (cpuOf x .flags .«m_flag»)) (newA7 Y f)) 4 0) (newA7 R h)
+  q-stacks =
+      framed-stacks R h fit-r ∙ ap (λ (g : Regs). withA7 g (newA7 R h)) (turned-stacks X (λ d. setSmFlag d 4) ∙ leave-stacks (cpuOf X) fit-x ∙ ap (λ (g : Regs). select g 4 0) x-stacks)
+
+  -- the three pointers
+  pub two-stacks : view (stacksOf (cpuOf Z)) ≡ record { kind = view (stacksOf (cpuOf x)) .kind; s = true; m = false; usp = view (stacksOf (cpuOf x)) .usp; isp = newA7 R h; msp = newA7 Y f }
+  unfolding planned stackAll
+  two-stacks =
+      let g : Regs = withA7 (select (stacksOf (cpuOf x)) 4 (cpuOf x .flags .«m_flag»)) (newA7 Y f) in
+      ap view (turned-stacks (jumped U v) close ∙ ke (cpuOf (jumped U v)) ∙ jumped-stacks U v ∙ turned-stacks Q same ∙ q-stacks)
+      ∙ view-withA7 (select (withA7 (select (stacksOf (cpuOf x)) 4 (cpuOf x .flags .«m_flag»)) (newA7 Y f)) 4 0) (newA7 R h)
+      ∙ ap (λ (u : View). setTop u (newA7 R h)) (view-select (withA7 (select (stacksOf (cpuOf x)) 4 (cpuOf x .flags .«m_flag»)) (newA7 Y f)) 4 0)
+      ∙ ap (λ (u : View). setTop (withSM u true false) (newA7 R h)) (view-pushed (stacksOf (cpuOf x)) (cpuOf x .flags .«m_flag») (newA7 Y f) mset (ap (λ (k : ℕ). bankOf k true true) kind-of ∙ stk))
+
+  pub two-a7 : a7Of (cpuOf Z) ≡ newA7 R h
+  two-a7 = z-a7

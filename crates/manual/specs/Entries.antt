@@ -23,15 +23,16 @@ use Rattle.frames.specs.Frames.{fieldAt, isCounted, writeData, addressFrame, bu
 use Rattle.frames.specs.Codes.{functionCode, isSupervisor, stateCode, faultCode, faultWord, ssw020, ssw040, wb3s, fslw060}
 use Rattle.steps.specs.Steps.{enterBusError, stackedAddress, stacksNext}
 use Rattle.formats.specs.Formats.{formatWord, offsetWord, shortFrame, longFrame, disabledFrame}
-use Rattle.images.specs.Images.{Shape, frameBytes}
+use Rattle.images.specs.Images.{Shape, frameBytes, newA7}
 use Rattle.forms.specs.Gist.{gist, gistCpu}
 use Rattle.forms.specs.Orders.{words6, words8}
-use Rattle.forms.specs.Plans.{Plan, planned, Clean, same, single, shortOf, excPlan, rewoundPlan, group2Frame, group2Plan, tracePlan, fpUnimpPlan, fpDisabledPlan, addressPlan, busPlan}
-use Rattle.nest.specs.View.{peek, view}
+use Rattle.forms.specs.Plans.{Plan, turned, planned, Clean, same, single, shortOf, excPlan, rewoundPlan, group2Frame, group2Plan, tracePlan, fpUnimpPlan, fpDisabledPlan, addressPlan, busPlan}
+use Rattle.nest.specs.View.{View, setTop, withSM, nonzero, peek, view}
 use Rattle.nest.specs.Nest.{Sound}
+use Rattle.nest.specs.Banks.{select, withA7}
 use Rattle.nest.specs.Laws.{lower}
 use Rattle.nest.specs.Written.{longAt}
-use Rattle.entered.specs.Pointers.{regsOf, stacksOf, Fit}
+use Rattle.entered.specs.Pointers.{regsOf, stacksOf, view-of, Fit}
 use Rattle.entered.specs.Bytes.{mem}
 use Rattle.entered.specs.One.{Enters, Keeps, keeps-same, oneOf, stackTop}
 use Rattle.entered.specs.Does.{status-fits}
@@ -40,18 +41,18 @@ use Rattle.manual.specs.Parts.{Family, mc68000, mc68010, mc68020, mc6803
 use Rattle.manual.specs.State.{State, Fault, isSet, entered, supervisorPointer, down, onPins}
 use Rattle.manual.specs.State.{functionCode as codeBy}
 use Rattle.manual.specs.Vectors.{Class, instruction, trap, group2, interrupt, busError, addressError, protocol, configuration, fpUnimplemented, fpDisabled, vectorAt, classOf}
-use Rattle.manual.specs.Exceptions.{fieldsOf, topFields, throwsAway, pointerAfter, statusAfter}
+use Rattle.manual.specs.Exceptions.{fieldsOf, topFields, throwsAway, firstFrame, pointerAfter, ispAfter, mspAfter, statusAfter}
 use Rattle.manual.specs.Formats.{Field}
 use Rattle.manual.specs.Differences.{Via, byVector, own, way, differences, fieldDiffers, lengthDiffers, statusDiffers, pcDiffers, pinsDiffer}
 use Rattle.manual.specs.Calls.{Event, event, stateBy, codeOf, faultBy, noFault}
 use Rattle.manual.specs.Cells.{Holding}
 use Rattle.manual.specs.Statement.{Reads, Each, Agrees}
-use Rattle.manual.specs.Single.{Still, holding-found, one-pointer, one-reads, one-status, one-pc}
+use Rattle.manual.specs.Single.{Still, Same3, same-3, holding-found, one-stacks, one-pointer, one-reads, one-status, one-pc}
 use Rattle.manual.specs.Plain.{of, first, early, plain, twelve, instruction-cells, trap-cells, group2-cells, vector-group2, vector-interrupt, vector-busError, vector-addressError, vector-protocol, vector-configuration, unimplemented-cells, disabled-cells}
 use Rattle.manual.specs.Errors.{fault, first-busError, first-addressError, second-busError, second-addressError, third-busError, third-addressError, fourth-busError, fourth-addressError, sixth-busError, sixth-addressError}
 use Rattle.manual.specs.Errors.{at as withFault}
-use Rattle.manual.specs.PartLaws.{Tests, impossible, both-true, forty, sixty, pointer-is, entered-status, bus-status, vector-is, pins-are}
-use Rattle.manual.specs.Lengths.{plainBytes, group2Bytes, busBytes, addressBytes, isInterrupt, hasProtocol, hasConfiguration, rule, rules, instruction-byVector-length, instruction-own-length, trap-byVector-length, trap-own-length, group2-own-length, group2-byVector-length, busError-own-length, addressError-own-length, busError-byVector-length, addressError-byVector-length, protocol-length, configuration-length, unimplemented-length, disabled-length, interrupt-byVector-length, status-is, under-of}
+use Rattle.manual.specs.PartLaws.{Tests, Three, three-are, impossible, both-true, forty, sixty, pointer-is, entered-status, bus-status, vector-is, pins-are}
+use Rattle.manual.specs.Lengths.{plainBytes, group2Bytes, busBytes, addressBytes, isInterrupt, hasProtocol, hasConfiguration, rule, rules, instruction-byVector-length, instruction-own-length, trap-byVector-length, trap-own-length, group2-own-length, group2-byVector-length, busError-own-length, addressError-own-length, busError-byVector-length, addressError-byVector-length, protocol-length, configuration-length, unimplemented-length, disabled-length, interrupt-byVector-length, status-is, under-of, no-throw}
 
 -- ---- one frame, any plan
 
@@ -151,6 +152,33 @@ module _ (w : World) (F : Family) (t : Tests F (kindOf (cpuOf w))) (so : Sound (
     unfolding stateBy
     under-here i P d = under-of (stateBy w F fa op) v P F via cl i d
 
+    throws-here : (via ≡ own → isInterrupt cl ≡ false) → lengthDiffers differences S via cl v ≡ false → throwsAway S cl ≡ false
+    unfolding stateBy
+    throws-here i e = no-throw (stateBy w F fa op) v F via cl i e
+
+    three-gist : (q : ℕ) → Three (setTop (withSM (view (stacksOf (cpuOf (gist w)))) true (nonzero (cpuOf (gist w) .flags .«m_flag»))) q) (view (regsOf (cpuOf w)) .usp)
+        (cond (hasMaster F && isSet 12 (getSr (cpuOf w))) (view (regsOf (cpuOf w)) .isp) q) (cond (hasMaster F && isSet 12 (getSr (cpuOf w))) q (view (regsOf (cpuOf w)) .msp))
+    unfolding gist gistCpu stacksOf kindOf a7Of
+    three-gist q = three-are F (cpuOf w) t so q
+
+    first-of : throwsAway S cl ≡ false → pointerAfter S cl ≡ firstFrame S cl
+    unfolding pointerAfter
+    first-of e = ap (λ (b : Bool). cond b (down (S .isp) 8) (firstFrame S cl)) e
+
+    pub usp-of : view (regsOf (cpuOf w)) .usp ≡ S .usp
+    unfolding stateBy
+    usp-of = refl
+
+    isp-of : throwsAway S cl ≡ false → (q : ℕ) → q ≡ pointerAfter S cl → cond (hasMaster F && isSet 12 (getSr (cpuOf w))) (view (regsOf (cpuOf w)) .isp) q ≡ ispAfter S cl
+    unfolding ispAfter stateBy
+    isp-of e q h =
+        ap (λ (n : ℕ). cond (hasMaster F && isSet 12 (getSr (cpuOf w))) (view (regsOf (cpuOf w)) .isp) n) (h ∙ first-of e)
+        ∙ sym (ap (λ (b : Bool). cond b (down (S .isp) 8) (cond (hasMaster F && isSet 12 (getSr (cpuOf w))) (view (regsOf (cpuOf w)) .isp) (firstFrame S cl))) e)
+
+    msp-of : throwsAway S cl ≡ false → (q : ℕ) → q ≡ pointerAfter S cl → cond (hasMaster F && isSet 12 (getSr (cpuOf w))) q (view (regsOf (cpuOf w)) .msp) ≡ mspAfter S cl
+    unfolding mspAfter stateBy
+    msp-of e q h = ap (λ (n : ℕ). cond (hasMaster F && isSet 12 (getSr (cpuOf w))) n (view (regsOf (cpuOf w)) .msp)) (h ∙ first-of e)
+
     pub flags-status : (c d : Cpu) → c .flags ≡ d .flags → getSr (same c) ≡ getSr (same d)
     unfolding getSr
     flags-status c d e = ap compose e
@@ -159,16 +187,27 @@ module _ (w : World) (F : Family) (t : Tests F (kindOf (cpuOf w))) (so : Sound (
     pub settled-agrees : (turn settle close : Cpu → Cpu) (f : Frame) (n : ℕ) → Enters turn → Still turn → Still settle → ((c : Cpu) → stacksOf (settle c) .a7 ≡ stacksOf c .a7)
         → ((c d : Cpu) → c .flags ≡ d .flags → getSr (settle c) ≡ getSr (settle d)) → End close → Sized f n → Holding f (fieldDiffers differences S via cl v) (topFields S cl v)
         → (lengthDiffers differences S via cl v ≡ false → pointerAfter S cl ≡ down (supervisorPointer S) n) → (statusDiffers differences S via cl v ≡ false → getSr (settle (turn (cpuOf (gist w)))) ≡ statusAfter S cl)
+        → ((c : Cpu) → stacksOf c ≡ withA7 (select (stacksOf (cpuOf (gist w))) 4 (cpuOf (gist w) .flags .«m_flag»)) (newA7 (turned (gist w) turn) f) → kindOf c ≡ kindOf (cpuOf (gist w)) → Same3 (view (stacksOf (settle c))) (view (stacksOf c)))
+        → (lengthDiffers differences S via cl v ≡ false → throwsAway S cl ≡ false)
         → ((P : Field → ℕ → Type 0) → throwsAway S cl ≡ true → Each (λ q. (m : ℕ) → q .value ≡ some m → fieldDiffers differences S via cl v q ≡ false → P q m) (fieldsOf S cl v))
         → Clean (gist w) (oneOf turn f settle v close) → Agrees differences S (event cl v via) w (planned (gist w) (oneOf turn f settle v close))
-    settled-agrees turn settle close f n te ts ss sa sf en z h l st un c =
+    settled-agrees turn settle close f n te ts ss sa sf en z h l st sv nt un c =
         record {
           under = λ d a. un _ d;
           frame = subst (λ (k : ℕ). Each (λ q. (m : ℕ) → q .value ≡ some m → fieldDiffers differences S via cl v q ≡ false → Reads (peek (mem P)) k (a7Of (cpuOf P)) q m) (topFields S cl v)) kind-gist
               (holding-found f (fieldDiffers differences S via cl v) (Reads (peek (mem P)) (kindOf (cpuOf (gist w))) (a7Of (cpuOf P)))
               (one-reads (gist w) turn settle close f v fit te ts ss sa (en .keeps) (en .pc) (en .status) (z .shape) c) (topFields S cl v) h);
-          pointer = λ e. one-pointer (gist w) turn settle close f v fit te ts ss sa (en .keeps) (en .pc) (en .status) (z .shape) c (rw (z .size) (z .small))
-              ∙ ap (lower (stackTop (cpuOf (gist w)))) (z .size) ∙ lower-down (stackTop (cpuOf (gist w))) n (z .small) ∙ ap (λ (q : ℕ). down q n) (pointer-of fa op) ∙ sym (l e);
+          pointer = pointer-here;
+          stacks = λ e.
+              let q : ℕ = a7Of (cpuOf P) in
+              let b = one-stacks (gist w) turn settle close f v fit te ts ss sa (en .keeps) (en .pc) (en .status) (z .shape) c sv in
+              let k = three-gist (a7Of (cpuOf P)) in
+              let u = view-of (cpuOf P) in
+              record {
+                usp = ap (λ (y : View). y .usp) u ∙ b .usp ∙ k .usp-is ∙ usp-of;
+                isp = ap (λ (y : View). y .isp) u ∙ b .isp ∙ k .isp-is ∙ isp-of (nt e) (a7Of (cpuOf P)) (pointer-here e);
+                msp = ap (λ (y : View). y .msp) u ∙ b .msp ∙ k .msp-is ∙ msp-of (nt e) (a7Of (cpuOf P)) (pointer-here e);
+              };
           status = λ e. one-status (gist w) turn settle close f v fit te ts ss sa (en .keeps) (en .pc) (en .status) (z .shape) c sf ∙ st e;
           pc = λ e. ap (λ (a : ℕ). longAt (peek (mem P)) (maskAddress (kindOf (cpuOf w)) a)) (vector-of e)
               ∙ subst (λ (k : ℕ). longAt (peek (mem P)) (maskAddress k ((vbrOf (cpuOf (gist w)) + 4 * v) % 0x100000000)) ≡ some (pcOf (cpuOf P))) kind-gist
@@ -179,12 +218,17 @@ module _ (w : World) (F : Family) (t : Tests F (kindOf (cpuOf w))) (so : Sound (
         P : World
         P = planned (gist w) (oneOf turn f settle v close)
 
+        pointer-here : lengthDiffers differences S via cl v ≡ false → a7Of (cpuOf (planned (gist w) (oneOf turn f settle v close))) ≡ pointerAfter S cl
+        pointer-here e =
+            one-pointer (gist w) turn settle close f v fit te ts ss sa (en .keeps) (en .pc) (en .status) (z .shape) c (rw (z .size) (z .small))
+            ∙ ap (lower (stackTop (cpuOf (gist w)))) (z .size) ∙ lower-down (stackTop (cpuOf (gist w))) n (z .small) ∙ ap (λ (q : ℕ). down q n) (pointer-of fa op) ∙ sym (l e)
+
     pub one-agrees : (turn close : Cpu → Cpu) (f : Frame) (n : ℕ) → Turn turn → End close → Sized f n → Holding f (fieldDiffers differences S via cl v) (topFields S cl v)
         → (lengthDiffers differences S via cl v ≡ false → pointerAfter S cl ≡ down (supervisorPointer S) n) → (via ≡ own → isInterrupt cl ≡ false) → Clean (gist w) (single turn f v close)
         → Agrees differences S (event cl v via) w (planned (gist w) (single turn f v close))
     one-agrees turn close f n tu en z h l i =
         settled-agrees turn same close f n (tu .enters) (tu .still) still-same (λ d. refl) flags-status en z h l (λ e. tu .status (cpuOf (gist w)) ∙ ap entered status-gist ∙ status-of e i)
-        (under-here i)
+        (λ c e k. same-3 _ _ refl) (throws-here i) (under-here i)
 
 -- ---- sizes of frames
 

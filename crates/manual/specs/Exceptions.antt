@@ -157,6 +157,13 @@ firstFrame s c = down (supervisorPointer s) (lengthOf s c)
 unfoldable pub pointerAfter : State → Class → ℕ
 pointerAfter s c = cond (throwsAway s c) (down (s .isp) 8) (firstFrame s c)
 
+-- the pointers of interrupt and master stack at the end; the user's stays
+unfoldable pub ispAfter : State → Class → ℕ
+ispAfter s c = cond (throwsAway s c) (down (s .isp) 8) (cond (hasMaster (s .family) && isSet 12 (s .status)) (s .isp) (firstFrame s c))
+
+unfoldable pub mspAfter : State → Class → ℕ
+mspAfter s c = cond (hasMaster (s .family) && isSet 12 (s .status)) (firstFrame s c) (s .msp)
+
 -- the fields of the frame at A7
 unfoldable pub topFields : State → Class → ℕ → List Field
 topFields s c v = cond (throwsAway s c) (throwaway s v) (fieldsOf s c v)

@@ -121,6 +121,10 @@ sr-gist : (z : World) → getSr (cpuOf (gist z)) ≡ getSr (cpuOf z)
 unfolding gist gistCpu getSr
 sr-gist z = refl
 
+views-gist : (z : World) → view (regsOf (cpuOf (gist z))) ≡ view (regsOf (cpuOf z))
+unfolding regsOf view gist gistCpu kindOf a7Of
+views-gist z = refl
+
 pc-gist : (z : World) → pcOf (cpuOf (gist z)) ≡ pcOf (cpuOf z)
 unfolding gist gistCpu pcOf
 pc-gist z = refl
@@ -132,6 +136,7 @@ agrees-gist s e w z h =
       frame = rw (mem-gist z, top) at (h .frame);
       under = λ d a. rw (mem-gist z) at (h .under d (rw top a));
       pointer = λ x. sym top ∙ h .pointer x;
+      stacks = λ x. rw (views-gist z) at (h .stacks x);
       status = λ x. sym state ∙ h .status x;
       pc = λ x. rw (mem-gist z, counter) at (h .pc x);
       pins = h .pins;
@@ -157,7 +162,7 @@ module _ (w : World) (c : Call) (r : refusal w c ≡ 0) (d : InDomain (cpuOf w))
   -- the count of events does not matter
   same-start : (s : State) (e : Event) (z : World) → Agrees differences s e (begun w) z → Agrees differences s e w z
   unfolding begun restarted
-  same-start s e z h = record { frame = h .frame; under = h .under; pointer = h .pointer; status = h .status; pc = h .pc; pins = h .pins }
+  same-start s e z h = record { frame = h .frame; under = h .under; pointer = h .pointer; stacks = h .stacks; status = h .status; pc = h .pc; pins = h .pins }
 
   begun-agrees : (F : Family) (p : Plan) (e : Event) → familyOf (kindOf (cpuOf w)) ≡ some F → planOf (begun w) c ≡ some p → eventOf (stateOf w F c) c ≡ some e → Sound (regsOf (cpuOf w)) → Clean (gist w) p
       → Agrees differences (stateOf w F c) e w (planned (gist w) p)

@@ -222,6 +222,26 @@ under-of s v P mc68030 byVector interrupt h d = (λ x q o. impossible (rw d at o
 under-of s v P mc68040 byVector interrupt h d = (λ x q o. impossible (rw d at o), (λ x q o. impossible (sym (or-true (eqb v 15 || leb 64 v)) ∙ (rw d at o)), (λ x q o. impossible (rw d at o), tt)))
 under-of s v P mc68060 byVector interrupt h d = impossible (sym d)
 
+-- where the length does not differ there is no second frame
+pub no-throw : (s : State) (v : ℕ) (f : Family) (w : Via) (c : Class) → (w ≡ own → isInterrupt c ≡ false) → lengthDiffers differences (of f s) w c v ≡ false → throwsAway (of f s) c ≡ false
+unfolding differences lengthDiffers
+no-throw s v f w instruction h e = refl
+no-throw s v f w trap h e = refl
+no-throw s v f w group2 h e = refl
+no-throw s v f w busError h e = refl
+no-throw s v f w addressError h e = refl
+no-throw s v f w protocol h e = refl
+no-throw s v f w configuration h e = refl
+no-throw s v f w fpUnimplemented h e = refl
+no-throw s v f w fpDisabled h e = refl
+no-throw s v f own interrupt h e = impossible (h refl)
+no-throw s v mc68000 byVector interrupt h e = refl
+no-throw s v mc68010 byVector interrupt h e = refl
+no-throw s v mc68020 byVector interrupt h e = or-false (isSet 12 (s .status)) e
+no-throw s v mc68030 byVector interrupt h e = or-false (isSet 12 (s .status)) e
+no-throw s v mc68040 byVector interrupt h e = or-false (isSet 12 (s .status)) e
+no-throw s v mc68060 byVector interrupt h e = refl
+
 -- ---- the address that `take_exception` stacks, by the class of its vector
 
 abbrev pub hasProtocol : Family → Bool

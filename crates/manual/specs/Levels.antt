@@ -26,10 +26,10 @@ use Rattle.images.specs.Images.{frameBytes, newA7}
 use Rattle.forms.specs.Gist.{gist, gistCpu}
 use Rattle.forms.specs.Orders.{words6, words8}
 use Rattle.forms.specs.Plans.{Plan, turned, planned, Clean, same, interruptVector, interruptFrame, throwaways, settles, interruptBy, interruptPlan}
-use Rattle.nest.specs.View.{Regs, Bank, srMask, master, bankOf, nonzero, view, peek}
+use Rattle.nest.specs.View.{Regs, View, Bank, setPtr, srMask, master, bankOf, nonzero, view, peek}
 use Rattle.nest.specs.View.{interrupt as interruptBank}
 use Rattle.nest.specs.Nest.{Sound}
-use Rattle.nest.specs.Banks.{up-a7}
+use Rattle.nest.specs.Banks.{select, withA7, withFlags, up-a7}
 use Rattle.nest.specs.Laws.{lower}
 use Rattle.nest.specs.Written.{longAt}
 use Rattle.entered.specs.Pointers.{regsOf, stacksOf, view-of, Fit, clearM-stacks}
@@ -41,18 +41,18 @@ use Rattle.entered.specs.Turns.{enters-level, keeps-close}
 use Rattle.manual.specs.Parts.{Family, mc68000, mc68010, mc68020, mc68030, mc68040, mc68060, hasMaster}
 use Rattle.manual.specs.State.{State, Fault, isSet, interrupted, supervisorPointer, down, mask}
 use Rattle.manual.specs.Vectors.{interrupt, acknowledged, takesLevel}
-use Rattle.manual.specs.Exceptions.{fieldsOf, throwaway, throwsAway, topFields, pointerAfter, statusAfter, firstFrame, lengthOf, withS}
+use Rattle.manual.specs.Exceptions.{fieldsOf, throwaway, throwsAway, topFields, pointerAfter, ispAfter, mspAfter, statusAfter, firstFrame, lengthOf, withS}
 use Rattle.manual.specs.Differences.{own, differences, fieldDiffers, lengthDiffers, statusDiffers}
 use Rattle.manual.specs.Calls.{event, stateBy, responseFor}
 use Rattle.manual.specs.Formats.{Field}
 use Rattle.manual.specs.Cells.{partOf, inFrame, Holding}
 use Rattle.manual.specs.Statement.{Reads, Each, Apart, Agrees}
-use Rattle.manual.specs.Single.{Still, Within, holding-found, holding-within}
-use Rattle.manual.specs.Double.{two-pointer, two-reads, two-status, two-pc, two-under}
+use Rattle.manual.specs.Single.{Still, Same3, same-3, Within, holding-found, holding-within}
+use Rattle.manual.specs.Double.{two-pointer, two-stacks, two-a7, two-reads, two-status, two-pc, two-under}
 use Rattle.manual.specs.Plain.{of, first, early, second, level, interrupt-cells, throwaway-cells}
 use Rattle.manual.specs.PartLaws.{Tests, impossible, mask-bits, sixty, no-m, sound-m, sound-mask, level-status, clear-none, sixty-is}
 use Rattle.manual.specs.Lengths.{plainBytes, interrupt-own-length}
-use Rattle.manual.specs.Entries.{Sized, End, still-same, still-supervisor, settled-agrees, flags-status, pointer-of, vector-of, pins-of, kind-gist, size6, size8}
+use Rattle.manual.specs.Entries.{Sized, End, still-same, still-supervisor, settled-agrees, flags-status, pointer-of, usp-of, vector-of, pins-of, kind-gist, size6, size8}
 
 -- ---- the vector, and when an interrupt is taken
 
@@ -155,6 +155,31 @@ s-fits : (st : ℕ) → st < 0x10000 → engineS st < 0x10000
 unfolding engineS
 s-fits st l = omega arith
 
+select-s : (g : Regs) (s m : ℕ) → select g s m .sflag ≡ s
+unfolding select
+select-s g s m = refl
+
+-- on the 68060 M selects no stack
+clear-view : (g : Regs) → eqb (g .kind) 11 ≡ true → g .sflag ≡ 4 → Same3 (view (withFlags g (g .sflag) 0)) (view g)
+unfolding view
+clear-view g k s = rw s (go (nonzero (g .mflag)))
+  where
+    go : (b : Bool) → Same3 (setPtr (record { kind = g .kind; s = true; m = false; usp = g .usp; isp = g .isp; msp = g .msp }) (bankOf (g .kind) true false) (g .a7))
+        (setPtr (record { kind = g .kind; s = true; m = b; usp = g .usp; isp = g .isp; msp = g .msp }) (bankOf (g .kind) true b) (g .a7))
+    go true = rw k (record { usp = refl; isp = refl; msp = refl })
+    go false = record { usp = refl; isp = refl; msp = refl }
+
+stacks-kind : (c : Cpu) → stacksOf c .kind ≡ kindOf c
+unfolding stacksOf
+stacks-kind c = refl
+
+flags-same : (c : Cpu) → withFlags (stacksOf c) (c .flags .«s_flag») 0 ≡ withFlags (stacksOf c) (stacksOf c .sflag) 0
+unfolding stacksOf
+flags-same c = refl
+
+clear-three : (c : Cpu) → eqb (kindOf c) 11 ≡ true → stacksOf c .sflag ≡ 4 → Same3 (view (stacksOf (clearM c))) (view (stacksOf c))
+clear-three c k s = subst (λ (g : Regs). Same3 (view g) (view (stacksOf c))) (sym (clearM-stacks c ∙ flags-same c)) (clear-view (stacksOf c) (ap (λ (n : ℕ). eqb n 11) (stacks-kind c) ∙ k) s)
+
 lower-eight : (p : ℕ) → lower p 8 ≡ down p 8
 lower-eight p = omega arith
 
@@ -209,18 +234,24 @@ module _ (w : World) (F : Family) (t : Tests F (kindOf (cpuOf w))) (so : Sound (
   unfolding stateBy
   no-second e d = sym e ∙ d
 
+  no-throws : (hasMaster F && isSet 12 (getSr C)) ≡ false → throwsAway S interrupt ≡ false
+  unfolding stateBy
+  no-throws e = e
+
   level-after : interrupted L (getSr C) ≡ statusAfter S interrupt
   unfolding statusAfter stateBy pendingLevel
   level-after = refl
 
   one-level : (settle : Cpu → Cpu) → Still settle → ((c : Cpu) → stacksOf (settle c) .a7 ≡ stacksOf c .a7) → ((c d : Cpu) → c .flags ≡ d .flags → getSr (settle c) ≡ getSr (settle d))
-      → getSr (settle (enterLevel (cpuOf (gist w)) L)) ≡ interrupted L (getSr C) → (hasMaster F && isSet 12 (getSr C)) ≡ false
+      → getSr (settle (enterLevel (cpuOf (gist w)) L)) ≡ interrupted L (getSr C)
+      → ((c : Cpu) → stacksOf c ≡ withA7 (select (stacksOf (cpuOf (gist w))) 4 (cpuOf (gist w) .flags .«m_flag»)) (newA7 (turned (gist w) (λ d. enterLevel d L)) (level F (getSr C) (pcOf C) (offsetWord N))) → kindOf c ≡ kindOf (cpuOf (gist w)) → Same3 (view (stacksOf (settle c))) (view (stacksOf c)))
+      → (hasMaster F && isSet 12 (getSr C)) ≡ false
       → Clean (gist w) (oneOf (λ d. enterLevel d L) (interruptFrame (kindOf C) (getSr C) (pcOf C) N) settle N end)
       → Agrees differences S (event interrupt N own) w (planned (gist w) (oneOf (λ d. enterLevel d L) (interruptFrame (kindOf C) (getSr C) (pcOf C) N) settle N end))
-  one-level settle ss sa sf st e =
+  one-level settle ss sa sf st sv e =
       subst (λ (f : Frame). Clean (gist w) (oneOf (λ d. enterLevel d L) f settle N end) → Agrees differences S (event interrupt N own) w (planned (gist w) (oneOf (λ d. enterLevel d L) f settle N end))) (sym (frame-is N))
       (settled-agrees w F t so fit fa none interrupt N own (vector-small C (w .core .bus)) (λ d. enterLevel d L) settle end (level F (getSr C) (pcOf C) (offsetWord N)) (plainBytes F)
-      (enters-level L) (still-level L) ss sa sf end-level (level-size F (getSr C) (pcOf C) (offsetWord N)) (rw (single-top e) first-cells) (λ x. first-length e) (λ x. st ∙ level-after) (λ P d. impossible (sym (no-second e d))))
+      (enters-level L) (still-level L) ss sa sf end-level (level-size F (getSr C) (pcOf C) (offsetWord N)) (rw (single-top e) first-cells) (λ x. first-length e) (λ x. st ∙ level-after) sv (λ x. no-throws e) (λ P d. impossible (sym (no-second e d))))
 
   -- two frames
   top-two : (hasMaster F && isSet 12 (getSr C)) ≡ true → topFields S interrupt N ≡ throwaway S N
@@ -254,6 +285,18 @@ module _ (w : World) (F : Family) (t : Tests F (kindOf (cpuOf w))) (so : Sound (
   bank-is : hasMaster F ≡ true → bankOf (kindOf (cpuOf (gist w))) true true ≡ master
   unfolding gist gistCpu kindOf
   bank-is e = ap (λ (b : Bool). cond b interruptBank master) (sixty-is (kindOf C) (t .is6) ∙ no-sixty F e)
+
+  usp-is : view (stacksOf (cpuOf (gist w))) .usp ≡ view (regsOf C) .usp
+  unfolding stacksOf regsOf view gist gistCpu kindOf a7Of
+  usp-is = refl
+
+  isp-two : (hasMaster F && isSet 12 (getSr C)) ≡ true → pointerAfter S interrupt ≡ ispAfter S interrupt
+  unfolding pointerAfter ispAfter stateBy
+  isp-two e = rw e
+
+  msp-two : (hasMaster F && isSet 12 (getSr C)) ≡ true → firstFrame S interrupt ≡ mspAfter S interrupt
+  unfolding mspAfter stateBy
+  msp-two e = rw e
 
   eight-of : (f : Family) → hasMaster f ≡ true → plainBytes f ≡ 8
   eight-of mc68000 e = impossible (sym e)
@@ -327,6 +370,12 @@ module _ (w : World) (F : Family) (t : Tests F (kindOf (cpuOf w))) (so : Sound (
           (two-under (gist w) (λ d. enterLevel d L) end f1 h N fit (enters-level L) (still-level L) (end-level .keeps) (end-level .pc) (end-level .status) (level-size F (getSr C) (pcOf C) (offsetWord N) .shape) (z .shape) (m-gist ms) (bank-is hm) c (z .size) (firstFrame S interrupt) first-is) a)
           (fieldsOf S interrupt N) first-cells (within-of hm)
 
+      pointer-two : (c : Clean (gist w) (twoOf (λ d. enterLevel d L) f1 h N end)) → a7Of (cpuOf (planned (gist w) (twoOf (λ d. enterLevel d L) f1 h N end))) ≡ pointerAfter S interrupt
+      pointer-two c =
+          two-pointer (gist w) (λ d. enterLevel d L) end f1 h N fit (enters-level L) (still-level L) (end-level .keeps) (end-level .pc) (end-level .status) (level-size F (getSr C) (pcOf C) (offsetWord N) .shape) (z .shape) (m-gist ms) (bank-is hm) c
+          ∙ ap (minus32 (view (stacksOf (cpuOf (gist w))) .isp)) (z .size) ∙ lowers (view (stacksOf (cpuOf (gist w))) .isp) 8 (omega arith) ∙ lower-eight (view (stacksOf (cpuOf (gist w))) .isp)
+          ∙ ap (λ (n : ℕ). down n 8) isp-is ∙ sym (second-length q)
+
       go : Clean (gist w) (twoOf (λ d. enterLevel d L) f1 h N end) → Agrees differences S (event interrupt N own) w (planned (gist w) (twoOf (λ d. enterLevel d L) f1 h N end))
       go c =
           let P : World = planned (gist w) (twoOf (λ d. enterLevel d L) f1 h N end) in
@@ -337,9 +386,14 @@ module _ (w : World) (F : Family) (t : Tests F (kindOf (cpuOf w))) (so : Sound (
                 (holding-found h (fieldDiffers differences S own interrupt N) (Reads (peek (mem P)) (kindOf (cpuOf (gist w))) (a7Of (cpuOf P)))
                 (two-reads (gist w) (λ d. enterLevel d L) end f1 h N fit (enters-level L) (still-level L) (end-level .keeps) (end-level .pc) (end-level .status) (level-size F (getSr C) (pcOf C) (offsetWord N) .shape) (z .shape) (m-gist ms) (bank-is hm) c)
                 (topFields S interrupt N) (rw (top-two q) second-cells));
-            pointer = λ e. two-pointer (gist w) (λ d. enterLevel d L) end f1 h N fit (enters-level L) (still-level L) (end-level .keeps) (end-level .pc) (end-level .status) (level-size F (getSr C) (pcOf C) (offsetWord N) .shape) (z .shape) (m-gist ms) (bank-is hm) c
-                ∙ ap (minus32 (view (stacksOf (cpuOf (gist w))) .isp)) (z .size) ∙ lowers (view (stacksOf (cpuOf (gist w))) .isp) 8 (omega arith) ∙ lower-eight (view (stacksOf (cpuOf (gist w))) .isp)
-                ∙ ap (λ (n : ℕ). down n 8) isp-is ∙ sym (second-length q);
+            pointer = λ e. pointer-two c;
+            stacks = λ e.
+                let u = view-of (cpuOf P) ∙ two-stacks (gist w) (λ d. enterLevel d L) end f1 h N fit (enters-level L) (still-level L) (end-level .keeps) (end-level .pc) (end-level .status) (level-size F (getSr C) (pcOf C) (offsetWord N) .shape) (z .shape) (m-gist ms) (bank-is hm) c in
+                record {
+                  usp = ap (λ (y : View). y .usp) u ∙ usp-is ∙ usp-of w F t so fit fa none interrupt N own (vector-small C (w .core .bus));
+                  isp = ap (λ (y : View). y .isp) u ∙ sym (two-a7 (gist w) (λ d. enterLevel d L) end f1 h N fit (enters-level L) (still-level L) (end-level .keeps) (end-level .pc) (end-level .status) (level-size F (getSr C) (pcOf C) (offsetWord N) .shape) (z .shape) (m-gist ms) (bank-is hm) c) ∙ pointer-two c ∙ isp-two q;
+                  msp = ap (λ (y : View). y .msp) u ∙ sym first-is ∙ msp-two q;
+                };
             status = λ e. two-status (gist w) (λ d. enterLevel d L) end f1 h N fit (enters-level L) (still-level L) (end-level .keeps) (end-level .pc) (end-level .status) (level-size F (getSr C) (pcOf C) (offsetWord N) .shape) (z .shape) (m-gist ms) (bank-is hm) c
                 ∙ left-status (cpuOf (gist w)) L (level-small C) ∙ ap (interrupted L) gist-sr ∙ level-after;
             pc = λ e. ap (λ (a : ℕ). longAt (peek (mem P)) (maskAddress (kindOf C) a)) (vector-of w F t so fit fa none interrupt N own (vector-small C (w .core .bus)) e)
@@ -363,13 +417,18 @@ module _ (w : World) (F : Family) (t : Tests F (kindOf (cpuOf w))) (so : Sound (
   and-false true b e = e
   and-false false b e = refl
 
+  sixty-gist : sixty F ≡ true → eqb (kindOf (cpuOf (gist w))) 11 ≡ true
+  unfolding gist gistCpu kindOf
+  sixty-gist e = sixty-is (kindOf C) (t .is6) ∙ e
+
   by-tests : (m b s : Bool) → not (eqb (C .flags .«m_flag») 0) ≡ m → hasMaster F ≡ b → sixty F ≡ s → Clean (gist w) (interruptBy C L N m b s) → Agrees differences S (event interrupt N own) w (planned (gist w) (interruptBy C L N m b s))
   unfolding interruptBy throwaways settles
   by-tests false b s e h k =
       one-level same still-same (λ c. refl) (λ c d x. flags-status w F t so fit fa none interrupt N own (vector-small C (w .core .bus)) c d x) (gist-m L ∙ unset-status C L (level-small C) (none-set (C .flags .«m_flag») e))
-      (and-false (hasMaster F) (isSet 12 (getSr C)) (m-bit ∙ ap nonzero (none-set (C .flags .«m_flag») e)))
+      (λ c x y. same-3 _ _ refl) (and-false (hasMaster F) (isSet 12 (getSr C)) (m-bit ∙ ap nonzero (none-set (C .flags .«m_flag») e)))
   by-tests true true s e h k = two-level h (set-nonzero (C .flags .«m_flag») e)
-  by-tests true false true e h k = one-level clearM still-clear clear-top clear-flags (level-status (cpuOf (gist w)) L (level-small C) ∙ ap (interrupted L) gist-sr) (ap (λ (b : Bool). b && isSet 12 (getSr C)) h)
+  by-tests true false true e h k = one-level clearM still-clear clear-top clear-flags (level-status (cpuOf (gist w)) L (level-small C) ∙ ap (interrupted L) gist-sr)
+      (λ c x y. clear-three c (ap (λ (n : ℕ). eqb n 11) y ∙ sixty-gist k) (ap (λ (g : Regs). g .sflag) x ∙ select-s (stacksOf (cpuOf (gist w))) 4 (cpuOf (gist w) .flags .«m_flag»))) (ap (λ (b : Bool). b && isSet 12 (getSr C)) h)
   by-tests true false false e h k = impossible (sym (set-nonzero (C .flags .«m_flag») e) ∙ sym m-bit ∙ clear-of (early-of F h k))
 
   -- the interrupt call

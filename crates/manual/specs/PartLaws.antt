@@ -17,7 +17,7 @@ use Rattle.status.specs.Status.{getSr, compose, clearTrace, clearM, setIntMask}
 use Rattle.status.specs.Banks.{backupSp, restoreSp, putS, setSFlag, setSmFlagNosp, setSmFlag, enterSupervisor}
 use Rattle.steps.specs.Steps.{enterBusError, enterLevel}
 use Rattle.cpu.specs.Fields.{clearFcOverride}
-use Rattle.nest.specs.View.{Regs, View, srMask, under, mBit, bankOf, ptr, top, withSM, nonzero, view}
+use Rattle.nest.specs.View.{Regs, View, srMask, under, mBit, bankOf, ptr, setPtr, top, setTop, withSM, nonzero, view}
 use Rattle.nest.specs.Nest.{Sound}
 use Rattle.nest.specs.Reading.{view-kind, view-m}
 use Rattle.entered.specs.Pointers.{regsOf, stacksOf, view-of}
@@ -151,6 +151,10 @@ pub sound-mask : (c : Cpu) → Sound (regsOf c) → under (kindOf c) (getSr c) �
 unfolding regsOf
 sound-mask c s = s .inMask
 
+flag-regs : (c : Cpu) → nonzero (regsOf c .mflag) ≡ nonzero (c .flags .«m_flag»)
+unfolding regsOf
+flag-regs c = refl
+
 kind-regs : (c : Cpu) → regsOf c .kind ≡ kindOf c
 unfolding regsOf
 kind-regs c = refl
@@ -170,6 +174,42 @@ pointer-is f c t s =
   where
     m-is : view (regsOf c) .m ≡ isSet 12 (getSr c)
     m-is = view-m (regsOf c) ∙ sym (sound-m c s)
+
+    clear : early f ≡ true → isSet 12 (getSr c) ≡ false
+    clear e = ap (λ (n : ℕ). eqb n 1) (no-m (kindOf c) (getSr c) (eqb-true (srMask (kindOf c)) 0xA71F (t .mask ∙ e)) (sound-mask c s))
+
+-- the pointers once A7 is q, on the stack that S and M select
+pub record Three (v : View) (usp isp msp : ℕ) : Type 0 where
+  pub usp-is : v .usp ≡ usp
+  pub isp-is : v .isp ≡ isp
+  pub msp-is : v .msp ≡ msp
+
+three-by : (f : Family) (k : ℕ) (b : Bool) (usp isp msp q : ℕ) → eqb k 11 ≡ sixty f → (early f ≡ true → b ≡ false)
+    → Three (setPtr (record { kind = k; s = true; m = b; usp = usp; isp = isp; msp = msp }) (bankOf k true b) q) usp (cond (hasMaster f && b) isp q) (cond (hasMaster f && b) q msp)
+three-by mc68000 k true usp isp msp q e h = impossible (h refl)
+three-by mc68000 k false usp isp msp q e h = record { usp-is = refl; isp-is = refl; msp-is = refl }
+three-by mc68010 k true usp isp msp q e h = impossible (h refl)
+three-by mc68010 k false usp isp msp q e h = record { usp-is = refl; isp-is = refl; msp-is = refl }
+three-by mc68020 k true usp isp msp q e h = rw e (record { usp-is = refl; isp-is = refl; msp-is = refl })
+three-by mc68020 k false usp isp msp q e h = record { usp-is = refl; isp-is = refl; msp-is = refl }
+three-by mc68030 k true usp isp msp q e h = rw e (record { usp-is = refl; isp-is = refl; msp-is = refl })
+three-by mc68030 k false usp isp msp q e h = record { usp-is = refl; isp-is = refl; msp-is = refl }
+three-by mc68040 k true usp isp msp q e h = rw e (record { usp-is = refl; isp-is = refl; msp-is = refl })
+three-by mc68040 k false usp isp msp q e h = record { usp-is = refl; isp-is = refl; msp-is = refl }
+three-by mc68060 k true usp isp msp q e h = rw e (record { usp-is = refl; isp-is = refl; msp-is = refl })
+three-by mc68060 k false usp isp msp q e h = record { usp-is = refl; isp-is = refl; msp-is = refl }
+
+pub three-are : (f : Family) (c : Cpu) → Tests f (kindOf c) → Sound (regsOf c) → (q : ℕ)
+    → Three (setTop (withSM (view (stacksOf c)) true (nonzero (c .flags .«m_flag»))) q) (view (regsOf c) .usp) (cond (hasMaster f && isSet 12 (getSr c)) (view (regsOf c) .isp) q) (cond (hasMaster f && isSet 12 (getSr c)) q (view (regsOf c) .msp))
+three-are f c t s q =
+    subst (λ (v : View). Three (setTop (withSM v true (nonzero (c .flags .«m_flag»))) q) (view (regsOf c) .usp) (cond (hasMaster f && isSet 12 (getSr c)) (view (regsOf c) .isp) q) (cond (hasMaster f && isSet 12 (getSr c)) q (view (regsOf c) .msp))) (view-of c)
+    (subst (λ (b : Bool). Three (setTop (withSM (view (regsOf c)) true b) q) (view (regsOf c) .usp) (cond (hasMaster f && isSet 12 (getSr c)) (view (regsOf c) .isp) q) (cond (hasMaster f && isSet 12 (getSr c)) q (view (regsOf c) .msp))) m-is
+    (subst (λ (j : ℕ). Three (setPtr (record { kind = j; s = true; m = isSet 12 (getSr c); usp = view (regsOf c) .usp; isp = view (regsOf c) .isp; msp = view (regsOf c) .msp }) (bankOf j true (isSet 12 (getSr c))) q) (view (regsOf c) .usp) (cond (hasMaster f && isSet 12 (getSr c)) (view (regsOf c) .isp) q) (cond (hasMaster f && isSet 12 (getSr c)) q (view (regsOf c) .msp)))
+    (sym (view-kind (regsOf c) ∙ kind-regs c))
+    (three-by f (kindOf c) (isSet 12 (getSr c)) (view (regsOf c) .usp) (view (regsOf c) .isp) (view (regsOf c) .msp) q (sixty-is (kindOf c) (t .is6)) clear)))
+  where
+    m-is : isSet 12 (getSr c) ≡ nonzero (c .flags .«m_flag»)
+    m-is = sound-m c s ∙ flag-regs c
 
     clear : early f ≡ true → isSet 12 (getSr c) ≡ false
     clear e = ap (λ (n : ℕ). eqb n 1) (no-m (kindOf c) (getSr c) (eqb-true (srMask (kindOf c)) 0xA71F (t .mask ∙ e)) (sound-mask c s))

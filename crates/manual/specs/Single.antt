@@ -19,8 +19,8 @@ use Rattle.forms.specs.Gist.{gist, gistCpu, framedBy}
 use Rattle.forms.specs.Jumps.{jumped}
 use Rattle.forms.specs.Plans.{turned, stackAll, planned, AllReady, Clean}
 use Rattle.forms.specs.Kept.{planned-pc}
-use Rattle.nest.specs.View.{Regs, Store, peek}
-use Rattle.nest.specs.Banks.{select, up-a7}
+use Rattle.nest.specs.View.{Regs, Store, View, setTop, withSM, nonzero, view, peek}
+use Rattle.nest.specs.Banks.{select, withA7, up-a7, view-select, view-withA7}
 use Rattle.nest.specs.Laws.{lower}
 use Rattle.nest.specs.Written.{longAt}
 use Rattle.entered.specs.Pointers.{stacksOf, Fit}
@@ -61,6 +61,18 @@ holding-within f out P h (t ∷ ts) c w = (λ x e b. h t x (w .0) (cell-value f 
 pub record Still (f : Cpu → Cpu) : Type 0 where
   pub vbr : (c : Cpu) → vbrOf (f c) ≡ vbrOf c
   pub kind : (c : Cpu) → kindOf (f c) ≡ kindOf c
+
+-- the same three pointers
+pub record Same3 (v u : View) : Type 0 where
+  pub usp : v .usp ≡ u .usp
+  pub isp : v .isp ≡ u .isp
+  pub msp : v .msp ≡ u .msp
+
+pub same-3 : (v u : View) → v ≡ u → Same3 v u
+same-3 v u e = record { usp = ap (λ (z : View). z .usp) e; isp = ap (λ (z : View). z .isp) e; msp = ap (λ (z : View). z .msp) e }
+
+pub trans-3 : (v u z : View) → Same3 v u → Same3 u z → Same3 v z
+trans-3 v u z a b = record { usp = a .usp ∙ b .usp; isp = a .isp ∙ b .isp; msp = a .msp ∙ b .msp }
 
 module _ (x : World) (turn settle close : Cpu → Cpu) (f : Frame) (v : ℕ) (fit : Fit (cpuOf x)) (en : Enters turn) (st : Still turn) (ss : Still settle)
     (sa : (c : Cpu) → stacksOf (settle c) .a7 ≡ stacksOf c .a7) (ke : Keeps close) (kp : (c : Cpu) → pcOf (close c) ≡ pcOf c) (kf : (c : Cpu) → getSr (close c) ≡ getSr c)
@@ -157,3 +169,18 @@ module _ (x : World) (turn settle close : Cpu → Cpu) (f : Frame) (v : ℕ) (fi
       ap (λ (s : Store). longAt (peek s) (maskAddress (kindOf (cpuOf x)) ((vbrOf (cpuOf x) + 4 * v) % 0x100000000))) (turned-mem (jumped U v) close ∙ jumped-mem U v)
       ∙ ap (longAt (peek (mem U))) (sym (u-place l)) ∙ long-read U (vectorPlace U v) (handler U v) (cl .reach .serves) refl
       ∙ ap {B = Option ℕ} some (sym (planned-pc x (oneOf turn f settle v close) kp))
+
+  framed-all : stacksOf (cpuOf (framedBy Y f)) ≡ withA7 (select (stacksOf (cpuOf x)) 4 (cpuOf x .flags .«m_flag»)) (newA7 Y f)
+  framed-all = framed-stacks Y f (turned-fit x turn (en (cpuOf x) fit .fit)) ∙ ap (λ (g : Regs). withA7 g (newA7 Y f)) y-stacks
+
+  -- the three pointers: A7 on the stack selected
+  pub one-stacks : ((c : Cpu) → stacksOf c ≡ withA7 (select (stacksOf (cpuOf x)) 4 (cpuOf x .flags .«m_flag»)) (newA7 Y f) → kindOf c ≡ kindOf (cpuOf x) → Same3 (view (stacksOf (settle c))) (view (stacksOf c)))
+      → Same3 (view (stacksOf (cpuOf Z))) (setTop (withSM (view (stacksOf (cpuOf x))) true (nonzero (cpuOf x .flags .«m_flag»))) (a7Of (cpuOf Z)))
+  unfolding planned stackAll
+  one-stacks sv =
+      trans-3 _ _ _
+      (same-3 _ _ (ap view (turned-stacks (jumped U v) close ∙ ke (cpuOf (jumped U v)) ∙ jumped-stacks U v ∙ turned-stacks (framedBy Y f) settle)))
+      (trans-3 _ _ _ (sv (cpuOf (framedBy Y f)) framed-all (framed-kind Y f ∙ y-kind))
+      (same-3 _ _ (ap view framed-all ∙ view-withA7 (select (stacksOf (cpuOf x)) 4 (cpuOf x .flags .«m_flag»)) (newA7 Y f)
+      ∙ ap (λ (g : View). setTop g (newA7 Y f)) (view-select (stacksOf (cpuOf x)) 4 (cpuOf x .flags .«m_flag»))
+      ∙ ap (λ (q : ℕ). setTop (withSM (view (stacksOf (cpuOf x))) true (nonzero (cpuOf x .flags .«m_flag»))) q) (sym z-a7))))

@@ -10,14 +10,14 @@ use Rattle.types.specs.Kinds.{maskAddress}
 use Rattle.cpu.specs.Fields.{kindOf, pcOf, a7Of}
 use Rattle.status.specs.Status.{getSr}
 use Rattle.memory.specs.World.{World, cpuOf}
-use Rattle.nest.specs.View.{Bytes, peek, view}
+use Rattle.nest.specs.View.{Bytes, View, peek, view}
 use Rattle.nest.specs.Written.{longAt}
 use Rattle.entered.specs.Bytes.{mem}
 use Rattle.entered.specs.Pointers.{regsOf}
 use Rattle.manual.specs.State.{State, onPins}
-use Rattle.manual.specs.Vectors.{vectorAt}
+use Rattle.manual.specs.Vectors.{Class, vectorAt}
 use Rattle.manual.specs.Formats.{Field}
-use Rattle.manual.specs.Exceptions.{fieldsOf, topFields, throwsAway, firstFrame, pointerAfter, statusAfter}
+use Rattle.manual.specs.Exceptions.{fieldsOf, topFields, throwsAway, firstFrame, pointerAfter, ispAfter, mspAfter, statusAfter}
 use Rattle.manual.specs.Differences.{Row, fieldDiffers, lengthDiffers, statusDiffers, pcDiffers, pinsDiffer}
 use Rattle.manual.specs.Calls.{Event}
 use Rattle.manual.specs.Cells.{partOf, readAt}
@@ -38,12 +38,19 @@ Each P (t ∷ ts) = P t × Each P ts
 abbrev pub Apart : ℕ → ℕ → ℕ → Type 0
 Apart k p q = (maskAddress k p + 8 ≤ maskAddress k q) ⊎ (maskAddress k q + 8 ≤ maskAddress k p)
 
--- an entry from w that is the exception e in state s, and leaves z: the frame at A7; the frame under one of format 1, where that did not overwrite it; A7; the
--- status; PC; the pins
+-- the three stack pointers, the one in use being A7
+pub record Stacks (s : State) (c : Class) (v : View) : Type 0 where
+  pub usp : v .usp ≡ s .usp
+  pub isp : v .isp ≡ ispAfter s c
+  pub msp : v .msp ≡ mspAfter s c
+
+-- an entry from w that is the exception e in state s, and leaves z: the frame at A7; the frame under one of format 1, where that did not overwrite it; A7 and
+-- the stack pointers; the status; PC; the pins
 pub record Agrees (rows : List Row) (s : State) (e : Event) (w z : World) : Type 0 where
   pub frame : Each (Found rows s e (peek (mem z)) (kindOf (cpuOf w)) (a7Of (cpuOf z))) (topFields s (e .class) (e .vector))
   pub under : throwsAway s (e .class) ≡ true → Apart (kindOf (cpuOf w)) (a7Of (cpuOf z)) (firstFrame s (e .class)) → Each (Found rows s e (peek (mem z)) (kindOf (cpuOf w)) (firstFrame s (e .class))) (fieldsOf s (e .class) (e .vector))
   pub pointer : lengthDiffers rows s (e .via) (e .class) (e .vector) ≡ false → a7Of (cpuOf z) ≡ pointerAfter s (e .class)
+  pub stacks : lengthDiffers rows s (e .via) (e .class) (e .vector) ≡ false → Stacks s (e .class) (view (regsOf (cpuOf z)))
   pub status : statusDiffers rows s (e .via) (e .class) (e .vector) ≡ false → getSr (cpuOf z) ≡ statusAfter s (e .class)
   pub pc : pcDiffers rows s (e .via) (e .class) (e .vector) ≡ false → longAt (peek (mem z)) (maskAddress (kindOf (cpuOf w)) (vectorAt s (e .vector))) ≡ some (pcOf (cpuOf z))
   pub pins : (a : ℕ) → pinsDiffer rows s (e .via) (e .class) (e .vector) a ≡ false → onPins (s .lines) a ≡ maskAddress (kindOf (cpuOf w)) a
