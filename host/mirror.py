@@ -18,7 +18,7 @@ import re
 import sys
 
 HERE = pathlib.Path(__file__).resolve().parent
-LENT, LEAVES, NUMBERED, ANSWERED = "lent", "leaves", "boundary", "calls"
+LENT, LEAVES, NUMBERED, PERFORMED, ANSWERED = "lent", "leaves", "boundary", "calls", "answers"
 SCALARS = {"bool": 1, "u8": 1, "i8": 1, "u16": 2, "i16": 2, "u32": 4, "i32": 4, "u64": 8, "i64": 8, "usize": 8}
 
 STRUCT = re.compile(r"#\[repr\(C\)\]\s*pub struct (\w+)\s*\{([^}]*)\}")
@@ -260,9 +260,9 @@ def numbers(crates):
 
 def answers(crates):
     """{call: the case of `Answer` that `run` gives it}."""
-    text = source(crates, ANSWERED)
+    run, text = function_of(source(crates, PERFORMED), "run"), source(crates, ANSWERED)
     found, made = {}, {function[1] for function in FUNCTION.finditer(text)}
-    for call, maker in re.findall(r"Call::(\w+)(?:\([^)]*\))? => (\w+)\(", function_of(text, "run")):
+    for call, maker in re.findall(rf"Call::(\w+)(?:\([^)]*\))? =>\s+{ANSWERED}::(\w+)\(", run):
         seen = []
         while True:
             body = function_of(text, maker)
