@@ -67,6 +67,20 @@ use Rattle.printed.specs.Steps.{Meets, bookOf, depthOf}
 use Rattle.printed.specs.Told.{rowsText, returnsText}
 use Rattle.printed.specs.Bytes.{linesIn}
 use Rattle.printed.specs.Bytes as bytes
+use Rattle.nest.specs.Nest.{Sound}
+use Rattle.entered.specs.Pointers.{regsOf, Fit}
+use Rattle.unwind.specs.Unwind.{sightOf}
+use Rattle.manual.specs.Parts.{Family, familyOf}
+use Rattle.manual.specs.Differences.{differences}
+use Rattle.manual.specs.Calls.{Event as Exception}
+use Rattle.manual.specs.Calls.{stateOf, eventOf}
+use Rattle.manual.specs.Statement.{Agrees}
+use Rattle.manual.specs.Holds.{InDomain}
+use Rattle.manual.specs.Holds as manual
+use Rattle.manual.specs.Shown.{inputs, AllShown, hasAll}
+use Rattle.manual.specs.Shown as shown
+use Rattle.manual.specs.ReturnHolds.{Returns}
+use Rattle.manual.specs.ReturnHolds as returns
 
 -- ---- rule 3
 
@@ -208,3 +222,19 @@ walk-behind = unwind.walk-behind
 -- "Cases marked P become one proved table under one theorem", with the line after them
 pub instances : P1 × P2 × P3 × P4 × P5 × P6 × P7 × P8 × P9 × P10 × P11 × Also
 instances = table.instances
+
+-- ---- from Motorola's manuals
+
+-- "where Motorola's manuals define them, this is proved from the manuals": frames, stack pointers, status and PC of an entry, but for the rows of `differences`
+pub from-the-manuals : (w : World) (c : Call) → refusal w c ≡ 0 → InDomain (cpuOf w) → (F : Family) (p : Plan) (e : Exception) → familyOf (kindOf (cpuOf w)) ≡ some F
+    → planOf (begun w) c ≡ some p → eventOf (stateOf w F c) c ≡ some e → Sound (regsOf (cpuOf w)) → cleanTest (gist w) p ≡ true → Agrees differences (stateOf w F c) e w (perform w c .after)
+from-the-manuals = manual.holds
+
+-- "and differences are listed": every row of the table is shown by an input, and each input shows a difference on `perform`
+pub every-row-differs : AllShown inputs × (hasAll (length differences) inputs ≡ true)
+every-row-differs = (shown.all-shown, shown.every-row)
+
+-- what a return that is accepted restores is what RTE restores
+pub return-from-the-manuals : (m : Core) (s : List ℕ) (F : Family) → familyOf (kindOf (m .cpu)) ≡ some F → kindOf (m .cpu) < 12 → Fit (m .cpu) → ((i : ℕ) → getD s i 0 < 256)
+    → returnFrom m s .refused ≡ 0 → Returns F (sightOf m s) (m .cpu) (returnFrom m s .core .cpu)
+return-from-the-manuals = returns.return-holds
