@@ -231,7 +231,7 @@ pub from-the-manuals : (w : World) (c : Call) → refusal w c ≡ 0 → InDomain
 from-the-manuals = manual.holds
 
 -- "and differences are listed": every row of the table is shown by an input, and each input shows a difference on `perform`
-pub every-row-differs : AllShown inputs × (hasAll (length differences) inputs ≡ true)
+pub every-row-differs : AllShown inputs × (hasAll 0 differences inputs ≡ true)
 every-row-differs = (shown.all-shown, shown.every-row)
 
 -- what a return that is accepted restores is what RTE restores
