@@ -156,7 +156,7 @@ def section():
         ks = sorted(k for f in row[0] for k in parts[f])
         if row[4] == "past24":
             ks = [3]
-        values = [(reference.listed(i[0]), i[3], i[4]) for i in shown[n]]
+        values = [(reference.listed(i[0]), i[3], i[4]) for i in shown[n] if i[1] == shown[n][0][1]]
         single = len(values) == 1
         manual = "; ".join(m if single else f"{m} on {k}" for k, m, _ in values)
         ours = "; ".join(dict.fromkeys(u for _, _, u in values))

@@ -31,7 +31,7 @@ use Rattle.calls.specs.Calls.{refusal, perform, begun}
 use Rattle.unwind.specs.Returns.{takeFrame, walkOf}
 use Rattle.unwind.specs.declared.frames.Frame.{Frame as Taken}
 use Rattle.unwind.specs.Frames.{Sight}
-use Rattle.unwind.specs.Unwind.{sightOf, returnFrom, walkFrom}
+use Rattle.unwind.specs.Unwind.{returnFrom, walkFrom}
 use Rattle.unwind.specs.Laws as unwind
 use Rattle.bounds.specs.Levels.{Unrolls}
 use Rattle.bounds.specs.Unique as unique
@@ -54,22 +54,11 @@ use Rattle.promises.specs.Calls.{mostEvents, isEntry, cyclesOf}
 use Rattle.promises.specs.Calls as calls
 use Rattle.promises.specs.Charged as charged
 use Rattle.promises.specs.Levels as levels
-use Rattle.nest.specs.Nest.{Step, Premises, Alike, Sound, end, depth, rows, restored, restoredBy}
+use Rattle.nest.specs.Nest.{Step, Premises, Alike, end, depth, rows, restored, restoredBy}
 use Rattle.entered.specs.Machines.{Room}
-use Rattle.entered.specs.Pointers.{regsOf, Fit}
 use Rattle.rule3.specs.Rows.{told}
 use Rattle.rule3.specs.Rule3.{coreOf, Real}
 use Rattle.rule3.specs.Rule3 as rule3
-use Rattle.manual.specs.Parts.{Family, familyOf}
-use Rattle.manual.specs.Calls.{Event as Exception, stateOf, eventOf}
-use Rattle.manual.specs.Differences.{differences}
-use Rattle.manual.specs.Statement.{Agrees}
-use Rattle.manual.specs.Shown.{AllShown, inputs, hasAll}
-use Rattle.manual.specs.Shown as shown
-use Rattle.manual.specs.Holds.{InDomain}
-use Rattle.manual.specs.Holds as manual
-use Rattle.manual.specs.ReturnHolds.{Returns}
-use Rattle.manual.specs.ReturnHolds as rte
 use Rattle.lines.specs.Commands.{retName}
 use Rattle.sessions.specs.Printed.{started, printed}
 use Rattle.sessions.specs.Cuts.{answers}
@@ -79,6 +68,20 @@ use Rattle.printed.specs.Steps.{Meets, bookOf, depthOf}
 use Rattle.printed.specs.Told.{rowsText, returnsText}
 use Rattle.printed.specs.Bytes.{linesIn}
 use Rattle.printed.specs.Bytes as bytes
+use Rattle.nest.specs.Nest.{Sound}
+use Rattle.entered.specs.Pointers.{regsOf, Fit}
+use Rattle.unwind.specs.Unwind.{sightOf}
+use Rattle.manual.specs.Parts.{Family, familyOf}
+use Rattle.manual.specs.Differences.{differences}
+use Rattle.manual.specs.Calls.{Event as Exception}
+use Rattle.manual.specs.Calls.{stateOf, eventOf}
+use Rattle.manual.specs.Statement.{Agrees}
+use Rattle.manual.specs.Holds.{InDomain}
+use Rattle.manual.specs.Holds as manual
+use Rattle.manual.specs.Shown.{inputs, AllShown, hasAll}
+use Rattle.manual.specs.Shown as shown
+use Rattle.manual.specs.ReturnHolds.{Returns}
+use Rattle.manual.specs.ReturnHolds as returns
 
 -- ---- rule 3
 
@@ -221,19 +224,18 @@ walk-behind = unwind.walk-behind
 pub instances : P1 × P2 × P3 × P4 × P5 × P6 × P7 × P8 × P9 × P10 × P11 × Also
 instances = table.instances
 
--- ---- from the manuals
+-- ---- from Motorola's manuals
 
--- "where Motorola's manuals define them, this is proved from the manuals, and differences are listed": a direct entry that is accepted and taken, starts
--- sound and whose accesses are served leaves what they define, but for the rows of the table of differences
-pub manuals-hold : (w : World) (c : Call) → refusal w c ≡ 0 → InDomain (cpuOf w) → (F : Family) (p : Plan) (e : Exception) → familyOf (kindOf (cpuOf w)) ≡ some F → planOf (begun w) c ≡ some p
-    → eventOf (stateOf w F c) c ≡ some e → Sound (regsOf (cpuOf w)) → cleanTest (gist w) p ≡ true → Agrees differences (stateOf w F c) e w (perform w c .after)
-manuals-hold = manual.holds
+-- "where Motorola's manuals define them, this is proved from the manuals": frames, stack pointers, status and PC of an entry, but for the rows of `differences`
+pub from-the-manuals : (w : World) (c : Call) → refusal w c ≡ 0 → InDomain (cpuOf w) → (F : Family) (p : Plan) (e : Exception) → familyOf (kindOf (cpuOf w)) ≡ some F
+    → planOf (begun w) c ≡ some p → eventOf (stateOf w F c) c ≡ some e → Sound (regsOf (cpuOf w)) → cleanTest (gist w) p ≡ true → Agrees differences (stateOf w F c) e w (perform w c .after)
+from-the-manuals = manual.holds
 
--- each row of the table has an input that shows it, on every kind that the input names
-pub differences-shown : AllShown inputs × (hasAll (length differences) inputs ≡ true)
-differences-shown = (shown.all-shown, shown.every-row)
+-- "and differences are listed": every row of the table is shown by an input, and each input shows a difference on `perform`
+pub every-row-differs : AllShown inputs × (hasAll 0 differences inputs ≡ true)
+every-row-differs = (shown.all-shown, shown.every-row)
 
--- a return that is accepted restores what RTE restores
-pub returns-hold : (w : Core) (s : List ℕ) (F : Family) → familyOf (kindOf (w .cpu)) ≡ some F → kindOf (w .cpu) < 12 → Fit (w .cpu) → ((i : ℕ) → getD s i 0 < 256)
-    → returnFrom w s .refused ≡ 0 → Returns F (sightOf w s) (w .cpu) (returnFrom w s .core .cpu)
-returns-hold = rte.return-holds
+-- what a return that is accepted restores is what RTE restores
+pub return-from-the-manuals : (m : Core) (s : List ℕ) (F : Family) → familyOf (kindOf (m .cpu)) ≡ some F → kindOf (m .cpu) < 12 → Fit (m .cpu) → ((i : ℕ) → getD s i 0 < 256)
+    → returnFrom m s .refused ≡ 0 → Returns F (sightOf m s) (m .cpu) (returnFrom m s .core .cpu)
+return-from-the-manuals = returns.return-holds

@@ -27,12 +27,14 @@ use Rattle.nest.specs.View.{Regs, peek, under, sBit, mBit, nonzero}
 use Rattle.nest.specs.Written.{longAt}
 use Rattle.entered.specs.Bytes.{mem}
 use Rattle.entered.specs.Pointers.{regsOf}
-use Rattle.manual.specs.Parts.{Family, familyOf}
+use Rattle.manual.specs.Parts.{Family, familyOf, number}
 use Rattle.manual.specs.State.{State, onPins}
-use Rattle.manual.specs.Vectors.{vectorAt}
+use Rattle.manual.specs.Vectors.{Class, place, vectorAt}
 use Rattle.manual.specs.Formats.{Field}
 use Rattle.manual.specs.Exceptions.{topFields, pointerAfter, statusAfter}
-use Rattle.manual.specs.Differences.{Row, What, field, fields, format, pc, pins, differences, applies, coversField, lowest, always}
+use Rattle.manual.specs.Differences.{Row, What, field, fields, format, pc, pins, differences, applies, coversField, lowest, When, always, chk, vectored, based, ofTheBus, past24}
+use Rattle.manual.specs.Differences.{inMaster as inMaster′}
+use Rattle.manual.specs.Differences.{nonzero as notZero}
 use Rattle.manual.specs.Differences.{length as lengthRow}
 use Rattle.manual.specs.Differences.{status as statusRow}
 use Rattle.manual.specs.Calls.{Event, stateOf, eventOf}
@@ -84,6 +86,9 @@ twenty = 3 ∷ 4 ∷ 5 ∷ 6 ∷ []
 abbrev read : Call
 read = ExceptionBusError 0x1234 false false 2 Absent
 
+abbrev odd : Call
+odd = ExceptionAddressError 0x1235 false false
+
 abbrev pub inputs : List Input
 inputs =
     plainly 0 (1 ∷ []) read 0x00 4 1 0
@@ -121,6 +126,21 @@ inputs =
     ∷ inMaster 28 masters (TakeException 25) 0 0 0x138 0x178
     ∷ record { row = 29; kinds = 1 ∷ []; call = TakeException 4; status = 0x2700; a7 = 0x180; isp = 0x180; ppc = 0xFE; vbr = 0x80; level = 0; byte = 0x93; offset = 0; low = 0; manual = 0; ours = 0x40 }
     ∷ plainly 30 (3 ∷ []) (Trap 0) 0x1000000 0 0 0x1000000
+    ∷ plainly 0 (1 ∷ []) odd 0x00 4 1 0
+    ∷ record { row = 1; kinds = 1 ∷ []; call = odd; status = 0x2700; a7 = 0x180; isp = 0x180; ppc = 0x800FE; vbr = 0; level = 0; byte = 0x1FF; offset = 0x00; low = 3; manual = 0; ours = 1 }
+    ∷ plainly 2 (1 ∷ []) odd 0x00 0 5 0
+    ∷ plainly 3 (1 ∷ []) odd 0x02 0 0x1235 0xFE2700
+    ∷ plainly 4 (1 ∷ []) odd 0x08 0 0x2700 0
+    ∷ plainly 5 (2 ∷ []) (ExceptionAddressError 0x1235 false true) 0x08 13 1 0
+    ∷ plainly 6 (2 ∷ []) odd 0x08 12 1 0
+    ∷ plainly 9 (2 ∷ []) odd 0x08 8 1 0
+    ∷ plainly 10 (2 ∷ []) odd 0x08 0 5 0
+    ∷ plainly 11 (2 ∷ []) odd 0x0A 0 0x1235 0
+    ∷ plainly 17 (1 ∷ []) (TakeException 3) 0x08 0 0x2700 0
+    ∷ plainly 18 (1 ∷ []) (TakeException 2) 0 0 0x172 0x17A
+    ∷ plainly 19 (2 ∷ []) (TakeException 3) 0x06 0 0x800C 0x000C
+    ∷ plainly 19 twenty (TakeException 3) 0x06 0 0xB00C 0x000C
+    ∷ plainly 19 (7 ∷ 8 ∷ 9 ∷ 11 ∷ []) (TakeException 3) 0x06 0 0x200C 0x000C
     ∷ []
 
 -- ---- what is computed
@@ -340,23 +360,127 @@ input-34 : one 34 ≡ true
 unfolding shown
 input-34 = refl
 
+input-35 : one 35 ≡ true
+unfolding shown
+input-35 = refl
+
+input-36 : one 36 ≡ true
+unfolding shown
+input-36 = refl
+
+input-37 : one 37 ≡ true
+unfolding shown
+input-37 = refl
+
+input-38 : one 38 ≡ true
+unfolding shown
+input-38 = refl
+
+input-39 : one 39 ≡ true
+unfolding shown
+input-39 = refl
+
+input-40 : one 40 ≡ true
+unfolding shown
+input-40 = refl
+
+input-41 : one 41 ≡ true
+unfolding shown
+input-41 = refl
+
+input-42 : one 42 ≡ true
+unfolding shown
+input-42 = refl
+
+input-43 : one 43 ≡ true
+unfolding shown
+input-43 = refl
+
+input-44 : one 44 ≡ true
+unfolding shown
+input-44 = refl
+
+input-45 : one 45 ≡ true
+unfolding shown
+input-45 = refl
+
+input-46 : one 46 ≡ true
+unfolding shown
+input-46 = refl
+
+input-47 : one 47 ≡ true
+unfolding shown
+input-47 = refl
+
+input-48 : one 48 ≡ true
+unfolding shown
+input-48 = refl
+
+input-49 : one 49 ≡ true
+unfolding shown
+input-49 = refl
+
 -- THE INPUTS: each shows its row's difference on each of its kinds
 abbrev pub AllShown : List Input → Type 0
 AllShown [] = Unit {0}
 AllShown (i ∷ is) = (onAll i (i .kinds) ≡ true) × AllShown is
 
 pub all-shown : AllShown inputs
-all-shown = (input-0, (input-1, (input-2, (input-3, (input-4, (input-5, (input-6, (input-7, (input-8, (input-9, (input-10, (input-11, (input-12, (input-13, (input-14, (input-15, (input-16, (input-17, (input-18, (input-19, (input-20, (input-21, (input-22, (input-23, (input-24, (input-25, (input-26, (input-27, (input-28, (input-29, (input-30, (input-31, (input-32, (input-33, (input-34, tt)))))))))))))))))))))))))))))))))))
+all-shown = (input-0, (input-1, (input-2, (input-3, (input-4, (input-5, (input-6, (input-7, (input-8, (input-9, (input-10, (input-11, (input-12, (input-13, (input-14, (input-15, (input-16, (input-17, (input-18, (input-19, (input-20, (input-21, (input-22, (input-23, (input-24, (input-25, (input-26, (input-27, (input-28, (input-29, (input-30, (input-31, (input-32, (input-33, (input-34, (input-35, (input-36, (input-37, (input-38, (input-39, (input-40, (input-41, (input-42, (input-43, (input-44, (input-45, (input-46, (input-47, (input-48, (input-49, tt))))))))))))))))))))))))))))))))))))))))))))))))))
 
--- and every row of the table has one
-abbrev has : ℕ → List Input → Bool
-has r [] = false
-has r (i ∷ is) = eqb (i .row) r || has r is
+-- and every row of the table has one on each kind of its parts for each of its exceptions; the rows of the vector base and the pins, which are of any
+-- exception, have one
+abbrev classNumber : Option Event → ℕ
+classNumber none = 99
+classNumber (some e) = place (e .class)
 
-abbrev pub hasAll : ℕ → List Input → Bool
-hasAll zero is = true
-hasAll (suc r) is = has r is && hasAll r is
+abbrev classBy : Option Family → Input → ℕ → ℕ
+classBy none i k = 99
+classBy (some f) i k = classNumber (eventOf (stateOf (worldFor i k) f (i .call)) (i .call))
 
-pub every-row : hasAll (length differences) inputs ≡ true
-unfolding differences
+abbrev among : ℕ → List ℕ → Bool
+among k [] = false
+among k (j ∷ js) = eqb k j || among k js
+
+-- an input of row r on kind k for the exception of number c
+abbrev has : ℕ → ℕ → ℕ → List Input → Bool
+has r k c [] = false
+has r k c (i ∷ is) = (eqb (i .row) r && (among k (i .kinds) && eqb (classBy (familyOf k) i k) c)) || has r k c is
+
+abbrev hasClasses : ℕ → ℕ → List Class → List Input → Bool
+hasClasses r k [] is = true
+hasClasses r k (c ∷ cs) is = has r k (place c) is && hasClasses r k cs is
+
+abbrev inFamilies : Option Family → List Family → Bool
+inFamilies none fs = false
+inFamilies (some f) fs = among (number f) (numbers fs)
+  where
+    numbers : List Family → List ℕ
+    numbers [] = []
+    numbers (g ∷ gs) = number g ∷ numbers gs
+
+abbrev hasKinds : ℕ → Row → ℕ → List Input → Bool
+hasKinds r w zero is = true
+hasKinds r w (suc k) is = (not (inFamilies (familyOf k) (w .families)) || hasClasses r k (w .classes) is) && hasKinds r w k is
+
+abbrev hasOne : ℕ → List Input → Bool
+hasOne r [] = false
+hasOne r (i ∷ is) = eqb (i .row) r || hasOne r is
+
+abbrev ofAny : When → Bool
+ofAny always = false
+ofAny notZero = false
+ofAny chk = false
+ofAny vectored = false
+ofAny inMaster′ = false
+ofAny based = true
+ofAny ofTheBus = false
+ofAny past24 = true
+
+abbrev pub hasAll : ℕ → List Row → List Input → Bool
+hasAll r [] is = true
+hasAll r (w ∷ ws) is = cond (ofAny (w .when)) (hasOne r is) (hasKinds r w 12 is) && hasAll (suc r) ws is
+
+pub every-row : hasAll 0 differences inputs ≡ true
+unfolding shown
 every-row = refl

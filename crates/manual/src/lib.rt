@@ -1,2 +1,3 @@
 // The proof from Motorola's manuals: exception processing as the manuals define it, a table of where this code differs, and the theorem
-// that it differs nowhere else. Mathematics only, in specs/. It uses `entered`, `forms` and `instances`; nothing uses it.
+// that it differs nowhere else. Mathematics only, in specs/. It uses `rule3`, `entered`, `forms` and
+// `instances`; `claims` uses it.
