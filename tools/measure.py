@@ -16,19 +16,24 @@ TURNS = 1000
 # Functions that are named of an entry, and the kind whose entries are shown so.
 NAMED, SHOWN = 6, 4
 
-# The instances of the scope: these and a handler at 2000, whose address stands at the vector's place.
+# The instances of the scope: these and a handler at 2000, whose address stands at the vector's place. Last what the answer must say.
 USUAL = 'status=2700 pc=1000 ppc=ffe a7=8000'
 BUS_ERROR = 'exception_bus_error:1234:0:0:4:0'
+INTERRUPT = 'check_and_service_interrupts'
+ENTERED = {'pc': '2000'}
 CASES = [
-    ('take_exception', 1, 'take_exception:20', 'patch=80:00002000'),
-    ('take_exception', 2, 'take_exception:20', 'patch=80:00002000'),
-    ('take_exception', 4, 'take_exception:20', 'patch=80:00002000'),
-    ('interrupt, level 7', 1, 'check_and_service_interrupts', 'int_level=7 patch=7c:00002000'),
-    ('interrupt, level 7', 2, 'check_and_service_interrupts', 'int_level=7 patch=7c:00002000'),
-    ('interrupt, level 7', 4, 'check_and_service_interrupts', 'int_level=7 patch=7c:00002000'),
-    ('CHK', 4, 'exception_chk', 'patch=18:00002000'),
-    ('bus error', 4, BUS_ERROR, 'patch=8:00002000'),
-    ('bus error', 9, BUS_ERROR, 'patch=8:00002000'),
+    ('take_exception', 1, 'take_exception:20', 'patch=80:00002000', ENTERED),
+    ('take_exception', 2, 'take_exception:20', 'patch=80:00002000', ENTERED),
+    ('take_exception', 4, 'take_exception:20', 'patch=80:00002000', ENTERED),
+    ('interrupt, level 7', 1, INTERRUPT, 'int_level=7 patch=7c:00002000', ENTERED),
+    ('interrupt, level 7', 2, INTERRUPT, 'int_level=7 patch=7c:00002000', ENTERED),
+    ('interrupt, level 7', 4, INTERRUPT, 'int_level=7 patch=7c:00002000', ENTERED),
+    ('interrupt, not taken', 2, INTERRUPT, 'int_level=3', {'ans': '0', 'nev': '0'}),
+    ('interrupt, not taken', 4, INTERRUPT, 'int_level=3', {'ans': '0', 'nev': '0'}),
+    ('CHK', 4, 'exception_chk', 'patch=18:00002000', ENTERED),
+    ('bus error', 4, BUS_ERROR, 'patch=8:00002000', ENTERED),
+    ('bus error', 9, BUS_ERROR, 'patch=8:00002000', ENTERED),
+    ('take_exception whose frame faults', 4, 'take_exception:20', 'a7=2', {'stopped': '1', 'run_mode': '1'}),
 ]
 
 
@@ -134,14 +139,14 @@ def main():
         given = 'call=%s kind=4 %s' % (CASES[0][2], USUAL)
         empty = {side: each_turn(side, 'copy', given, folder)[1:] for side in SIDES}
         split = None
-        for what, kind, call, rest in CASES:
-            given = 'call=%s kind=%d %s %s' % (call, kind, USUAL, rest)
+        for what, kind, call, rest, want in CASES:
+            given = 'call=%s kind=%d %s %s' % (call, kind, USUAL.replace(' a7=8000', '') if 'a7=' in rest else USUAL, rest)
             found = {side: each_turn(side, 'call', given, folder) for side in SIDES}
             if found['proved'][0] != found['Rust'][0]:
                 raise Bad('%s\n  proved %s\n  Rust   %s' % (given, found['proved'][0], found['Rust'][0]))
             answer = dict(pair.split('=', 1) for pair in found['Rust'][0].split())
-            if answer['refused'] != '0' or answer['pc'] != '2000':
-                raise Bad('%s: no entry was made: %s' % (given, found['Rust'][0]))
+            if answer['refused'] != '0' or any(answer.get(name) != value for name, value in want.items()):
+                raise Bad('%s: not what is to be measured: %s' % (given, found['Rust'][0]))
             own = {side: without(found[side][1], empty[side][0]) for side in SIDES}
             copies = without(found['proved'][2], empty['proved'][1])['memcpy']
             rust, proved = sum(own['Rust'].values()), sum(own['proved'].values())

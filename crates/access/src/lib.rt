@@ -1,7 +1,7 @@
-// Guarded accesses and what they raise: triggers, error entries, pushes, the vector jump and the prefetch call each other, with
-// one fault level less at each trigger. It uses `steps` and everything below; `exceptions` and `interrupts` push their frames and
-// jump through it. Here are the Rust's names over the functions that call each other, with two levels: inside the domain more
-// change nothing.
+// Guarded accesses and what they raise: triggers, error entries, pushes, the vector jump and the prefetch call each other, with one fault
+// level less at each trigger. It uses `steps`, `frames`, `memory` and everything below; `exceptions` and `interrupts` push their frames and
+// jump through it, and `calls` calls it. Here are the Rust's names over the functions that call each other, with two levels: inside the
+// domain more change nothing.
 use frames::Frame;
 use memory::Core;
 use memory::Reply;

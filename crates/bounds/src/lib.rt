@@ -1,1 +1,2 @@
-// Bounds of the functions that call each other in `access`: mathematics only, in `specs`.
+// Bounds of the functions that call each other in `access`: mathematics only, in `specs`. It uses `access` and everything below; `promises`,
+// `forms` and `claims` use it.

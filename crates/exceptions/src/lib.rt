@@ -1,5 +1,5 @@
-// The exceptions that are no errors: `take_exception` and the wrappers around it, the group 2 exceptions, trace, and the two
-// floating-point entries of the 68060. It uses `formats`, `access` and everything below; `calls` uses it.
+// The exceptions that are no errors: `take_exception` and the wrappers around it, the group 2 exceptions, trace, and the two floating-point
+// entries of the 68060. It uses `formats`, `access` and everything below; `answers` and `calls` use it.
 use memory::Core;
 ghost use mathlib.Core.Path.{_≡_};
 ghost use Rattle.types.specs.Vectors.{illegalInstruction, zeroDivide, chk, privilegeViolation, line1010, line1111};

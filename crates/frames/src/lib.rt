@@ -1,6 +1,6 @@
-// Frames as data: the fields upward from the new A7, so that the first is pushed last; what the two error entries stack, kind by
-// kind, with the status words in it. It uses `status`, `cpu` and `types`; `access` pushes these frames, and `exceptions` and
-// `interrupts` describe theirs with the same fields.
+// Frames as data: the fields upward from the new A7, so that the first is pushed last; what the two error entries stack, kind by kind, with
+// the status words in it. It uses `status`, `cpu` and `types`; `access` pushes these frames, and `formats` describes those of the other
+// exceptions with the same fields.
 use cpu::Cpu;
 
 mod codes; // status words of error frames

@@ -1,1 +1,2 @@
-// What lies in the store after an error entry whose accesses are served: mathematics only, in `specs`.
+// What lies in the store after an error entry whose accesses are served: mathematics only, in `specs`. It uses `access` and everything
+// below; `instances`, `forms`, `entered`, `rule3`, `manual` and `claims` use it.

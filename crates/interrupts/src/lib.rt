@@ -1,5 +1,5 @@
-// The interrupt call: `check_and_service_interrupts` with `service_interrupt`, kind by kind. It uses `formats` for the frames,
-// `access` and everything below; `calls` uses it.
+// The interrupt call: `check_and_service_interrupts` with `service_interrupt`, kind by kind. It uses `formats` for the frames, `access` and
+// everything below; `answers` and `calls` use it.
 use memory::Core;
 ghost use mathlib.Core.Path.{_≡_};
 ghost use mathlib.Core.Bool.{true, false};

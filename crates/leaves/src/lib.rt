@@ -1,5 +1,6 @@
-// The leaf functions of the record, exported by value for the comparison of each with the Rust's (host/leaves). It uses `status`, `cpu` and
-// `pending`; what it exports is proved equal to their definitions. No program that runs a processor needs it: `lent` has the calls.
+// The leaf functions of the record, exported by value for the comparison of each with the Rust's (host/leaves; `put_back_sr`, which the Rust
+// has not, with the test's own). It uses `status`, `cpu` and `pending`; what it exports is proved equal to their definitions. No program
+// that runs a processor needs it: `lent` has the calls.
 use cpu::Cpu;
 ghost use mathlib.Core.Path.{_≡_};
 ghost use Rattle.status.specs.Status.{getSr, setSrNointNosp, putBackSr, setCcr};

@@ -1,6 +1,6 @@
-// The bus by value and the two lent slices beside it: the store, its fault windows, the acknowledge responses, the log of bus
-// events, and one access, served or not. It uses `types` and `cpu`; `access` and everything above reach the store and the log
-// only through it.
+// The bus by value and the two lent slices beside it: the store, its fault windows, the acknowledge responses, the log of bus events, and
+// one access, served or not. It uses `types` and `cpu`; `access` and everything above reach the store and the log through it, but that
+// `unwind` reads the bytes of a frame and `sessions` clears the store.
 use cpu::Cpu;
 
 mod bytes; // big-endian words and longs in a slice

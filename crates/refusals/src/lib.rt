@@ -1,5 +1,5 @@
-// The refusals 1 to 9: what each number tests, and the lowest that applies to a call, given what the call is lent. It uses
-// `memory`, `pending`, `cpu` and `types`; `calls` and `unwind` use it; `calls` says what each call is given.
+// The refusals 1 to 9: what each number tests, and the lowest that applies to a call, given what the call is lent. It uses `memory`,
+// `pending`, `cpu` and `types`; `answers`, `calls` and `unwind` use it; `answers` says what each call is given.
 use cpu::Cpu;
 use memory::Bus;
 use memory::Core;

@@ -1,6 +1,6 @@
-// What a session does on a line and on the bytes of its input: entries, returns and walks go through the public call, return and walk
-// alone, other commands set fields and bytes, and what is printed is laid into a buffer. It uses `lines`, `prints`, `calls`, `unwind` and
-// the record's crates; the program `session` lends it the buffers, reads and writes.
+// What a session does on a line and on the bytes of its input: entries, returns and walks go through the public call, return and walk alone,
+// other commands set fields and bytes, and what is printed is laid into a buffer. It uses `lines`, `prints`, `calls`, `answers`, `unwind`,
+// `memory` and the record's crates; the program `session` lends it the buffers, reads and writes.
 use answers::Answer;
 use answers::Call;
 use answers::Performed;

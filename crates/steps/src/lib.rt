@@ -1,5 +1,5 @@
-// What an entry tests and changes on the record, one step each, and the numbers that it computes. It uses `pending` for the end of
-// an interrupt, and everything below; `access`, `exceptions` and `interrupts` use it.
+// What an entry tests and changes on the record, one step each, and the numbers that it computes. It uses `pending` for the end of an
+// interrupt, `status` and everything below; `access`, `exceptions` and `interrupts` use it.
 use cpu::Cpu;
 ghost use mathlib.Core.Path.{_≡_};
 ghost use mathlib.Core.Bool.{true, false};
