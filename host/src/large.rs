@@ -540,27 +540,24 @@ mod tests {
             core.set_windows(windows);
             core.return_from(memory) == Err(Refusal::Frame)
         };
-        let first = core.dar()[15];
-        let head = |i| memory[first.wrapping_add(i).wrapping_sub(core.base()) as usize];
-        let index = |s: bool, m: bool| if !s { 0 } else { 4 + 2 * usize::from(m) };
-        let second = || {
-            let (before, after) = (
-                index(core.s_flag() != 0, core.m_flag() != 0),
-                index(head(0) & 0x20 != 0, head(0) & 0x10 != 0),
-            );
-            if before == after { first.wrapping_add(8) } else { core.sp()[after] }
-        };
         [told.lowest, told.highest].into_iter().all(|at| {
-            let served = whole.serves(&(at.into()..u64::from(at) + 1));
-            let window = Window { start: at, length: 1 };
-            let windows: Vec<Window> = core.windows().chain([window]).collect();
-            served
-                && refuses(&windows)
-                && (!refuses(&whole.windows)
-                    || (3..=9).contains(&core.cpu_type())
-                        && head(6) >> 4 == 1
-                        && [first, second()].iter().any(|p| at.wrapping_sub(*p) < 8))
+            let faults = Window { start: at, length: 1 };
+            let windows: Vec<Window> = core.windows().chain([faults]).collect();
+            let looked_at = whole.serves(&(at.into()..u64::from(at) + 1)) && refuses(&windows);
+            looked_at && (!refuses(&whole.windows) || in_heads(core, memory, at))
         })
+    }
+
+    /// Whether the frame has format 1 and the byte is one of its head or of that of the second frame.
+    fn in_heads(core: &Core, memory: &[u8], at: u32) -> bool {
+        let first = core.dar()[15];
+        let byte = |i| memory[first.wrapping_add(i).wrapping_sub(core.base()) as usize];
+        let stack = |s: bool, m: bool| if s { 4 + 2 * usize::from(m) } else { 0 };
+        let in_use = stack(core.s_flag() != 0, core.m_flag() != 0);
+        let selected = stack(byte(0) & 0x20 != 0, byte(0) & 0x10 != 0);
+        let second = if selected == in_use { first.wrapping_add(8) } else { core.sp()[selected] };
+        let two = (3..=9).contains(&core.cpu_type()) && byte(6) >> 4 == 1;
+        two && [first, second].into_iter().any(|frame| at.wrapping_sub(frame) < 8)
     }
 
     /// A core in 4 MiB of memory, on a frame with that status and format word.
