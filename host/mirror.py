@@ -37,8 +37,9 @@ C_HEAD = """\
  * Exception, fault, trace and interrupt entry of the M68000 family: the functions of liblent.a (`rt staticlib lent`).
  * docs/HOST.md has what is proved and what is assumed; docs/REFERENCE.md the kinds, refusals and events.
  *
- * Every byte pattern of the structs has a meaning. A byte that is a flag (exception_processing, change_of_flow, loop_mode, precise_bus and
- * each `some`) is set where it is not 0; an accepted call leaves 0 or 1 in it. Where `some` is 0 the value beside it means nothing.
+ * Every value of every field has a meaning; the bytes between fields have none. A byte that is a flag (exception_processing,
+ * change_of_flow, loop_mode, precise_bus and each `some`) is set where it is not 0; an accepted call leaves 0 or 1 in it. Where `some` is 0
+ * the value beside it means nothing.
  * A pointer is to as many elements as the length behind it says, none of them shared with another pointer of the call; with a length of 0
  * it is not followed, but must not be null. */
 #ifndef M68K_H
@@ -70,7 +71,7 @@ C_SAYS = {
     "m68k_walk": "Makes n returns on a copy and lays what each read into `rows`, four words each: format, status, address, offset.",
     "m68k_fresh": "The record of a processor of that kind after it was made.",
     "m68k_get_sr": "The status register.",
-    "m68k_set_sr": "Sets the status register under the kind's mask and swaps the stacks; answers the status as it reads then.",
+    "m68k_set_sr": "Sets the status register under the kind's mask, M only with S, and swaps the stacks; answers the status as it reads then.",
 }
 
 
@@ -209,6 +210,7 @@ def rust_mirror(crates, top):
         out.append(f"pub struct {name} {{")
         out += [f"    pub {field}: {rust_type(kind)}," for field, kind in fields]
         out.append("}\n")
+    out.append(f"const _: () = assert!(size_of::<usize>() == {SCALARS['usize']});")
     for name in layout.structs:
         size, align, offsets = layout.struct(name)
         out.append(f"const _: () = assert!(size_of::<{name}>() == {size} && align_of::<{name}>() == {align});")
@@ -332,6 +334,7 @@ def c_header(crates):
         out += [f"    {c_field(field, kind)};" for field, kind in fields]
         out.append("};\n")
     out.append(C_ASSERT)
+    out.append(f'M68K_ASSERT(sizeof(size_t) == {SCALARS["usize"]}, "size_t");')
     for name in layout.structs:
         size, _, offsets = layout.struct(name)
         tag = "struct " + c_name(name)

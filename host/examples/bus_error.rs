@@ -4,7 +4,22 @@
 //! on the stack, the handler's address in the program counter, and `run_mode` says that the instruction is to be given up.
 //! What the instruction still does to registers is undone by the state in `fault_resume`.
 
-use m68k_host::{Answer, Call, Core, Event, Kind, Refusal, Resume, Window};
+use m68k_host::{Answer, Call, Core, Event, Kind, Record, Refusal, Resume, Window};
+
+/// The instruction is given up: what it did since to registers and status is undone. The Rust swaps no stacks here and
+/// `set_sr` does, so the saved pointers are put back behind it, and the registers with A7.
+fn give_up(core: &mut Core) {
+    if let Some(Resume { pc, sr, dar }) = core.fault_resume() {
+        let sp = *core.sp();
+        core.set_pc(pc);
+        core.set_sr(sr);
+        (*core.sp_mut(), *core.dar_mut()) = (sp, dar);
+        core.set_fault_resume(None);
+    }
+    if core.stopped() == 0 {
+        core.set_run_mode(0);
+    }
+}
 
 fn main() -> Result<(), Refusal> {
     let mut core = Core::fresh(Kind::M68010);
@@ -28,11 +43,13 @@ fn main() -> Result<(), Refusal> {
     let frame = &store[core.dar()[15] as usize..0x8000];
     assert_eq!(frame[6..8], [0x80, 0x08], "format 8, vector 2");
 
-    // The instruction is given up: the handler starts with what the entry left. Nothing ran since, so it is there.
-    let Some(Resume { pc, sr, dar }) = core.fault_resume() else { panic!("no bus error") };
-    assert_eq!((core.pc(), core.get_sr(), *core.dar()), (pc, sr, dar));
-    core.set_fault_resume(None);
-    core.set_run_mode(0);
+    // Whatever the rest of the instruction does to registers and status, the handler starts with what the entry left.
+    let entered = Record { fault_resume: None, run_mode: 0, ..core.record() };
+    core.set_pc(0x1006);
+    core.dar_mut()[15] -= 4;
+    core.set_s_flag(0);
+    give_up(&mut core);
+    assert_eq!(core.record(), entered);
     println!("handler at {:08X}, A7 {:08X}", core.pc(), core.dar()[15]);
     assert_eq!(core.pc(), 0x2000);
 

@@ -56,7 +56,7 @@ fn main() -> Result<(), LargeError> {
     machine.lay_long(0x3F_00BC, 0x3F_4000);
     assert!(machine.enter(Call::Trap(15))?);
     let mut rows = [0; 4];
-    let walked = machine.core.walk_large(1, &machine.memory, &mut rows).expect("one stack");
+    let walked = machine.core.walk_large(1, &machine.memory, &mut rows)?;
     assert_eq!((walked.count, rows), (1, [0, 0x2700, 0x20_0000, 0xBC]));
     Ok(())
 }

@@ -3,8 +3,9 @@
  * Exception, fault, trace and interrupt entry of the M68000 family: the functions of liblent.a (`rt staticlib lent`).
  * docs/HOST.md has what is proved and what is assumed; docs/REFERENCE.md the kinds, refusals and events.
  *
- * Every byte pattern of the structs has a meaning. A byte that is a flag (exception_processing, change_of_flow, loop_mode, precise_bus and
- * each `some`) is set where it is not 0; an accepted call leaves 0 or 1 in it. Where `some` is 0 the value beside it means nothing.
+ * Every value of every field has a meaning; the bytes between fields have none. A byte that is a flag (exception_processing,
+ * change_of_flow, loop_mode, precise_bus and each `some`) is set where it is not 0; an accepted call leaves 0 or 1 in it. Where `some` is 0
+ * the value beside it means nothing.
  * A pointer is to as many elements as the length behind it says, none of them shared with another pointer of the call; with a length of 0
  * it is not followed, but must not be null. */
 #ifndef M68K_H
@@ -147,6 +148,7 @@ struct m68k_said_return {
 #define M68K_ASSERT _Static_assert
 #endif
 #ifdef M68K_ASSERT
+M68K_ASSERT(sizeof(size_t) == 8, "size_t");
 M68K_ASSERT(sizeof(struct m68k_regs) == 160, "m68k_regs");
 M68K_ASSERT(offsetof(struct m68k_regs, dar) == 0, "dar");
 M68K_ASSERT(offsetof(struct m68k_regs, dar_save) == 64, "dar_save");
@@ -293,7 +295,7 @@ struct m68k_cpu m68k_fresh(uint8_t kind);
 /* The status register. */
 uint32_t m68k_get_sr(const struct m68k_cpu *cpu);
 
-/* Sets the status register under the kind's mask and swaps the stacks; answers the status as it reads then. */
+/* Sets the status register under the kind's mask, M only with S, and swaps the stacks; answers the status as it reads then. */
 uint32_t m68k_set_sr(struct m68k_cpu *cpu, uint16_t sr);
 
 #ifdef __cplusplus

@@ -10,7 +10,7 @@ use std::fmt;
 pub enum Call {
     /// Entry by a vector.
     TakeException(u32),
-    /// TRAP instruction, by its number.
+    /// TRAP instruction, by its number, of which the low 4 bits count.
     Trap(u8),
     /// Entry with the instruction's address stacked where the kind has room for it.
     TakeGroup2Exception(u32),
@@ -52,7 +52,7 @@ pub enum Call {
     TakeAlineException,
     /// Instruction 0xFnnn.
     TakeFlineException,
-    /// TRAP met while an instruction is carried out.
+    /// TRAP met while an instruction is carried out, by its number, of which the low 4 bits count.
     TakeTrapException(u8),
     /// BKPT.
     TakeBkptException,
@@ -80,7 +80,7 @@ pub enum Call {
     },
     /// Does the instruction ask for a trace exception?
     CheckTrace,
-    /// A device asks for an interrupt of a level.
+    /// A device asks for an interrupt of a level, of which the low 3 bits count: 8 is none, as 0.
     SetIrq(u8),
     /// Does an interrupt wait, by the raw fields?
     CheckInterrupts,

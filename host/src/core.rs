@@ -113,7 +113,7 @@ impl Core {
         let (store_len, log_len) = (store.len(), log.len());
         // Sound: the function is proved for every record, bus, store, log and call, and asks nothing of its caller
         // but what the types say. The structs have the layout that it was compiled for (mirror.rs is made from its
-        // source and asserts sizes and offsets) and no byte of them is without a meaning. Core and slices are
+        // source and asserts sizes and offsets) and every value of every field has a meaning. Core and slices are
         // borrowed here for longer than the call, which keeps no pointer.
         let said = unsafe {
             let (store, log) = (store.as_mut_ptr(), log.as_mut_ptr());
@@ -226,7 +226,8 @@ impl Core {
         }
     }
 
-    /// What the acknowledge of each level answers; 0xFFFFFFFF for no vector.
+    /// What the acknowledge of each level answers: 0xFFFFFFFF for no vector (the level's own, 24 + level, is taken), else
+    /// a vector in the low 8 bits. So 0xFFFFFFFE is vector 254, not the spurious interrupt.
     pub fn responses(&self) -> &[u32; 8] {
         &self.0.bus.responses
     }

@@ -10,8 +10,8 @@
 //!
 //! So an outcome is that of the proved definitions over a store that is the whole memory, as if
 //! [`Refusal::Store`] had no limit but the end at 2^32; and [`Apart`] is answered by a call exactly where its accesses that
-//! the memory serves do not lie in one part. What an emulator does then: have the entry made by other code, or move the
-//! guest's stack, vectors or handlers together.
+//! the memory serves do not lie in one part, by a return only where bytes that it looks at, all of them served, do not. What an
+//! emulator does then: have the entry made by other code, or move the guest's stack, vectors or handlers together.
 //!
 //! This search is Rust and tested, not proved; each attempt is a proved call. An attempt copies the part, so that it
 //! can be put back.
@@ -51,7 +51,7 @@ pub const STORE_LIMIT: usize = 65_536;
 /// The most events of a call.
 const EVENTS: usize = 64;
 /// The longest frame.
-const FRAME_BYTES: u32 = 92;
+const FRAME_BYTES: usize = 92;
 /// The end of all addresses.
 const ADDRESSES: u64 = 1 << 32;
 
@@ -103,6 +103,35 @@ impl From<Refusal> for LargeError {
     }
 }
 
+impl From<Apart> for LargeError {
+    fn from(apart: Apart) -> LargeError {
+        LargeError::Apart(apart)
+    }
+}
+
+/// A walk over a large memory that met a return whose frames lie too far apart.
+#[derive(Debug, Clone, Copy, PartialEq, Eq, Hash)]
+pub struct WalkApart {
+    /// The returns before it, whose rows are in the buffer.
+    pub walked: Walked,
+    /// What that return needs.
+    pub apart: Apart,
+}
+
+impl fmt::Display for WalkApart {
+    fn fmt(&self, f: &mut fmt::Formatter<'_>) -> fmt::Result {
+        write!(f, "after {} rows: {}", self.walked.count, self.apart)
+    }
+}
+
+impl std::error::Error for WalkApart {}
+
+impl From<WalkApart> for LargeError {
+    fn from(stopped: WalkApart) -> LargeError {
+        LargeError::Apart(stopped.apart)
+    }
+}
+
 impl Core {
     /// [`Core::call`] over a memory of any length from [`Core::base`] on. See [`large`](crate::large) for what holds of
     /// the outcome.
@@ -123,8 +152,7 @@ impl Core {
     ///
     /// # Errors
     ///
-    /// Refused by number, as over the whole memory; or [`LargeError::Apart`]: no part that was tried gives the frames, and none of
-    /// them holds all places where they can lie. The core is then as it came.
+    /// Refused by number, as over the whole memory; or the frames lie too far apart. The core is then as it came.
     pub fn return_large(&mut self, memory: &[u8]) -> Result<Row, LargeError> {
         return_within(self, memory, STORE_LIMIT)
     }
@@ -133,8 +161,8 @@ impl Core {
     ///
     /// # Errors
     ///
-    /// A return of it cannot be made, as in [`Core::return_large`]. Rows before it are in the buffer.
-    pub fn walk_large(&self, n: u32, memory: &[u8], rows: &mut [u32]) -> Result<Walked, Apart> {
+    /// The frames of a return lie too far apart. Rows before it are in the buffer, and the error says how many.
+    pub fn walk_large(&self, n: u32, memory: &[u8], rows: &mut [u32]) -> Result<Walked, WalkApart> {
         walk_within(self, n, memory, rows, STORE_LIMIT)
     }
 }
@@ -249,48 +277,73 @@ fn missed(whole: &Whole, answer: Answer, log: &[u32]) -> Option<Span> {
     None
 }
 
-/// The bytes of a frame of so many that the memory serves, each at its address modulo 2^32, masked.
-fn frame(core: &Core, whole: &Whole, pointer: u32, bytes: u32) -> Option<Span> {
-    let places = (0..bytes).map(|i| u64::from(pointer.wrapping_add(i) & core.address_mask()));
-    places.map(|at| at..at + 1).filter(|byte| whole.serves(byte)).reduce(|a, b| hull(&a, &b))
+/// The bytes of a frame that a return looks at: so many from a pointer on, each at its address modulo 2^32, masked.
+#[derive(Clone, Copy)]
+struct Piece {
+    pointer: u32,
+    bytes: u32,
 }
 
+impl Piece {
+    fn address(self, core: &Core, byte: u32) -> u64 {
+        u64::from(self.pointer.wrapping_add(byte) & core.address_mask())
+    }
+
+    fn addresses(self, core: &Core) -> impl Iterator<Item = u64> + '_ {
+        (0..self.bytes).map(move |byte| self.address(core, byte))
+    }
+}
+
+/// A return looks at the head of its frame, then at the rest, or at the head of a second frame and its rest. A part that
+/// holds all known of these bytes gives the outcome, or 12 for bytes that it does not hold: then more is known.
 fn return_within(core: &mut Core, memory: &[u8], most: usize) -> Result<Row, LargeError> {
     if lent_whole(core, memory, most) {
         return Ok(core.return_from(memory)?);
     }
-    let whole = Whole::of(core, memory);
-    let first = core.dar()[15];
-    // Where a second frame can lie: behind the first, or at the saved pointer of another stack.
-    let seconds = [first.wrapping_add(8), core.sp()[0], core.sp()[4], core.sp()[6]];
-    let short = if core.cpu_type() == 1 { 6 } else { 8 };
-    let (mut all_tried, mut too_far) = (true, None);
-    for second in seconds {
-        for (a, b) in [(short, 0), (short, 8), (FRAME_BYTES, FRAME_BYTES)] {
-            let frames = [frame(core, &whole, first, a), frame(core, &whole, second, b)];
-            let Some(span) = frames.into_iter().flatten().reduce(|a, b| hull(&a, &b)) else {
-                continue;
-            };
-            if length(&span) > most as u64 {
-                all_tried &= b != FRAME_BYTES;
-                too_far = Some(apart(&span));
-                continue;
-            }
-            let done = return_over(core, &whole, memory, whole.part(&span, most));
-            // All that a return has read was served, but where it is refused for its frame.
-            if done != Err(Refusal::Frame) {
-                return Ok(done?);
-            }
-        }
-    }
+    let (whole, first) = (Whole::of(core, memory), core.dar()[15]);
     let odd = first % 2 == 1 && matches!(core.cpu_type(), 1 | 2 | 10);
-    let mut places = (0..short).map(|i| u64::from(first.wrapping_add(i) & core.address_mask()));
-    let unserved = places.any(|at| !whole.serves(&(at..at + 1)));
-    match too_far {
-        Some(apart) if !all_tried && !odd && !unserved => Err(LargeError::Apart(apart)),
-        // Each place of a second frame was held by a part, or the first frame is not there.
-        _ => Ok(return_over(core, &whole, memory, whole.part(&(0..0), most))?),
+    let mut pieces =
+        vec![Piece { pointer: first, bytes: if core.cpu_type() == 1 { 6 } else { 8 } }];
+    for _ in 0..3 {
+        let bytes = || pieces.iter().flat_map(|piece| piece.addresses(core)).map(|at| at..at + 1);
+        let span = bytes().reduce(|a, b| hull(&a, &b)).expect("a frame has a head");
+        let refused = odd || !bytes().all(|byte| whole.serves(&byte));
+        let done = return_over(core, &whole, memory, whole.part(&span, most));
+        // All that a return has read was served, but where it is refused for its frame.
+        if done != Err(Refusal::Frame) || refused {
+            return Ok(done?);
+        }
+        if length(&span) > most as u64 {
+            return Err(LargeError::Apart(apart(&span)));
+        }
+        look_further(core, &whole, memory, &mut pieces);
     }
+    unreachable!("two heads and the rest of a frame are all that a return looks at")
+}
+
+/// What a return looks at after these bytes, which are all there, and whose formats the kind takes.
+fn look_further(core: &Core, whole: &Whole, memory: &[u8], pieces: &mut Vec<Piece>) {
+    let last = pieces.last_mut().expect("a frame has a head");
+    let byte = |i| memory[(last.address(core, i) - whole.span.start) as usize];
+    let format = byte(6) >> 4;
+    if format != 1 {
+        last.bytes = frame_bytes(core, format);
+        return;
+    }
+    // The second frame lies where the stacked status selects a stack.
+    let mut after = core.clone();
+    after.dar_mut()[15] = last.pointer.wrapping_add(8);
+    after.set_sr(u16::from_be_bytes([byte(0), byte(1)]));
+    pieces.push(Piece { pointer: after.dar()[15], bytes: 8 });
+}
+
+/// The length of a frame of a format that the kind takes: what a return from one at 0 leaves in A7.
+fn frame_bytes(core: &Core, format: u8) -> u32 {
+    let (mut alone, mut store) = (Core::fresh(core.cpu_type()), [0; FRAME_BYTES]);
+    alone.dar_mut()[15] = 0;
+    (store[0], store[6]) = (0x20, format << 4);
+    alone.return_from(&store).expect("a format that the kind takes");
+    alone.dar()[15]
 }
 
 /// A return over a part of the memory.
@@ -313,7 +366,7 @@ fn walk_within(
     memory: &[u8],
     rows: &mut [u32],
     most: usize,
-) -> Result<Walked, Apart> {
+) -> Result<Walked, WalkApart> {
     if lent_whole(core, memory, most) {
         return Ok(core.walk(n, memory, rows));
     }
@@ -332,7 +385,9 @@ fn walk_within(
             Err(LargeError::Refused(refusal)) => {
                 return Ok(Walked { count, refused: Some(refusal) });
             }
-            Err(LargeError::Apart(apart)) => return Err(apart),
+            Err(LargeError::Apart(apart)) => {
+                return Err(WalkApart { walked: Walked { count, refused: None }, apart });
+            }
         }
     }
     Ok(Walked { count: n, refused: None })
@@ -437,21 +492,17 @@ mod tests {
     #[test]
     fn returns_and_walks_over_parts_are_those_over_the_whole() {
         let mut n = Numbers(2);
-        let (mut same, mut apart, mut refused) = (0, 0, 0);
+        let (mut same, mut apart, mut refused, mut later) = (0, 0, 0, 0);
         for turn in 0..60_000 {
             let (core, memory) = framed(&mut n, 0x2000);
             let most = n.of(&MOSTS);
             let (mut whole, mut by_part) = (core.clone(), core.clone());
             let right = whole.return_from(&memory).map_err(LargeError::Refused);
             match return_within(&mut by_part, &memory, most) {
-                Err(LargeError::Apart(_)) => {
+                Err(LargeError::Apart(told)) => {
                     assert!(by_part == core, "turn {turn}");
-                    // The first frame is there: else the number is told.
-                    let first = core.dar()[15] & core.address_mask();
-                    let place = first.wrapping_sub(core.base()) as usize;
-                    assert!(place + 6 <= memory.len(), "turn {turn}");
-                    let odd = matches!(core.cpu_type(), 1 | 2 | 10) && first % 2 == 1;
-                    assert!(!odd, "turn {turn}");
+                    assert!(told.highest - told.lowest >= most as u32, "turn {turn}: it fits");
+                    assert!(looks_at(&core, &memory, told), "turn {turn}: {told} are not needed");
                     apart += 1;
                 }
                 other => {
@@ -463,11 +514,109 @@ mod tests {
             let (mut rows, mut by_part) = ([7; 16], [7; 16]);
             let (steps, room) = (n.below(5), n.of(&[16, 16, 16, 8, 0]));
             let walked = core.walk(steps, &memory, &mut rows[..room]);
-            if let Ok(other) = walk_within(&core, steps, &memory, &mut by_part[..room], most) {
-                assert_eq!((other, by_part), (walked, rows), "turn {turn}, parts of {most}");
+            match walk_within(&core, steps, &memory, &mut by_part[..room], most) {
+                Ok(other) => {
+                    assert_eq!((other, by_part), (walked, rows), "turn {turn}, parts of {most}");
+                }
+                Err(stopped) => {
+                    let words = stopped.walked.count as usize * 4;
+                    assert!(stopped.walked.refused.is_none() && stopped.walked.count < steps);
+                    assert_eq!(by_part[..words], rows[..words], "turn {turn}, parts of {most}");
+                    assert!(by_part[words..].iter().all(|word| *word == 7), "turn {turn}");
+                    later += u32::from(words > 0);
+                }
             }
         }
         assert!(same > 10_000 && apart > 3_000 && refused > 5_000, "{same} {apart} {refused}");
+        assert!(later > 100, "{later} walks stopped behind a row");
+    }
+
+    /// Whether the return over the whole memory looks at both bytes: the memory serves them, and where one faults the return
+    /// is refused for its frame. Where it is refused so anyway, both are of the heads of two frames.
+    fn looks_at(core: &Core, memory: &[u8], told: Apart) -> bool {
+        let whole = Whole::of(core, memory);
+        let refuses = |windows: &[Window]| {
+            let mut core = core.clone();
+            core.set_windows(windows);
+            core.return_from(memory) == Err(Refusal::Frame)
+        };
+        [told.lowest, told.highest].into_iter().all(|at| {
+            let faults = Window { start: at, length: 1 };
+            let windows: Vec<Window> = core.windows().chain([faults]).collect();
+            let looked_at = whole.serves(&(at.into()..u64::from(at) + 1)) && refuses(&windows);
+            looked_at && (!refuses(&whole.windows) || in_heads(core, memory, at))
+        })
+    }
+
+    /// Whether the frame has format 1 and the byte is one of its head or of that of the second frame.
+    fn in_heads(core: &Core, memory: &[u8], at: u32) -> bool {
+        let first = core.dar()[15];
+        let byte = |i| memory[first.wrapping_add(i).wrapping_sub(core.base()) as usize];
+        let stack = |s: bool, m: bool| if s { 4 + 2 * usize::from(m) } else { 0 };
+        let in_use = stack(core.s_flag() != 0, core.m_flag() != 0);
+        let selected = stack(byte(0) & 0x20 != 0, byte(0) & 0x10 != 0);
+        let second = if selected == in_use { first.wrapping_add(8) } else { core.sp()[selected] };
+        let two = (3..=9).contains(&core.cpu_type()) && byte(6) >> 4 == 1;
+        two && [first, second].into_iter().any(|frame| at.wrapping_sub(frame) < 8)
+    }
+
+    /// A core in 4 MiB of memory, on a frame with that status and format word.
+    fn on_frame(kind: Kind, at: u32, status: u16, format: u16) -> (Core, Vec<u8>) {
+        let (mut core, mut memory) = (Core::fresh(kind), vec![0; 0x40_0000]);
+        lay(&mut memory, at, status, format);
+        core.dar_mut()[15] = at;
+        (core, memory)
+    }
+
+    fn lay(memory: &mut [u8], at: u32, status: u16, format: u16) {
+        let at = at as usize;
+        memory[at..at + 2].copy_from_slice(&status.to_be_bytes());
+        memory[at + 6..at + 8].copy_from_slice(&format.to_be_bytes());
+    }
+
+    /// The pointer that the stacked status does not select counts for nothing, wherever it is.
+    #[test]
+    fn the_second_frame_lies_where_the_stacked_status_selects() {
+        let (mut core, mut memory) = on_frame(Kind::M68020, 0x10_0000, 0x2000, 0x1064);
+        core.set_m_flag(2);
+        lay(&mut memory, 0x20_0000, 0x2000, 0x0064);
+        (core.sp_mut()[4], core.sp_mut()[6]) = (0x20_0000, 0x3F_0000);
+        let far = Apart { lowest: 0x10_0000, highest: 0x20_0007 };
+        assert_eq!(core.return_large(&memory), Err(far.into()));
+        // A walk that comes to it tells of the row before.
+        lay(&mut memory, 0xF_FFF8, 0x3000, 0x0064);
+        core.dar_mut()[15] = 0xF_FFF8;
+        let mut rows = [7; 8];
+        let stopped = core.walk_large(2, &memory, &mut rows).unwrap_err();
+        let walked = Walked { count: 1, refused: None };
+        assert_eq!(stopped, WalkApart { walked, apart: far });
+        assert_eq!(rows, [0, 0x3000, 0, 0x64, 7, 7, 7, 7]);
+        assert_eq!(LargeError::from(stopped), far.into());
+        // With the second frame near it is made.
+        core.dar_mut()[15] = 0x10_0000;
+        core.sp_mut()[4] = 0x10_8000;
+        lay(&mut memory, 0x10_8000, 0x2000, 0x0064);
+        assert_eq!(core.return_large(&memory).map(|row| row.format), Ok(1));
+        assert_eq!((core.dar()[15], core.sp()[6]), (0x10_8008, 0x10_0008));
+    }
+
+    /// Saved pointers count for nothing either.
+    #[test]
+    fn a_frame_that_runs_off_the_end_is_refused() {
+        let (mut core, memory) = on_frame(Kind::M68010, 0x3F_FFF0, 0x2000, 0x8008);
+        core.sp_mut()[0] = 0x1000;
+        assert_eq!(core.return_large(&memory), Err(Refusal::Frame.into()));
+    }
+
+    #[test]
+    fn a_frame_around_the_end_of_the_addresses_is_apart() {
+        let (mut core, mut memory) = (Core::fresh(Kind::M68010), vec![0; 0x100_0000]);
+        lay(&mut memory, 0xFF_FFF0, 0x2000, 0x8008);
+        core.dar_mut()[15] = 0xFF_FFF0;
+        let told = Apart { lowest: 0, highest: 0xFF_FFFF };
+        assert_eq!(core.return_large(&memory), Err(told.into()));
+        core.set_windows(&[Window { start: 0x29, length: 1 }]);
+        assert_eq!(core.return_large(&memory), Err(Refusal::Frame.into()));
     }
 
     /// Megabytes: the outcome is that of a store that holds everything the call needs, wherever it lies.

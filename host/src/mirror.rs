@@ -158,6 +158,7 @@ pub struct SaidReturn {
     pub row: Row,
 }
 
+const _: () = assert!(size_of::<usize>() == 8);
 const _: () = assert!(size_of::<Regs>() == 160 && align_of::<Regs>() == 4);
 const _: () = assert!(offset_of!(Regs, dar) == 0);
 const _: () = assert!(offset_of!(Regs, dar_save) == 64);

@@ -87,7 +87,8 @@ macro_rules! fields {
         }
         values {
             $($(#[doc = $doc:literal])*
-            $name:ident, $set:ident: $type:ty = $way:ident $($place:ident).+;)*
+            $name:ident, $(#[doc = $set_doc:literal])* $set:ident: $type:ty =
+                $way:ident $($place:ident).+;)*
         }
     ) => {
         /// The processor as the calls see it, a plain struct with the field names of the Rust.
@@ -136,6 +137,7 @@ macro_rules! fields {
                     $way::get(&self.lent().cpu.$($place).+)
                 }
                 #[doc = concat!("Sets [`Core::", stringify!($name), "`].")]
+                $(#[doc = $set_doc])*
                 pub fn $set(&mut self, value: $type) {
                     $way::put(&mut self.lent_mut().cpu.$($place).+, value);
                 }
@@ -150,7 +152,8 @@ fields! {
         dar, dar_mut: [u32; 16] = regs;
         /// The registers before the instruction.
         dar_save, dar_save_mut: [u32; 16] = regs;
-        /// Saved stack pointers: 0 user, 4 interrupt, 6 master.
+        /// Saved stack pointers: 0 user, 4 interrupt, 6 master. The entry of the stack in use is stale: A7 counts, which
+        /// is what the Rust's `sp()` gives.
         sp, sp_mut: [u32; 8] = regs;
     }
     values {
@@ -173,9 +176,14 @@ fields! {
         /// Trace on change of flow: 0 or 0x4000.
         t0_flag, set_t0_flag: u32 = plain flags.t0_flag;
         /// Supervisor: 0 or 4.
-        s_flag, set_s_flag: u32 = plain flags.s_flag;
+        s_flag,
+        /// The field alone: A7 stays and becomes the pointer of the stack that S and M select. Unlike the Rust's function
+        /// of that name; [`Core::set_sr`] swaps.
+        set_s_flag: u32 = plain flags.s_flag;
         /// Master: 0 or 2.
-        m_flag, set_m_flag: u32 = plain flags.m_flag;
+        m_flag,
+        /// The field alone: A7 stays and becomes the pointer of the stack that S and M select. [`Core::set_sr`] swaps.
+        set_m_flag: u32 = plain flags.m_flag;
         /// Extend: bit 8.
         x_flag, set_x_flag: u32 = plain flags.x_flag;
         /// Negative: bit 7.
@@ -188,7 +196,8 @@ fields! {
         c_flag, set_c_flag: u32 = plain flags.c_flag;
         /// The interrupt mask, in bits 8 to 10.
         int_mask, set_int_mask: u32 = plain flags.int_mask;
-        /// The interrupt level that is asked for.
+        /// The interrupt level that is asked for. The interrupt call takes its low 3 bits, [`Call::CheckInterrupts`](crate::Call::CheckInterrupts)
+        /// all of it.
         int_level, set_int_level: u32 = plain flags.int_level;
         /// Not 0 while stopped.
         stopped, set_stopped: u32 = plain flow.stopped;

@@ -98,6 +98,7 @@ pub struct Cpu {
     pub fault_resume: Resume,
 }
 
+const _: () = assert!(size_of::<usize>() == 8);
 const _: () = assert!(size_of::<OptionalVector>() == 8 && align_of::<OptionalVector>() == 4);
 const _: () = assert!(offset_of!(OptionalVector, some) == 0);
 const _: () = assert!(offset_of!(OptionalVector, value) == 4);
