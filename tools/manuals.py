@@ -98,7 +98,7 @@ def inputs():
                 continue
             rest, row, ks, call = m[5].split(), int(m[2]), m[3], m[4]
             manual, ours = rest[-2], rest[-1]
-            more = [f"level {rest[0]}"] if m[1] == "asked" else ["status 0x3700, interrupt stack 0x140"] if m[1] == "inMaster" else []
+            more = [f"level {rest[0]}"] if m[1] == "asked" else [f"mmu_fc_override {rest[0]}"] if m[1] == "overridden" else ["status 0x3700, interrupt stack 0x140"] if m[1] == "inMaster" else []
         if re.fullmatch(r"[a-z]\w*", call):
             call = re.search(rf"^{call} = (.*)$", source, re.M)[1]
         numbers = [int(n) for n in (re.findall(r"\d+", ks) if ks.startswith("(") else re.findall(r"\d+", re.search(rf"^{ks} = (.*)$", source, re.M)[1]))]

@@ -60,7 +60,7 @@ differences =
     ∷ row (mc68000 ∷ []) (own ∷ []) errors (field 0x02 0) always  -- a handler takes another address for the one that failed
     ∷ row (mc68000 ∷ []) (own ∷ []) errors (field 0x08 0) always  -- a handler that returns puts another status back; RTE takes 6 of the 14 bytes
     ∷ row (mc68010 ∷ []) (own ∷ []) errors (field 0x08 13) nonzero  -- a handler cannot tell that an instruction was fetched
-    ∷ row (mc68010 ∷ []) (own ∷ []) errors (field 0x08 12) nonzero  -- a handler cannot tell that a datum was accessed
+    ∷ row (mc68010 ∷ []) (own ∷ []) errors (field 0x08 12) nonzero  -- a handler cannot tell that a datum was read
     ∷ row (mc68010 ∷ []) (own ∷ []) (busError ∷ []) (field 0x08 10) nonzero  -- a handler cannot tell which byte of the bus was used
     ∷ row (mc68010 ∷ []) (own ∷ []) (busError ∷ []) (field 0x08 9) nonzero  -- a handler cannot tell a byte from a word
     ∷ row (mc68010 ∷ []) (own ∷ []) errors (field 0x08 8) nonzero  -- a handler takes every access for a write
@@ -85,6 +85,9 @@ differences =
     ∷ row (mc68020 ∷ mc68030 ∷ mc68040 ∷ []) (byVector ∷ []) (interrupt ∷ []) length inMaster  -- A7 is the master stack's
     ∷ row (mc68000 ∷ []) (byVector ∷ own ∷ []) any pc based  -- a record with a vector base takes its handlers from there; the part has no such register
     ∷ row (mc68020 ∷ []) (byVector ∷ own ∷ []) any pins past24  -- addresses from 0x1000000 on are not those below it
+    ∷ row (mc68040 ∷ []) (own ∷ []) (busError ∷ []) (field 0x0C 3) nonzero  -- a handler takes an access of MOVES to another address space for a normal one, or for a cache push or a table search
+    ∷ row (mc68040 ∷ []) (own ∷ []) (busError ∷ []) (field 0x0E 3) nonzero  -- a handler that makes the write itself takes one of MOVES to another address space for a normal one
+    ∷ row (mc68060 ∷ []) (own ∷ []) (busError ∷ []) (field 0x0C 19) nonzero  -- a handler takes an access of MOVES to another address space for a normal one, or for a cache push or a table search
     ∷ []
 
 -- ---- where a row applies
