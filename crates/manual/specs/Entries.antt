@@ -169,6 +169,14 @@ module _ (w : World) (F : Family) (t : Tests F (kindOf (cpuOf w))) (so : Sound (
     unfolding stateBy
     usp-of = refl
 
+    isp-selected : (q : ℕ) → cond (hasMaster F && isSet 12 (getSr (cpuOf w))) (view (regsOf (cpuOf w)) .isp) q ≡ cond (hasMaster (S .family) && isSet 12 (S .status)) (S .isp) q
+    unfolding stateBy
+    isp-selected q = refl
+
+    msp-selected : (q : ℕ) → cond (hasMaster F && isSet 12 (getSr (cpuOf w))) q (view (regsOf (cpuOf w)) .msp) ≡ cond (hasMaster (S .family) && isSet 12 (S .status)) q (S .msp)
+    unfolding stateBy
+    msp-selected q = refl
+
     isp-of : throwsAway S cl ≡ false → (q : ℕ) → q ≡ pointerAfter S cl → cond (hasMaster F && isSet 12 (getSr (cpuOf w))) (view (regsOf (cpuOf w)) .isp) q ≡ ispAfter S cl
     unfolding ispAfter stateBy
     isp-of e q h =
@@ -197,17 +205,10 @@ module _ (w : World) (F : Family) (t : Tests F (kindOf (cpuOf w))) (so : Sound (
           frame = subst (λ (k : ℕ). Each (λ q. (m : ℕ) → q .value ≡ some m → fieldDiffers differences S via cl v q ≡ false → Reads (peek (mem P)) k (a7Of (cpuOf P)) q m) (topFields S cl v)) kind-gist
               (holding-found f (fieldDiffers differences S via cl v) (Reads (peek (mem P)) (kindOf (cpuOf (gist w))) (a7Of (cpuOf P)))
               (one-reads (gist w) turn settle close f v fit te ts ss sa (en .keeps) (en .pc) (en .status) (z .shape) c) (topFields S cl v) h);
+          usp = three .usp-is ∙ usp-of;
+          selected = λ e. record { isp = three .isp-is ∙ isp-selected (a7Of (cpuOf P)); msp = three .msp-is ∙ msp-selected (a7Of (cpuOf P)) };
           pointer = pointer-here;
-          stacks = λ e.
-              let q : ℕ = a7Of (cpuOf P) in
-              let b = one-stacks (gist w) turn settle close f v fit te ts ss sa (en .keeps) (en .pc) (en .status) (z .shape) c sv in
-              let k = three-gist (a7Of (cpuOf P)) in
-              let u = view-of (cpuOf P) in
-              record {
-                usp = ap (λ (y : View). y .usp) u ∙ b .usp ∙ k .usp-is ∙ usp-of;
-                isp = ap (λ (y : View). y .isp) u ∙ b .isp ∙ k .isp-is ∙ isp-of (nt e) (a7Of (cpuOf P)) (pointer-here e);
-                msp = ap (λ (y : View). y .msp) u ∙ b .msp ∙ k .msp-is ∙ msp-of (nt e) (a7Of (cpuOf P)) (pointer-here e);
-              };
+          stacks = λ e. record { isp = three .isp-is ∙ isp-of (nt e) (a7Of (cpuOf P)) (pointer-here e); msp = three .msp-is ∙ msp-of (nt e) (a7Of (cpuOf P)) (pointer-here e) };
           status = λ e. one-status (gist w) turn settle close f v fit te ts ss sa (en .keeps) (en .pc) (en .status) (z .shape) c sf ∙ st e;
           pc = λ e. ap (λ (a : ℕ). longAt (peek (mem P)) (maskAddress (kindOf (cpuOf w)) a)) (vector-of e)
               ∙ subst (λ (k : ℕ). longAt (peek (mem P)) (maskAddress k ((vbrOf (cpuOf (gist w)) + 4 * v) % 0x100000000)) ≡ some (pcOf (cpuOf P))) kind-gist
@@ -217,6 +218,18 @@ module _ (w : World) (F : Family) (t : Tests F (kindOf (cpuOf w))) (so : Sound (
       where
         P : World
         P = planned (gist w) (oneOf turn f settle v close)
+
+        three : Three (view (regsOf (cpuOf P))) (view (regsOf (cpuOf w)) .usp) (cond (hasMaster F && isSet 12 (getSr (cpuOf w))) (view (regsOf (cpuOf w)) .isp) (a7Of (cpuOf P)))
+            (cond (hasMaster F && isSet 12 (getSr (cpuOf w))) (a7Of (cpuOf P)) (view (regsOf (cpuOf w)) .msp))
+        three =
+            let b = one-stacks (gist w) turn settle close f v fit te ts ss sa (en .keeps) (en .pc) (en .status) (z .shape) c sv in
+            let k = three-gist (a7Of (cpuOf P)) in
+            let u = view-of (cpuOf P) in
+            record {
+              usp-is = ap (λ (y : View). y .usp) u ∙ b .usp ∙ k .usp-is;
+              isp-is = ap (λ (y : View). y .isp) u ∙ b .isp ∙ k .isp-is;
+              msp-is = ap (λ (y : View). y .msp) u ∙ b .msp ∙ k .msp-is;
+            }
 
         pointer-here : lengthDiffers differences S via cl v ≡ false → a7Of (cpuOf (planned (gist w) (oneOf turn f settle v close))) ≡ pointerAfter S cl
         pointer-here e =

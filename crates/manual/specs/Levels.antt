@@ -290,6 +290,10 @@ module _ (w : World) (F : Family) (t : Tests F (kindOf (cpuOf w))) (so : Sound (
   unfolding stacksOf regsOf view gist gistCpu kindOf a7Of
   usp-is = refl
 
+  throws-two : (hasMaster F && isSet 12 (getSr C)) ≡ true → throwsAway S interrupt ≡ true
+  unfolding stateBy
+  throws-two e = e
+
   isp-two : (hasMaster F && isSet 12 (getSr C)) ≡ true → pointerAfter S interrupt ≡ ispAfter S interrupt
   unfolding pointerAfter ispAfter stateBy
   isp-two e = rw e
@@ -379,6 +383,7 @@ module _ (w : World) (F : Family) (t : Tests F (kindOf (cpuOf w))) (so : Sound (
       go : Clean (gist w) (twoOf (λ d. enterLevel d L) f1 h N end) → Agrees differences S (event interrupt N own) w (planned (gist w) (twoOf (λ d. enterLevel d L) f1 h N end))
       go c =
           let P : World = planned (gist w) (twoOf (λ d. enterLevel d L) f1 h N end) in
+          let u = view-of (cpuOf P) ∙ two-stacks (gist w) (λ d. enterLevel d L) end f1 h N fit (enters-level L) (still-level L) (end-level .keeps) (end-level .pc) (end-level .status) (level-size F (getSr C) (pcOf C) (offsetWord N) .shape) (z .shape) (m-gist ms) (bank-is hm) c in
           record {
             under = λ d a. under-fields d c a;
             frame = subst (λ (k : ℕ). Each (λ y. (m : ℕ) → y .value ≡ some m → fieldDiffers differences S own interrupt N y ≡ false → Reads (peek (mem P)) k (a7Of (cpuOf P)) y m) (topFields S interrupt N))
@@ -386,11 +391,11 @@ module _ (w : World) (F : Family) (t : Tests F (kindOf (cpuOf w))) (so : Sound (
                 (holding-found h (fieldDiffers differences S own interrupt N) (Reads (peek (mem P)) (kindOf (cpuOf (gist w))) (a7Of (cpuOf P)))
                 (two-reads (gist w) (λ d. enterLevel d L) end f1 h N fit (enters-level L) (still-level L) (end-level .keeps) (end-level .pc) (end-level .status) (level-size F (getSr C) (pcOf C) (offsetWord N) .shape) (z .shape) (m-gist ms) (bank-is hm) c)
                 (topFields S interrupt N) (rw (top-two q) second-cells));
+            usp = ap (λ (y : View). y .usp) u ∙ usp-is ∙ usp-of w F t so fit fa none interrupt N own (vector-small C (w .core .bus));
+            selected = λ e. impossible (sym (throws-two q) ∙ e);
             pointer = λ e. pointer-two c;
             stacks = λ e.
-                let u = view-of (cpuOf P) ∙ two-stacks (gist w) (λ d. enterLevel d L) end f1 h N fit (enters-level L) (still-level L) (end-level .keeps) (end-level .pc) (end-level .status) (level-size F (getSr C) (pcOf C) (offsetWord N) .shape) (z .shape) (m-gist ms) (bank-is hm) c in
                 record {
-                  usp = ap (λ (y : View). y .usp) u ∙ usp-is ∙ usp-of w F t so fit fa none interrupt N own (vector-small C (w .core .bus));
                   isp = ap (λ (y : View). y .isp) u ∙ sym (two-a7 (gist w) (λ d. enterLevel d L) end f1 h N fit (enters-level L) (still-level L) (end-level .keeps) (end-level .pc) (end-level .status) (level-size F (getSr C) (pcOf C) (offsetWord N) .shape) (z .shape) (m-gist ms) (bank-is hm) c) ∙ pointer-two c ∙ isp-two q;
                   msp = ap (λ (y : View). y .msp) u ∙ sym first-is ∙ msp-two q;
                 };
