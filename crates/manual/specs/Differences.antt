@@ -1,6 +1,6 @@
 -- THE TABLE of differences from the manuals. A row names the parts, how the exception is called for, the exception, what differs, and when; behind it
 -- stands what a program that runs there would notice. docs/DIFFERENCES.md is written from it.
--- `Holds` proves that nothing else differs, `Shown` that each row does.
+-- `Holds` proves that nothing else differs in a direct entry that starts sound and is served, `Shown` that each row does.
 use Prim.Native.Nat.{ℕ}
 use mathlib.Core.Bool.{Bool, true, false, cond, not, _&&_, _||_}
 use mathlib.Core.List.{List, [], _∷_}
@@ -69,7 +69,7 @@ differences =
     ∷ row (mc68010 ∷ []) (own ∷ []) (busError ∷ []) (field 0x10 0) nonzero  -- a handler that makes the write itself writes 0
     ∷ row (mc68020 ∷ mc68030 ∷ mc68060 ∷ []) (own ∷ []) (addressError ∷ []) format always  -- a handler reads format 0: RTE takes 8 bytes, and the odd address is not told
     ∷ row (mc68040 ∷ []) (own ∷ []) (busError ∷ []) (field 0x0C 10) ofTheBus  -- a handler takes a physical bus error for a missing page
-    ∷ row (mc68060 ∷ []) (own ∷ []) (busError ∷ []) (field 0x0C 21) always  -- a handler that goes by the manual's text takes a byte for a word, a word for a long; by the outside emulators ours is what the part does
+    ∷ row (mc68060 ∷ []) (own ∷ []) (busError ∷ []) (field 0x0C 21) always  -- a handler that goes by the manual's text takes a byte for a word, a word for a long; by Hatari ours is what the part does
     ∷ row (mc68060 ∷ []) (own ∷ []) (fpDisabled ∷ []) (field 0x02 0) always  -- a handler that emulates the instruction and returns runs it again; the 68060 software package copies +0xC to +2 before RTE, and does not notice
     ∷ row (mc68000 ∷ []) (byVector ∷ []) errors fields always  -- a caller that raises an error by its vector gets a frame of 6 bytes without address
     ∷ row (mc68000 ∷ []) (byVector ∷ []) errors length always  -- the stack is 8 bytes higher than a handler expects

@@ -120,14 +120,15 @@ module _ (s : State) (sr : s .status < 0x10000) (op : s .opcode < 0x10000) (a : 
   bus-hold mc68040 z k = fourth-busError s sr op a write i z code datum (causeNumber k) k write l
   bus-hold mc68060 z k = sixth-busError s sr op a write i z code datum (causeNumber k) k write i l
 
-  address-hold : (f : Family) → Holding (addressBy f (s .status) (s .this) (s .opcode) a write i code) (fieldDiffers differences (of f (withFault s (fault a write i 0 code datum 0))) own addressError 3)
+  -- our frame has the function code of the state; where the manual has that of the access, a row stands
+  address-hold : (f : Family) (stacked : ℕ) → Holding (addressBy f (s .status) (s .this) (s .opcode) a write i stacked) (fieldDiffers differences (of f (withFault s (fault a write i 0 code datum 0))) own addressError 3)
       (fieldsOf (of f (withFault s (fault a write i 0 code datum 0))) addressError 3)
-  address-hold mc68000 = first-addressError s sr op a write i 0 code datum 0 (faultWord code write i)
-  address-hold mc68010 = second-addressError s sr op a write i 0 code datum 0 write i
-  address-hold mc68020 = third-addressError s sr op a write i 0 code datum 0 true
-  address-hold mc68030 = third-addressError s sr op a write i 0 code datum 0 false
-  address-hold mc68040 = fourth-addressError s sr op a write i 0 code datum 0
-  address-hold mc68060 = sixth-addressError s sr op a write i 0 code datum 0
+  address-hold mc68000 stacked = first-addressError s sr op a write i 0 code datum 0 (faultWord stacked write i)
+  address-hold mc68010 stacked = second-addressError s sr op a write i 0 code datum 0 write i
+  address-hold mc68020 stacked = third-addressError s sr op a write i 0 code datum 0 true
+  address-hold mc68030 stacked = third-addressError s sr op a write i 0 code datum 0 false
+  address-hold mc68040 stacked = fourth-addressError s sr op a write i 0 code datum 0
+  address-hold mc68060 stacked = sixth-addressError s sr op a write i 0 code datum 0
 
 -- ---- the entries
 
@@ -149,13 +150,13 @@ module _ (w : World) (F : Family) (t : Tests F (kindOf (cpuOf w))) (so : Sound (
       (bus-hold s (status-fits C) (omega arith) a write i (codeOf C i) (wdataOf C) (code-small C i) F z k) (busError-own-length s 2 F) (λ e. refl))
 
   pub address-agrees : Clean (gist w) (addressPlan C a write i)
-      → Agrees differences (stateBy w F (faultBy C a write i 0 (codeBy (isSet 13 (getSr C)) i) 0) none) (event addressError 3 own) w (planned (gist w) (addressPlan C a write i))
+      → Agrees differences (stateBy w F (faultBy C a write i 0 (codeOf C i) 0) none) (event addressError 3 own) w (planned (gist w) (addressPlan C a write i))
   unfolding addressPlan stateBy topFields ppcOf irOf wdataOf
   address-agrees =
-      let fa : Fault = faultBy C a write i 0 (codeBy (isSet 13 (getSr C)) i) 0 in
+      let fa : Fault = faultBy C a write i 0 (codeOf C i) 0 in
       let s : State = stateBy w F fa none in
       let f : Frame = addressBy F (getSr C) (ppcOf C) (irOf C % 0x10000) a write i (codeBy (isSet 13 (getSr C)) i) in
       by-frame w F t so fit pcl ppl s (event addressError 3 own) enterSupervisor same 3 _ f (address-is F C t a write i)
       (one-agrees w F t so fit fa none addressError 3 own (omega arith) enterSupervisor same f (addressBytes F) turn-supervisor end-same
       (address-size F (getSr C) (ppcOf C) (irOf C % 0x10000) a write i (codeBy (isSet 13 (getSr C)) i))
-      (address-hold s (status-fits C) (omega arith) a write i (codeBy (isSet 13 (getSr C)) i) (wdataOf C) (small (isSet 13 (getSr C)) i) F) (addressError-own-length s 3 F) (λ e. refl))
+      (address-hold s (status-fits C) (omega arith) a write i (codeOf C i) (wdataOf C) (code-small C i) F (codeBy (isSet 13 (getSr C)) i)) (addressError-own-length s 3 F) (λ e. refl))
