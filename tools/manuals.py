@@ -246,9 +246,11 @@ def drawing(key, title, table, own, size):
 def page():
     """docs/FRAMES.md."""
     lines = ["<!-- written by tools/manuals.py from crates/manual/specs/Formats.antt and Differences.antt -->", "# Frames", "",
-             "Every frame as Motorola's manuals have it (recalled, not looked up: docs/DECISIONS.md), left, and as this code makes it, right, upward from the new A7. Red: a row of the",
-             "table of differences (docs/DIFFERENCES.md) stands there. Grey: the manual defines no value, or a call does not say it; or nothing is written there.",
-             "`Holds.holds` (crates/manual/specs) proves that there is no other difference.", ""]
+             "The frames of Motorola's manuals (recalled, not looked up: docs/DECISIONS.md) but format 3, which no call makes, and format 4 of the 68LC040 and 68EC040, left, and as this",
+             "code makes them, right, upward from the new A7. Red: a row of the table of differences (docs/DIFFERENCES.md) stands there for the call that the drawing is of; of the",
+             "68000's 14 bytes, right, whatever the manual has elsewhere. Rows of `take_exception` by a vector (but format 9), of the vector base and of the pins are in that table alone.",
+             "Grey: the manual defines no value, or a call does not say it; or nothing is written there. `Holds.holds` (crates/manual/specs) proves that a direct entry that starts",
+             "sound and is served has no difference that the table lacks.", ""]
     for key, title, table, own, size in DRAWN:
         open_fields = [f"+0x{o:X} {words(name)}" for o, _, _, name, known in fields(table) if not known and name != "internal"]
         lines += [f"## {title}", "", f"![{title}](frames/{key}.svg)", ""]
