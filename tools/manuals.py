@@ -20,7 +20,7 @@ CALLS = {"busError": "`exception_bus_error`", "addressError": "`exception_addres
          "group2": "group 2", "protocol": "coprocessor protocol violation", "configuration": "MMU configuration error", "interrupt": "an interrupt's vector"}
 WHENS = {"always": "", "nonzero": "where the manual's value is not 0", "chk": "vector 6", "vectored": "vectors 15 and 64 to 255", "inMaster": "in the master state",
          "based": "where `vbr` is not 0", "ofTheBus": "where the bus failed, not the translation", "past24": "an address from 0x1000000 on, kind 3"}
-WHATS = {"fields": "every field", "format": "the format, with it every field from +6 on and the length", "length": "the length, so A7", "status": "the status left",
+WHATS = {"fields": "every field", "atTop": "every field of the frame at A7", "format": "the format, with it every field from +6 on and the length", "length": "the length, so A7", "status": "the status left",
          "pc": "PC", "pins": "the address on the pins"}
 # the frames that are drawn: our definition, and the manual's table of the same exception; the file's name says format and parts
 DRAWN = [("68000-6-bytes", "68000: all but errors", "short68000", "shortFrame", 6), ("68000-14-bytes", "68000: bus and address error", "error68000", "frame68000", 14),

@@ -19,11 +19,11 @@ abbrev pub way : Via → ℕ
 way byVector = 0
 way own = 1
 
--- what differs: a field, by its offset and lowest bit; every field; the format, and with it every field from offset 6 on and the length; the length; the
+-- what differs: a field, by its offset and lowest bit; every field; every field of the frame at A7, not of one under it; the format, and with it every field from offset 6 on and the length; the length; the
 -- status left; PC; the address on the pins
 pub data What : Type 0 where
   field : ℕ → ℕ → What
-  fields format length status pc pins : What
+  fields atTop format length status pc pins : What
 
 -- when: always; where the manual's value is not 0; vector 6; vectors 15 and 64 on; in the master state; where the vector base is not 0; where the bus
 -- failed, not the translation; an address past 24 bits on a part with 24 pins
@@ -81,7 +81,7 @@ differences =
     ∷ row (mc68030 ∷ []) (byVector ∷ []) (configuration ∷ []) (field 0x02 0) always  -- a return runs the instruction again
     ∷ row every (byVector ∷ []) (interrupt ∷ []) status always  -- a handler that is entered so keeps the old mask: an interrupt of its own level comes in again
     ∷ row every (byVector ∷ []) (interrupt ∷ []) (field 0x02 0) vectored  -- a return runs the interrupted instruction again
-    ∷ row (mc68020 ∷ mc68030 ∷ mc68040 ∷ []) (byVector ∷ []) (interrupt ∷ []) fields inMaster  -- a handler runs on the master stack, and no frame of format 1 lies on the interrupt stack
+    ∷ row (mc68020 ∷ mc68030 ∷ mc68040 ∷ []) (byVector ∷ []) (interrupt ∷ []) atTop inMaster  -- a handler runs on the master stack, and no frame of format 1 lies on the interrupt stack
     ∷ row (mc68020 ∷ mc68030 ∷ mc68040 ∷ []) (byVector ∷ []) (interrupt ∷ []) length inMaster  -- A7 is the master stack's
     ∷ row (mc68000 ∷ []) (byVector ∷ own ∷ []) any pc based  -- a record with a vector base takes its handlers from there; the part has no such register
     ∷ row (mc68020 ∷ []) (byVector ∷ own ∷ []) any pins past24  -- addresses from 0x1000000 on are not those below it
@@ -125,15 +125,27 @@ lowest (bits low n) = low
 abbrev pub coversField : What → Field → Bool
 coversField (field o l) t = eqb o (t .offset) && eqb l (lowest (t .span))
 coversField fields t = true
+coversField atTop t = true
 coversField format t = leb 6 (t .offset)
 coversField length t = false
 coversField status t = false
 coversField pc t = false
 coversField pins t = false
 
+abbrev isAtTop : What → Bool
+isAtTop (field o l) = false
+isAtTop fields = false
+isAtTop atTop = true
+isAtTop format = false
+isAtTop length = false
+isAtTop status = false
+isAtTop pc = false
+isAtTop pins = false
+
 abbrev coversLength : What → Bool
 coversLength (field o l) = false
 coversLength fields = false
+coversLength atTop = false
 coversLength format = true
 coversLength length = true
 coversLength status = false
@@ -143,6 +155,7 @@ coversLength pins = false
 abbrev coversStatus : What → Bool
 coversStatus (field o l) = false
 coversStatus fields = false
+coversStatus atTop = false
 coversStatus format = false
 coversStatus length = false
 coversStatus status = true
@@ -152,6 +165,7 @@ coversStatus pins = false
 abbrev coversPc : What → Bool
 coversPc (field o l) = false
 coversPc fields = false
+coversPc atTop = false
 coversPc format = false
 coversPc length = false
 coversPc status = false
@@ -161,6 +175,7 @@ coversPc pins = false
 abbrev coversPins : What → Bool
 coversPins (field o l) = false
 coversPins fields = false
+coversPins atTop = false
 coversPins format = false
 coversPins length = false
 coversPins status = false
@@ -175,6 +190,10 @@ someRow p (r ∷ rs) = p r || someRow p rs
 
 unfoldable pub fieldDiffers : List Row → State → Via → Class → ℕ → Field → Bool
 fieldDiffers rows s w c v t = someRow (λ r. coversField (r .what) t && applies s w c v (t .value) r) rows
+
+-- the same, of the frame under one of format 1
+unfoldable pub underDiffers : List Row → State → Via → Class → ℕ → Field → Bool
+underDiffers rows s w c v t = someRow (λ r. (coversField (r .what) t && not (isAtTop (r .what))) && applies s w c v (t .value) r) rows
 
 unfoldable pub lengthDiffers : List Row → State → Via → Class → ℕ → Bool
 lengthDiffers rows s w c v = someRow (λ r. coversLength (r .what) && applies s w c v none r) rows

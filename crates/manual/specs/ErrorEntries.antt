@@ -34,7 +34,7 @@ use Rattle.manual.specs.Statement.{Agrees}
 use Rattle.manual.specs.Plain.{of, first, early}
 use Rattle.manual.specs.Errors.{fault, first-busError, first-addressError, second-busError, second-addressError, third-busError, third-addressError, fourth-busError, fourth-addressError, sixth-busError, sixth-addressError}
 use Rattle.manual.specs.Errors.{at as withFault}
-use Rattle.manual.specs.PartLaws.{Tests, forty, sixty, s-bit}
+use Rattle.manual.specs.PartLaws.{impossible, Tests, forty, sixty, s-bit}
 use Rattle.manual.specs.Lengths.{busBytes, addressBytes, busError-own-length, addressError-own-length}
 use Rattle.manual.specs.Entries.{Sized, Turn, End, turn-supervisor, turn-bus, end-same, one-agrees, by-frame, size14, size58, sizeError2, sizeError0, sizeError4, sizeError7, sizeError11}
 
@@ -147,7 +147,7 @@ module _ (w : World) (F : Family) (t : Tests F (kindOf (cpuOf w))) (so : Sound (
       by-frame w F t so fit pcl ppl s (event busError 2 own) enterBusError same 2 _ f (bus-is F C t a write i z (causeNumber k))
       (one-agrees w F t so fit fa none busError 2 own (omega arith) enterBusError same f (busBytes F) turn-bus end-same
       (bus-size F (getSr C) (ppcOf C) (irOf C % 0x10000) a write i z (codeOf C i) (wdataOf C) (causeNumber k))
-      (bus-hold s (status-fits C) (omega arith) a write i (codeOf C i) (wdataOf C) (code-small C i) F z k) (busError-own-length s 2 F) (λ e. refl))
+      (bus-hold s (status-fits C) (omega arith) a write i (codeOf C i) (wdataOf C) (code-small C i) F z k) (busError-own-length s 2 F) (λ e. refl) (λ d. impossible (sym d)))
 
   pub address-agrees : Clean (gist w) (addressPlan C a write i)
       → Agrees differences (stateBy w F (faultBy C a write i 0 (codeOf C i) 0) none) (event addressError 3 own) w (planned (gist w) (addressPlan C a write i))
@@ -159,4 +159,4 @@ module _ (w : World) (F : Family) (t : Tests F (kindOf (cpuOf w))) (so : Sound (
       by-frame w F t so fit pcl ppl s (event addressError 3 own) enterSupervisor same 3 _ f (address-is F C t a write i)
       (one-agrees w F t so fit fa none addressError 3 own (omega arith) enterSupervisor same f (addressBytes F) turn-supervisor end-same
       (address-size F (getSr C) (ppcOf C) (irOf C % 0x10000) a write i (codeBy (isSet 13 (getSr C)) i))
-      (address-hold s (status-fits C) (omega arith) a write i (codeOf C i) (wdataOf C) (code-small C i) F (codeBy (isSet 13 (getSr C)) i)) (addressError-own-length s 3 F) (λ e. refl))
+      (address-hold s (status-fits C) (omega arith) a write i (codeOf C i) (wdataOf C) (code-small C i) F (codeBy (isSet 13 (getSr C)) i)) (addressError-own-length s 3 F) (λ e. refl) (λ d. impossible (sym d)))

@@ -134,7 +134,7 @@ agrees-gist : (s : State) (e : Event) (w z : World) → Agrees differences s e w
 agrees-gist s e w z h =
     record {
       frame = rw (mem-gist z, top) at (h .frame);
-      under = λ d a. rw (mem-gist z) at (h .under d (rw top a));
+      under = λ d a. rw (mem-gist z) at (h .under d a);
       usp = rw (views-gist z) at (h .usp);
       selected = λ x. rw (views-gist z, top) at (h .selected x);
       pointer = λ x. sym top ∙ h .pointer x;

@@ -32,7 +32,7 @@ use Rattle.manual.specs.State.{State, onPins}
 use Rattle.manual.specs.Vectors.{Class, place, vectorAt}
 use Rattle.manual.specs.Formats.{Field}
 use Rattle.manual.specs.Exceptions.{topFields, pointerAfter, statusAfter}
-use Rattle.manual.specs.Differences.{Row, What, field, fields, format, pc, pins, differences, applies, coversField, lowest, When, always, chk, vectored, based, ofTheBus, past24}
+use Rattle.manual.specs.Differences.{Row, What, field, fields, atTop, format, pc, pins, differences, applies, coversField, lowest, When, always, chk, vectored, based, ofTheBus, past24}
 use Rattle.manual.specs.Differences.{inMaster as inMaster′}
 use Rattle.manual.specs.Differences.{nonzero as notZero}
 use Rattle.manual.specs.Differences.{length as lengthRow}
@@ -183,6 +183,7 @@ byField i r s e z k (t ∷ ts) =
 abbrev byWhat : What → Input → Row → State → Event → World → ℕ → Bool
 byWhat (field o l) i r s e z k = byField i r s e z k (topFields s (e .class) (e .vector))
 byWhat fields i r s e z k = byField i r s e z k (topFields s (e .class) (e .vector))
+byWhat atTop i r s e z k = byField i r s e z k (topFields s (e .class) (e .vector))
 byWhat format i r s e z k = byField i r s e z k (topFields s (e .class) (e .vector))
 byWhat lengthRow i r s e z k = applies s (e .via) (e .class) (e .vector) none r && values i (some (pointerAfter s (e .class))) (some (a7Of (cpuOf z)))
 byWhat statusRow i r s e z k = applies s (e .via) (e .class) (e .vector) none r && values i (some (statusAfter s (e .class))) (some (getSr (cpuOf z)))
