@@ -137,17 +137,23 @@ module _ (w : World) (F : Family) (t : Tests F (kindOf (cpuOf w))) (so : Sound (
   abbrev C : Cpu
   C = cpuOf w
 
-  pub bus-agrees : (z : ℕ) (k : FaultCause) → Clean (gist w) (busPlan C a write i z (causeNumber k))
-      → Agrees differences (stateBy w F (faultBy C a write i z (codeOf C i) (causeNumber k)) none) (event busError 2 own) w (planned (gist w) (busPlan C a write i z (causeNumber k)))
-  unfolding busPlan stateBy topFields ppcOf irOf wdataOf
-  bus-agrees z k =
+  -- a bus error, whatever else the record does before the frame and at the end
+  pub bus-by : (turn close : Cpu → Cpu) → Turn turn → End close → (z : ℕ) (k : FaultCause) → Clean (gist w) (single turn (busFrame C a write i z (causeNumber k)) 2 close)
+      → Agrees differences (stateBy w F (faultBy C a write i z (codeOf C i) (causeNumber k)) none) (event busError 2 own) w (planned (gist w) (single turn (busFrame C a write i z (causeNumber k)) 2 close))
+  unfolding stateBy topFields ppcOf irOf wdataOf
+  bus-by turn close tu en z k =
       let fa : Fault = faultBy C a write i z (codeOf C i) (causeNumber k) in
       let s : State = stateBy w F fa none in
       let f : Frame = busBy F (getSr C) (ppcOf C) (irOf C % 0x10000) a write i z (codeOf C i) (wdataOf C) (causeNumber k) in
-      by-frame w F t so fit pcl ppl s (event busError 2 own) enterBusError same 2 _ f (bus-is F C t a write i z (causeNumber k))
-      (one-agrees w F t so fit fa none busError 2 own (omega arith) enterBusError same f (busBytes F) turn-bus end-same
+      by-frame w F t so fit pcl ppl s (event busError 2 own) turn close 2 _ f (bus-is F C t a write i z (causeNumber k))
+      (one-agrees w F t so fit fa none busError 2 own (omega arith) turn close f (busBytes F) tu en
       (bus-size F (getSr C) (ppcOf C) (irOf C % 0x10000) a write i z (codeOf C i) (wdataOf C) (causeNumber k))
       (bus-hold s (status-fits C) (omega arith) a write i (codeOf C i) (wdataOf C) (code-small C i) F z k) (busError-own-length s 2 F) (λ e. refl) (λ d. impossible (sym d)))
+
+  pub bus-agrees : (z : ℕ) (k : FaultCause) → Clean (gist w) (busPlan C a write i z (causeNumber k))
+      → Agrees differences (stateBy w F (faultBy C a write i z (codeOf C i) (causeNumber k)) none) (event busError 2 own) w (planned (gist w) (busPlan C a write i z (causeNumber k)))
+  unfolding busPlan
+  bus-agrees z k = bus-by enterBusError same turn-bus end-same z k
 
   pub address-agrees : Clean (gist w) (addressPlan C a write i)
       → Agrees differences (stateBy w F (faultBy C a write i 0 (codeOf C i) 0) none) (event addressError 3 own) w (planned (gist w) (addressPlan C a write i))

@@ -130,7 +130,7 @@ unfolding gist gistCpu pcOf
 pc-gist z = refl
 
 -- what is said of the gist is said of the world
-agrees-gist : (s : State) (e : Event) (w z : World) → Agrees differences s e w (gist z) → Agrees differences s e w z
+pub agrees-gist : (s : State) (e : Event) (w z : World) → Agrees differences s e w (gist z) → Agrees differences s e w z
 agrees-gist s e w z h =
     record {
       frame = rw (mem-gist z, top) at (h .frame);
