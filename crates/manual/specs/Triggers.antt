@@ -13,6 +13,7 @@ use Rattle.types.specs.declared.FaultCause.{FaultCause}
 use Rattle.cpu.specs.declared.Cpu.{Cpu}
 use Rattle.cpu.specs.Fields.{kindOf, pcOf, ppcOf, irOf, wdataOf, a7Of, vbrOf, isFaulted, inException, checksAlignment, causeNumberOf, hasFcOverride, fcOverrideOf, setException, restoreRegisters, clearCause, clearFcOverride}
 use Rattle.status.specs.Status.{getSr, sOf, mOf, mUnderS, decompose, setSrNointNosp, restoreSr, keepResume}
+use Rattle.status.specs.Laws.{dropM, status-restored}
 use Rattle.memory.specs.World.{World, putCpu, cpuOf, step}
 use Rattle.frames.specs.declared.Frame.{Frame}
 use Rattle.frames.specs.Codes.{isSupervisor, stateCode, faultCode}
@@ -92,6 +93,15 @@ restored-fits w d = record { registers = d .registers; pointers = d .pointers; s
 restored-kind : (w : World) → kindOf (cpuOf (restored w)) ≡ kindOf (cpuOf w)
 unfolding beginAddress restoreRegisters restoreSr setSrNointNosp decompose kindOf putCpu
 restored-kind w = refl
+
+-- what is put back: the status before the instruction, under the kind's mask and without M where S is clear; the registers before it
+pub status-back : (w : World) → getSr (cpuOf (restored w)) ≡ dropM (maskStatus (kindOf (cpuOf w)) (cpuOf w .flags .«sr_save»))
+unfolding beginAddress restoreRegisters restoreSr getSr putCpu
+status-back w = status-restored (cpuOf w) (cpuOf w .flags .«sr_save»)
+
+pub registers-back : (w : World) → cpuOf (restored w) .regs .dar ≡ cpuOf w .regs .«dar_save»
+unfolding beginAddress restoreRegisters restoreSr setSrNointNosp putCpu
+registers-back w = refl
 
 -- what the end of the instruction needs is kept: nothing else changes
 resumed : (s : State) (e : Event) (w z : World) → Agrees differences s e w z → Agrees differences s e w (step keepResume z)
