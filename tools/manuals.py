@@ -20,7 +20,7 @@ CALLS = {"busError": "`exception_bus_error`", "addressError": "`exception_addres
          "group2": "group 2", "protocol": "coprocessor protocol violation", "configuration": "MMU configuration error", "interrupt": "an interrupt's vector"}
 WHENS = {"always": "", "nonzero": "where the manual's value is not 0", "chk": "vector 6", "vectored": "vectors 15 and 64 to 255", "inMaster": "in the master state",
          "based": "where `vbr` is not 0", "ofTheBus": "where the bus failed, not the translation", "past24": "an address from 0x1000000 on, kind 3"}
-WHATS = {"fields": "every field", "format": "the format, with it every field from +6 on and the length", "length": "the length, so A7", "status": "the status left",
+WHATS = {"fields": "every field", "atTop": "every field of the frame at A7", "format": "the format, with it every field from +6 on and the length", "length": "the length, so A7", "status": "the status left",
          "pc": "PC", "pins": "the address on the pins"}
 # the frames that are drawn: our definition, and the manual's table of the same exception; the file's name says format and parts
 DRAWN = [("68000-6-bytes", "68000: all but errors", "short68000", "shortFrame", 6), ("68000-14-bytes", "68000: bus and address error", "error68000", "frame68000", 14),
@@ -98,7 +98,7 @@ def inputs():
                 continue
             rest, row, ks, call = m[5].split(), int(m[2]), m[3], m[4]
             manual, ours = rest[-2], rest[-1]
-            more = [f"level {rest[0]}"] if m[1] == "asked" else ["status 0x3700, interrupt stack 0x140"] if m[1] == "inMaster" else []
+            more = [f"level {rest[0]}"] if m[1] == "asked" else [f"mmu_fc_override {rest[0]}"] if m[1] == "overridden" else ["status 0x3700, interrupt stack 0x140"] if m[1] == "inMaster" else []
         if re.fullmatch(r"[a-z]\w*", call):
             call = re.search(rf"^{call} = (.*)$", source, re.M)[1]
         numbers = [int(n) for n in (re.findall(r"\d+", ks) if ks.startswith("(") else re.findall(r"\d+", re.search(rf"^{ks} = (.*)$", source, re.M)[1]))]
@@ -246,9 +246,11 @@ def drawing(key, title, table, own, size):
 def page():
     """docs/FRAMES.md."""
     lines = ["<!-- written by tools/manuals.py from crates/manual/specs/Formats.antt and Differences.antt -->", "# Frames", "",
-             "Every frame as Motorola's manuals have it (recalled, not looked up: docs/DECISIONS.md), left, and as this code makes it, right, upward from the new A7. Red: a row of the",
-             "table of differences (docs/DIFFERENCES.md) stands there. Grey: the manual defines no value, or a call does not say it; or nothing is written there.",
-             "`Holds.holds` (crates/manual/specs) proves that there is no other difference.", ""]
+             "The frames of Motorola's manuals (recalled, not looked up: docs/DECISIONS.md) but format 3, which no call makes, and format 4 of the 68LC040 and 68EC040, left, and as this",
+             "code makes them, right, upward from the new A7. Red: a row of the table of differences (docs/DIFFERENCES.md) stands there for the call that the drawing is of; of the",
+             "68000's 14 bytes, right, whatever the manual has elsewhere. Rows of `take_exception` by a vector (but format 9), of the vector base and of the pins are in that table alone.",
+             "Grey: the manual defines no value, or a call does not say it; or nothing is written there. `Holds.holds` (crates/manual/specs) proves that a direct entry that starts",
+             "sound and is served has no difference that the table lacks.", ""]
     for key, title, table, own, size in DRAWN:
         open_fields = [f"+0x{o:X} {words(name)}" for o, _, _, name, known in fields(table) if not known and name != "internal"]
         lines += [f"## {title}", "", f"![{title}](frames/{key}.svg)", ""]

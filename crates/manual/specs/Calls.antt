@@ -30,10 +30,10 @@ faultBy c a write i z code cause = record { address = a; write = write; instruct
 abbrev pub noFault : Cpu → Fault
 noFault c = faultBy c 0 false false 0 0 0
 
--- an address error's access has the function code of the state, and no size
+-- a call of an address error says no size
 abbrev pub faultOf : Cpu → Call → Fault
 faultOf c (ExceptionBusError a write i z cause) = faultBy c a write i z (codeOf c i) (causeNumber cause)
-faultOf c (ExceptionAddressError a write i) = faultBy c a write i 0 (functionCode (isSet 13 (getSr c)) i) 0
+faultOf c (ExceptionAddressError a write i) = faultBy c a write i 0 (codeOf c i) 0
 faultOf c (TakeException v) = noFault c
 faultOf c (Trap n) = noFault c
 faultOf c (TakeGroup2Exception v) = noFault c

@@ -1,6 +1,6 @@
 -- THE TABLE of differences from the manuals. A row names the parts, how the exception is called for, the exception, what differs, and when; behind it
 -- stands what a program that runs there would notice. docs/DIFFERENCES.md is written from it.
--- `Holds` proves that nothing else differs, `Shown` that each row does.
+-- `Holds` proves that nothing else differs in a direct entry that starts sound and is served, `Shown` that each row does.
 use Prim.Native.Nat.{ℕ}
 use mathlib.Core.Bool.{Bool, true, false, cond, not, _&&_, _||_}
 use mathlib.Core.List.{List, [], _∷_}
@@ -19,11 +19,11 @@ abbrev pub way : Via → ℕ
 way byVector = 0
 way own = 1
 
--- what differs: a field, by its offset and lowest bit; every field; the format, and with it every field from offset 6 on and the length; the length; the
+-- what differs: a field, by its offset and lowest bit; every field; every field of the frame at A7, not of one under it; the format, and with it every field from offset 6 on and the length; the length; the
 -- status left; PC; the address on the pins
 pub data What : Type 0 where
   field : ℕ → ℕ → What
-  fields format length status pc pins : What
+  fields atTop format length status pc pins : What
 
 -- when: always; where the manual's value is not 0; vector 6; vectors 15 and 64 on; in the master state; where the vector base is not 0; where the bus
 -- failed, not the translation; an address past 24 bits on a part with 24 pins
@@ -60,7 +60,7 @@ differences =
     ∷ row (mc68000 ∷ []) (own ∷ []) errors (field 0x02 0) always  -- a handler takes another address for the one that failed
     ∷ row (mc68000 ∷ []) (own ∷ []) errors (field 0x08 0) always  -- a handler that returns puts another status back; RTE takes 6 of the 14 bytes
     ∷ row (mc68010 ∷ []) (own ∷ []) errors (field 0x08 13) nonzero  -- a handler cannot tell that an instruction was fetched
-    ∷ row (mc68010 ∷ []) (own ∷ []) errors (field 0x08 12) nonzero  -- a handler cannot tell that a datum was accessed
+    ∷ row (mc68010 ∷ []) (own ∷ []) errors (field 0x08 12) nonzero  -- a handler cannot tell that a datum was read
     ∷ row (mc68010 ∷ []) (own ∷ []) (busError ∷ []) (field 0x08 10) nonzero  -- a handler cannot tell which byte of the bus was used
     ∷ row (mc68010 ∷ []) (own ∷ []) (busError ∷ []) (field 0x08 9) nonzero  -- a handler cannot tell a byte from a word
     ∷ row (mc68010 ∷ []) (own ∷ []) errors (field 0x08 8) nonzero  -- a handler takes every access for a write
@@ -69,7 +69,7 @@ differences =
     ∷ row (mc68010 ∷ []) (own ∷ []) (busError ∷ []) (field 0x10 0) nonzero  -- a handler that makes the write itself writes 0
     ∷ row (mc68020 ∷ mc68030 ∷ mc68060 ∷ []) (own ∷ []) (addressError ∷ []) format always  -- a handler reads format 0: RTE takes 8 bytes, and the odd address is not told
     ∷ row (mc68040 ∷ []) (own ∷ []) (busError ∷ []) (field 0x0C 10) ofTheBus  -- a handler takes a physical bus error for a missing page
-    ∷ row (mc68060 ∷ []) (own ∷ []) (busError ∷ []) (field 0x0C 21) always  -- a handler that goes by the manual's text takes a byte for a word, a word for a long; by the outside emulators ours is what the part does
+    ∷ row (mc68060 ∷ []) (own ∷ []) (busError ∷ []) (field 0x0C 21) always  -- a handler that goes by the manual's text takes a byte for a word, a word for a long; by Hatari ours is what the part does
     ∷ row (mc68060 ∷ []) (own ∷ []) (fpDisabled ∷ []) (field 0x02 0) always  -- a handler that emulates the instruction and returns runs it again; the 68060 software package copies +0xC to +2 before RTE, and does not notice
     ∷ row (mc68000 ∷ []) (byVector ∷ []) errors fields always  -- a caller that raises an error by its vector gets a frame of 6 bytes without address
     ∷ row (mc68000 ∷ []) (byVector ∷ []) errors length always  -- the stack is 8 bytes higher than a handler expects
@@ -81,10 +81,13 @@ differences =
     ∷ row (mc68030 ∷ []) (byVector ∷ []) (configuration ∷ []) (field 0x02 0) always  -- a return runs the instruction again
     ∷ row every (byVector ∷ []) (interrupt ∷ []) status always  -- a handler that is entered so keeps the old mask: an interrupt of its own level comes in again
     ∷ row every (byVector ∷ []) (interrupt ∷ []) (field 0x02 0) vectored  -- a return runs the interrupted instruction again
-    ∷ row (mc68020 ∷ mc68030 ∷ mc68040 ∷ []) (byVector ∷ []) (interrupt ∷ []) fields inMaster  -- a handler runs on the master stack, and no frame of format 1 lies on the interrupt stack
+    ∷ row (mc68020 ∷ mc68030 ∷ mc68040 ∷ []) (byVector ∷ []) (interrupt ∷ []) atTop inMaster  -- a handler runs on the master stack, and no frame of format 1 lies on the interrupt stack
     ∷ row (mc68020 ∷ mc68030 ∷ mc68040 ∷ []) (byVector ∷ []) (interrupt ∷ []) length inMaster  -- A7 is the master stack's
     ∷ row (mc68000 ∷ []) (byVector ∷ own ∷ []) any pc based  -- a record with a vector base takes its handlers from there; the part has no such register
     ∷ row (mc68020 ∷ []) (byVector ∷ own ∷ []) any pins past24  -- addresses from 0x1000000 on are not those below it
+    ∷ row (mc68040 ∷ []) (own ∷ []) (busError ∷ []) (field 0x0C 3) nonzero  -- a handler takes an access of MOVES to another address space for a normal one, or for a cache push or a table search
+    ∷ row (mc68040 ∷ []) (own ∷ []) (busError ∷ []) (field 0x0E 3) nonzero  -- a handler that makes the write itself takes one of MOVES to another address space for a normal one
+    ∷ row (mc68060 ∷ []) (own ∷ []) (busError ∷ []) (field 0x0C 19) nonzero  -- a handler takes an access of MOVES to another address space for a normal one, or for a cache push or a table search
     ∷ []
 
 -- ---- where a row applies
@@ -122,15 +125,27 @@ lowest (bits low n) = low
 abbrev pub coversField : What → Field → Bool
 coversField (field o l) t = eqb o (t .offset) && eqb l (lowest (t .span))
 coversField fields t = true
+coversField atTop t = true
 coversField format t = leb 6 (t .offset)
 coversField length t = false
 coversField status t = false
 coversField pc t = false
 coversField pins t = false
 
+abbrev isAtTop : What → Bool
+isAtTop (field o l) = false
+isAtTop fields = false
+isAtTop atTop = true
+isAtTop format = false
+isAtTop length = false
+isAtTop status = false
+isAtTop pc = false
+isAtTop pins = false
+
 abbrev coversLength : What → Bool
 coversLength (field o l) = false
 coversLength fields = false
+coversLength atTop = false
 coversLength format = true
 coversLength length = true
 coversLength status = false
@@ -140,6 +155,7 @@ coversLength pins = false
 abbrev coversStatus : What → Bool
 coversStatus (field o l) = false
 coversStatus fields = false
+coversStatus atTop = false
 coversStatus format = false
 coversStatus length = false
 coversStatus status = true
@@ -149,6 +165,7 @@ coversStatus pins = false
 abbrev coversPc : What → Bool
 coversPc (field o l) = false
 coversPc fields = false
+coversPc atTop = false
 coversPc format = false
 coversPc length = false
 coversPc status = false
@@ -158,6 +175,7 @@ coversPc pins = false
 abbrev coversPins : What → Bool
 coversPins (field o l) = false
 coversPins fields = false
+coversPins atTop = false
 coversPins format = false
 coversPins length = false
 coversPins status = false
@@ -172,6 +190,10 @@ someRow p (r ∷ rs) = p r || someRow p rs
 
 unfoldable pub fieldDiffers : List Row → State → Via → Class → ℕ → Field → Bool
 fieldDiffers rows s w c v t = someRow (λ r. coversField (r .what) t && applies s w c v (t .value) r) rows
+
+-- the same, of the frame under one of format 1
+unfoldable pub underDiffers : List Row → State → Via → Class → ℕ → Field → Bool
+underDiffers rows s w c v t = someRow (λ r. (coversField (r .what) t && not (isAtTop (r .what))) && applies s w c v (t .value) r) rows
 
 unfoldable pub lengthDiffers : List Row → State → Via → Class → ℕ → Bool
 lengthDiffers rows s w c v = someRow (λ r. coversLength (r .what) && applies s w c v none r) rows

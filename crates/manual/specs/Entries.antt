@@ -43,16 +43,16 @@ use Rattle.manual.specs.State.{functionCode as codeBy}
 use Rattle.manual.specs.Vectors.{Class, instruction, trap, group2, interrupt, busError, addressError, protocol, configuration, fpUnimplemented, fpDisabled, vectorAt, classOf}
 use Rattle.manual.specs.Exceptions.{fieldsOf, topFields, throwsAway, firstFrame, pointerAfter, ispAfter, mspAfter, statusAfter}
 use Rattle.manual.specs.Formats.{Field}
-use Rattle.manual.specs.Differences.{Via, byVector, own, way, differences, fieldDiffers, lengthDiffers, statusDiffers, pcDiffers, pinsDiffer}
+use Rattle.manual.specs.Differences.{Via, byVector, own, way, differences, fieldDiffers, underDiffers, lengthDiffers, statusDiffers, pcDiffers, pinsDiffer}
 use Rattle.manual.specs.Calls.{Event, event, stateBy, codeOf, faultBy, noFault}
 use Rattle.manual.specs.Cells.{Holding}
 use Rattle.manual.specs.Statement.{Reads, Each, Agrees}
 use Rattle.manual.specs.Single.{Still, Same3, same-3, holding-found, one-stacks, one-pointer, one-reads, one-status, one-pc}
-use Rattle.manual.specs.Plain.{of, first, early, plain, twelve, instruction-cells, trap-cells, group2-cells, vector-group2, vector-interrupt, vector-busError, vector-addressError, vector-protocol, vector-configuration, unimplemented-cells, disabled-cells}
+use Rattle.manual.specs.Plain.{of, first, early, plain, twelve, instruction-cells, trap-cells, group2-cells, vector-group2, vector-interrupt, vector-under, vector-busError, vector-addressError, vector-protocol, vector-configuration, unimplemented-cells, disabled-cells}
 use Rattle.manual.specs.Errors.{fault, first-busError, first-addressError, second-busError, second-addressError, third-busError, third-addressError, fourth-busError, fourth-addressError, sixth-busError, sixth-addressError}
 use Rattle.manual.specs.Errors.{at as withFault}
 use Rattle.manual.specs.PartLaws.{Tests, Three, three-are, impossible, both-true, forty, sixty, pointer-is, entered-status, bus-status, vector-is, pins-are}
-use Rattle.manual.specs.Lengths.{plainBytes, group2Bytes, busBytes, addressBytes, isInterrupt, hasProtocol, hasConfiguration, rule, rules, instruction-byVector-length, instruction-own-length, trap-byVector-length, trap-own-length, group2-own-length, group2-byVector-length, busError-own-length, addressError-own-length, busError-byVector-length, addressError-byVector-length, protocol-length, configuration-length, unimplemented-length, disabled-length, interrupt-byVector-length, status-is, under-of, no-throw}
+use Rattle.manual.specs.Lengths.{plainBytes, group2Bytes, busBytes, addressBytes, isInterrupt, hasProtocol, hasConfiguration, rule, rules, instruction-byVector-length, instruction-own-length, trap-byVector-length, trap-own-length, group2-own-length, group2-byVector-length, busError-own-length, addressError-own-length, busError-byVector-length, addressError-byVector-length, protocol-length, configuration-length, unimplemented-length, disabled-length, interrupt-byVector-length, status-is, interrupt-first, no-throw}
 
 -- ---- one frame, any plan
 
@@ -148,10 +148,6 @@ module _ (w : World) (F : Family) (t : Tests F (kindOf (cpuOf w))) (so : Sound (
     unfolding stateBy
     status-of e i = status-is (stateBy w F fa op) v F via cl e i
 
-    under-here : (via ≡ own → isInterrupt cl ≡ false) → (P : Field → ℕ → Type 0) → throwsAway S cl ≡ true → Each (λ q. (m : ℕ) → q .value ≡ some m → fieldDiffers differences S via cl v q ≡ false → P q m) (fieldsOf S cl v)
-    unfolding stateBy
-    under-here i P d = under-of (stateBy w F fa op) v P F via cl i d
-
     throws-here : (via ≡ own → isInterrupt cl ≡ false) → lengthDiffers differences S via cl v ≡ false → throwsAway S cl ≡ false
     unfolding stateBy
     throws-here i e = no-throw (stateBy w F fa op) v F via cl i e
@@ -168,6 +164,14 @@ module _ (w : World) (F : Family) (t : Tests F (kindOf (cpuOf w))) (so : Sound (
     pub usp-of : view (regsOf (cpuOf w)) .usp ≡ S .usp
     unfolding stateBy
     usp-of = refl
+
+    isp-selected : (q : ℕ) → cond (hasMaster F && isSet 12 (getSr (cpuOf w))) (view (regsOf (cpuOf w)) .isp) q ≡ cond (hasMaster (S .family) && isSet 12 (S .status)) (S .isp) q
+    unfolding stateBy
+    isp-selected q = refl
+
+    msp-selected : (q : ℕ) → cond (hasMaster F && isSet 12 (getSr (cpuOf w))) q (view (regsOf (cpuOf w)) .msp) ≡ cond (hasMaster (S .family) && isSet 12 (S .status)) q (S .msp)
+    unfolding stateBy
+    msp-selected q = refl
 
     isp-of : throwsAway S cl ≡ false → (q : ℕ) → q ≡ pointerAfter S cl → cond (hasMaster F && isSet 12 (getSr (cpuOf w))) (view (regsOf (cpuOf w)) .isp) q ≡ ispAfter S cl
     unfolding ispAfter stateBy
@@ -189,25 +193,21 @@ module _ (w : World) (F : Family) (t : Tests F (kindOf (cpuOf w))) (so : Sound (
         → (lengthDiffers differences S via cl v ≡ false → pointerAfter S cl ≡ down (supervisorPointer S) n) → (statusDiffers differences S via cl v ≡ false → getSr (settle (turn (cpuOf (gist w)))) ≡ statusAfter S cl)
         → ((c : Cpu) → stacksOf c ≡ withA7 (select (stacksOf (cpuOf (gist w))) 4 (cpuOf (gist w) .flags .«m_flag»)) (newA7 (turned (gist w) turn) f) → kindOf c ≡ kindOf (cpuOf (gist w)) → Same3 (view (stacksOf (settle c))) (view (stacksOf c)))
         → (lengthDiffers differences S via cl v ≡ false → throwsAway S cl ≡ false)
-        → ((P : Field → ℕ → Type 0) → throwsAway S cl ≡ true → Each (λ q. (m : ℕ) → q .value ≡ some m → fieldDiffers differences S via cl v q ≡ false → P q m) (fieldsOf S cl v))
+        → (throwsAway S cl ≡ true → Holding f (underDiffers differences S via cl v) (fieldsOf S cl v) × (firstFrame S cl ≡ down (supervisorPointer S) n))
         → Clean (gist w) (oneOf turn f settle v close) → Agrees differences S (event cl v via) w (planned (gist w) (oneOf turn f settle v close))
     settled-agrees turn settle close f n te ts ss sa sf en z h l st sv nt un c =
         record {
-          under = λ d a. un _ d;
+          under = λ d a. subst (λ (p : ℕ). Each (λ q. (m : ℕ) → q .value ≡ some m → underDiffers differences S via cl v q ≡ false → Reads (peek (mem P)) (kindOf (cpuOf w)) p q m) (fieldsOf S cl v)) (lowered ∙ sym (un d .1))
+              (subst (λ (k : ℕ). Each (λ q. (m : ℕ) → q .value ≡ some m → underDiffers differences S via cl v q ≡ false → Reads (peek (mem P)) k (a7Of (cpuOf P)) q m) (fieldsOf S cl v)) kind-gist
+              (holding-found f (underDiffers differences S via cl v) (Reads (peek (mem P)) (kindOf (cpuOf (gist w))) (a7Of (cpuOf P)))
+              (one-reads (gist w) turn settle close f v fit te ts ss sa (en .keeps) (en .pc) (en .status) (z .shape) c) (fieldsOf S cl v) (un d .0)));
           frame = subst (λ (k : ℕ). Each (λ q. (m : ℕ) → q .value ≡ some m → fieldDiffers differences S via cl v q ≡ false → Reads (peek (mem P)) k (a7Of (cpuOf P)) q m) (topFields S cl v)) kind-gist
               (holding-found f (fieldDiffers differences S via cl v) (Reads (peek (mem P)) (kindOf (cpuOf (gist w))) (a7Of (cpuOf P)))
               (one-reads (gist w) turn settle close f v fit te ts ss sa (en .keeps) (en .pc) (en .status) (z .shape) c) (topFields S cl v) h);
+          usp = three .usp-is ∙ usp-of;
+          selected = λ e. record { isp = three .isp-is ∙ isp-selected (a7Of (cpuOf P)); msp = three .msp-is ∙ msp-selected (a7Of (cpuOf P)) };
           pointer = pointer-here;
-          stacks = λ e.
-              let q : ℕ = a7Of (cpuOf P) in
-              let b = one-stacks (gist w) turn settle close f v fit te ts ss sa (en .keeps) (en .pc) (en .status) (z .shape) c sv in
-              let k = three-gist (a7Of (cpuOf P)) in
-              let u = view-of (cpuOf P) in
-              record {
-                usp = ap (λ (y : View). y .usp) u ∙ b .usp ∙ k .usp-is ∙ usp-of;
-                isp = ap (λ (y : View). y .isp) u ∙ b .isp ∙ k .isp-is ∙ isp-of (nt e) (a7Of (cpuOf P)) (pointer-here e);
-                msp = ap (λ (y : View). y .msp) u ∙ b .msp ∙ k .msp-is ∙ msp-of (nt e) (a7Of (cpuOf P)) (pointer-here e);
-              };
+          stacks = λ e. record { isp = three .isp-is ∙ isp-of (nt e) (a7Of (cpuOf P)) (pointer-here e); msp = three .msp-is ∙ msp-of (nt e) (a7Of (cpuOf P)) (pointer-here e) };
           status = λ e. one-status (gist w) turn settle close f v fit te ts ss sa (en .keeps) (en .pc) (en .status) (z .shape) c sf ∙ st e;
           pc = λ e. ap (λ (a : ℕ). longAt (peek (mem P)) (maskAddress (kindOf (cpuOf w)) a)) (vector-of e)
               ∙ subst (λ (k : ℕ). longAt (peek (mem P)) (maskAddress k ((vbrOf (cpuOf (gist w)) + 4 * v) % 0x100000000)) ≡ some (pcOf (cpuOf P))) kind-gist
@@ -218,17 +218,33 @@ module _ (w : World) (F : Family) (t : Tests F (kindOf (cpuOf w))) (so : Sound (
         P : World
         P = planned (gist w) (oneOf turn f settle v close)
 
-        pointer-here : lengthDiffers differences S via cl v ≡ false → a7Of (cpuOf (planned (gist w) (oneOf turn f settle v close))) ≡ pointerAfter S cl
-        pointer-here e =
+        three : Three (view (regsOf (cpuOf P))) (view (regsOf (cpuOf w)) .usp) (cond (hasMaster F && isSet 12 (getSr (cpuOf w))) (view (regsOf (cpuOf w)) .isp) (a7Of (cpuOf P)))
+            (cond (hasMaster F && isSet 12 (getSr (cpuOf w))) (a7Of (cpuOf P)) (view (regsOf (cpuOf w)) .msp))
+        three =
+            let b = one-stacks (gist w) turn settle close f v fit te ts ss sa (en .keeps) (en .pc) (en .status) (z .shape) c sv in
+            let k = three-gist (a7Of (cpuOf P)) in
+            let u = view-of (cpuOf P) in
+            record {
+              usp-is = ap (λ (y : View). y .usp) u ∙ b .usp ∙ k .usp-is;
+              isp-is = ap (λ (y : View). y .isp) u ∙ b .isp ∙ k .isp-is;
+              msp-is = ap (λ (y : View). y .msp) u ∙ b .msp ∙ k .msp-is;
+            }
+
+        lowered : a7Of (cpuOf (planned (gist w) (oneOf turn f settle v close))) ≡ down (supervisorPointer S) n
+        lowered =
             one-pointer (gist w) turn settle close f v fit te ts ss sa (en .keeps) (en .pc) (en .status) (z .shape) c (rw (z .size) (z .small))
-            ∙ ap (lower (stackTop (cpuOf (gist w)))) (z .size) ∙ lower-down (stackTop (cpuOf (gist w))) n (z .small) ∙ ap (λ (q : ℕ). down q n) (pointer-of fa op) ∙ sym (l e)
+            ∙ ap (lower (stackTop (cpuOf (gist w)))) (z .size) ∙ lower-down (stackTop (cpuOf (gist w))) n (z .small) ∙ ap (λ (q : ℕ). down q n) (pointer-of fa op)
+
+        pointer-here : lengthDiffers differences S via cl v ≡ false → a7Of (cpuOf (planned (gist w) (oneOf turn f settle v close))) ≡ pointerAfter S cl
+        pointer-here e = lowered ∙ sym (l e)
 
     pub one-agrees : (turn close : Cpu → Cpu) (f : Frame) (n : ℕ) → Turn turn → End close → Sized f n → Holding f (fieldDiffers differences S via cl v) (topFields S cl v)
-        → (lengthDiffers differences S via cl v ≡ false → pointerAfter S cl ≡ down (supervisorPointer S) n) → (via ≡ own → isInterrupt cl ≡ false) → Clean (gist w) (single turn f v close)
+        → (lengthDiffers differences S via cl v ≡ false → pointerAfter S cl ≡ down (supervisorPointer S) n) → (via ≡ own → isInterrupt cl ≡ false)
+        → (throwsAway S cl ≡ true → Holding f (underDiffers differences S via cl v) (fieldsOf S cl v) × (firstFrame S cl ≡ down (supervisorPointer S) n)) → Clean (gist w) (single turn f v close)
         → Agrees differences S (event cl v via) w (planned (gist w) (single turn f v close))
-    one-agrees turn close f n tu en z h l i =
+    one-agrees turn close f n tu en z h l i un =
         settled-agrees turn same close f n (tu .enters) (tu .still) still-same (λ d. refl) flags-status en z h l (λ e. tu .status (cpuOf (gist w)) ∙ ap entered status-gist ∙ status-of e i)
-        (λ c e k. same-3 _ _ refl) (throws-here i) (under-here i)
+        (λ c e k. same-3 _ _ refl) (throws-here i) un
 
 -- ---- sizes of frames
 
@@ -398,11 +414,12 @@ module _ (w : World) (F : Family) (t : Tests F (kindOf (cpuOf w))) (so : Sound (
   short-agrees : (fa : Fault) (op : Option ℕ) (cl : Class) (v : ℕ) (via : Via) → v < 256 → (turn close : Cpu → Cpu) → Turn turn → End close → (a b : ℕ) → a ≡ b
       → Holding (plain F (getSr C) b (offsetWord v)) (fieldDiffers differences (St fa op) via cl v) (topFields (St fa op) cl v)
       → (lengthDiffers differences (St fa op) via cl v ≡ false → pointerAfter (St fa op) cl ≡ down (supervisorPointer (St fa op)) (plainBytes F)) → (via ≡ own → isInterrupt cl ≡ false)
+      → (throwsAway (St fa op) cl ≡ true → Holding (plain F (getSr C) b (offsetWord v)) (underDiffers differences (St fa op) via cl v) (fieldsOf (St fa op) cl v) × (firstFrame (St fa op) cl ≡ down (supervisorPointer (St fa op)) (plainBytes F)))
       → Clean (gist w) (single turn (shortOf (kindOf C) (getSr C) a (offsetWord v)) v close)
       → Agrees differences (St fa op) (event cl v via) w (planned (gist w) (single turn (shortOf (kindOf C) (getSr C) a (offsetWord v)) v close))
-  short-agrees fa op cl v via vl turn close tu en a b q h l i =
+  short-agrees fa op cl v via vl turn close tu en a b q h l i un =
       by-frame (St fa op) (event cl v via) turn close v _ (plain F (getSr C) b (offsetWord v)) (short-is (getSr C) a b (offsetWord v) q)
-      (one-agrees w F t so fit fa op cl v via vl turn close (plain F (getSr C) b (offsetWord v)) (plainBytes F) tu en (plain-size F (getSr C) b (offsetWord v)) h l i)
+      (one-agrees w F t so fit fa op cl v via vl turn close (plain F (getSr C) b (offsetWord v)) (plainBytes F) tu en (plain-size F (getSr C) b (offsetWord v)) h l i un)
 
   not-own : byVector ≡ own → {A : Type 0} → A
   not-own e = let z : _≡_ {A = ℕ} 0 1 = ap way e in absurd (omega arith)
@@ -424,20 +441,20 @@ module _ (w : World) (F : Family) (t : Tests F (kindOf (cpuOf w))) (so : Sound (
   unfolding excPlan stateBy topFields pcOf ppcOf
   trap-agrees n fa op =
       short-agrees fa op trap (32 + n % 16) own (omega arith) (λ d. enterSupervisor (setException d true)) (λ d. setException d false) turn-exception end-exception (stackedAddress C (32 + n % 16)) (pcOf C)
-      (by-next (32 + n % 16) (next-trap n)) (trap-cells (St fa op) (32 + n % 16) (status-fits C) ppl pcl (omega arith) F own) (trap-own-length (St fa op) (32 + n % 16) F) (λ e. refl)
+      (by-next (32 + n % 16) (next-trap n)) (trap-cells (St fa op) (32 + n % 16) (status-fits C) ppl pcl (omega arith) F own) (trap-own-length (St fa op) (32 + n % 16) F) (λ e. refl) (λ d. impossible (sym d))
 
   -- an instruction that is not executed, by `take_exception`'s way and by the wrappers
   pub privilege-agrees : (fa : Fault) (op : Option ℕ) → Clean (gist w) (excPlan C 8) → Agrees differences (St fa op) (event instruction 8 own) w (planned (gist w) (excPlan C 8))
   unfolding excPlan stateBy topFields ppcOf stackedAddress stacksNext pcOf
   privilege-agrees fa op =
       short-agrees fa op instruction 8 own (omega arith) (λ d. enterSupervisor (setException d true)) (λ d. setException d false) turn-exception end-exception (stackedAddress C 8) (ppcOf C)
-      refl (instruction-cells (St fa op) 8 (status-fits C) ppl pcl (omega arith) F own) (instruction-own-length (St fa op) 8 F) (λ e. refl)
+      refl (instruction-cells (St fa op) 8 (status-fits C) ppl pcl (omega arith) F own) (instruction-own-length (St fa op) 8 F) (λ e. refl) (λ d. impossible (sym d))
 
   pub rewound-agrees : (v : ℕ) → v < 256 → stackedAddress (rewindPc C) v ≡ ppcOf C → (fa : Fault) (op : Option ℕ) → Clean (gist w) (rewoundPlan C v) → Agrees differences (St fa op) (event instruction v own) w (planned (gist w) (rewoundPlan C v))
   unfolding rewoundPlan stateBy topFields ppcOf pcOf
   rewound-agrees v vl q fa op =
       short-agrees fa op instruction v own vl (λ d. enterSupervisor (setException (rewindPc d) true)) (λ d. setException d false) turn-rewound end-exception (stackedAddress (rewindPc C) v) (ppcOf C)
-      q (instruction-cells (St fa op) v (status-fits C) ppl pcl vl F own) (instruction-own-length (St fa op) v F) (λ e. refl)
+      q (instruction-cells (St fa op) v (status-fits C) ppl pcl vl F own) (instruction-own-length (St fa op) v F) (λ e. refl) (λ d. impossible (sym d))
 
   -- group 2 and trace
   group-is : (v : ℕ) → group2Frame (kindOf C) (getSr C) (pcOf C) (ppcOf C) v ≡ twelve F (getSr C) (pcOf C) (ppcOf C) v
@@ -452,7 +469,7 @@ module _ (w : World) (F : Family) (t : Tests F (kindOf (cpuOf w))) (so : Sound (
   group-by turn tu v vl fa op =
       by-frame (St fa op) (event group2 v own) turn same v _ (twelve F (getSr C) (pcOf C) (ppcOf C) v) (group-is v)
       (one-agrees w F t so fit fa op group2 v own vl turn same (twelve F (getSr C) (pcOf C) (ppcOf C) v) (group2Bytes F) tu end-same (twelve-size F (getSr C) (pcOf C) (ppcOf C) v)
-      (group2-cells (St fa op) v (status-fits C) ppl pcl vl F) (group2-own-length (St fa op) v F) (λ e. refl))
+      (group2-cells (St fa op) v (status-fits C) ppl pcl vl F) (group2-own-length (St fa op) v F) (λ e. refl) (λ d. impossible (sym d)))
 
   pub group-agrees : (v : ℕ) → v < 256 → (fa : Fault) (op : Option ℕ) → Clean (gist w) (group2Plan C v) → Agrees differences (St fa op) (event group2 v own) w (planned (gist w) (group2Plan C v))
   unfolding group2Plan
@@ -467,28 +484,29 @@ module _ (w : World) (F : Family) (t : Tests F (kindOf (cpuOf w))) (so : Sound (
   unfolding excPlan stateBy topFields pcOf ppcOf
   vector-agrees v vl instruction e fa op =
       short-agrees fa op instruction v byVector vl (λ d. enterSupervisor (setException d true)) (λ d. setException d false) turn-exception end-exception (stackedAddress C v) (ppcOf C) (by-this v (not-not (stacksNext v) (subst (λ (o : Option Class). rule F o v ≡ true) e (rules F v vl))))
-      (instruction-cells (St fa op) v (status-fits C) ppl pcl vl F byVector) (instruction-byVector-length (St fa op) v F) (λ x. not-own x)
+      (instruction-cells (St fa op) v (status-fits C) ppl pcl vl F byVector) (instruction-byVector-length (St fa op) v F) (λ x. not-own x) (λ d. impossible (sym d))
   vector-agrees v vl trap e fa op =
       short-agrees fa op trap v byVector vl (λ d. enterSupervisor (setException d true)) (λ d. setException d false) turn-exception end-exception (stackedAddress C v) (pcOf C) (by-next v (subst (λ (o : Option Class). rule F o v ≡ true) e (rules F v vl)))
-      (trap-cells (St fa op) v (status-fits C) ppl pcl vl F byVector) (trap-byVector-length (St fa op) v F) (λ x. not-own x)
+      (trap-cells (St fa op) v (status-fits C) ppl pcl vl F byVector) (trap-byVector-length (St fa op) v F) (λ x. not-own x) (λ d. impossible (sym d))
   vector-agrees v vl group2 e fa op =
       short-agrees fa op group2 v byVector vl (λ d. enterSupervisor (setException d true)) (λ d. setException d false) turn-exception end-exception (stackedAddress C v) (stackedAddress C v) refl
-      (vector-group2 (St fa op) v (status-fits C) ppl pcl vl (stackedAddress C v) (stacked-small v) (λ x. by-next v (or-right (eqb v 6) (stacksNext v) (subst (λ (o : Option Class). rule F o v ≡ true) e (rules F v vl)) x)) F (eqb v 6) refl) (group2-byVector-length (St fa op) v F) (λ x. not-own x)
+      (vector-group2 (St fa op) v (status-fits C) ppl pcl vl (stackedAddress C v) (stacked-small v) (λ x. by-next v (or-right (eqb v 6) (stacksNext v) (subst (λ (o : Option Class). rule F o v ≡ true) e (rules F v vl)) x)) F (eqb v 6) refl) (group2-byVector-length (St fa op) v F) (λ x. not-own x) (λ d. impossible (sym d))
   vector-agrees v vl interrupt e fa op =
       short-agrees fa op interrupt v byVector vl (λ d. enterSupervisor (setException d true)) (λ d. setException d false) turn-exception end-exception (stackedAddress C v) (stackedAddress C v) refl
       (vector-interrupt (St fa op) v (status-fits C) ppl pcl vl (stackedAddress C v) (stacked-small v) (λ x. by-next v (or-right (eqb v 15 || leb 64 v) (stacksNext v) (subst (λ (o : Option Class). rule F o v ≡ true) e (rules F v vl)) x)) F (eqb v 15 || leb 64 v) refl (eqb (St fa op .status / 2 ^ 12 % 2) 1) refl) (interrupt-byVector-length (St fa op) v F) (λ x. not-own x)
+      (λ d. (vector-under (St fa op) v (status-fits C) ppl pcl vl (stackedAddress C v) (stacked-small v) (λ x. by-next v (or-right (eqb v 15 || leb 64 v) (stacksNext v) (subst (λ (o : Option Class). rule F o v ≡ true) e (rules F v vl)) x)) F (eqb v 15 || leb 64 v) refl, interrupt-first (St fa op) F))
   vector-agrees v vl busError e fa op =
       short-agrees fa op busError v byVector vl (λ d. enterSupervisor (setException d true)) (λ d. setException d false) turn-exception end-exception (stackedAddress C v) (ppcOf C) (by-this v (not-not (stacksNext v) (subst (λ (o : Option Class). rule F o v ≡ true) e (rules F v vl))))
-      (vector-busError (St fa op) v (status-fits C) ppl pcl vl F) (busError-byVector-length (St fa op) v F) (λ x. not-own x)
+      (vector-busError (St fa op) v (status-fits C) ppl pcl vl F) (busError-byVector-length (St fa op) v F) (λ x. not-own x) (λ d. impossible (sym d))
   vector-agrees v vl addressError e fa op =
       short-agrees fa op addressError v byVector vl (λ d. enterSupervisor (setException d true)) (λ d. setException d false) turn-exception end-exception (stackedAddress C v) (ppcOf C) (by-this v (not-not (stacksNext v) (subst (λ (o : Option Class). rule F o v ≡ true) e (rules F v vl))))
-      (vector-addressError (St fa op) v (status-fits C) ppl pcl vl F) (addressError-byVector-length (St fa op) v F) (λ x. not-own x)
+      (vector-addressError (St fa op) v (status-fits C) ppl pcl vl F) (addressError-byVector-length (St fa op) v F) (λ x. not-own x) (λ d. impossible (sym d))
   vector-agrees v vl protocol e fa op =
       short-agrees fa op protocol v byVector vl (λ d. enterSupervisor (setException d true)) (λ d. setException d false) turn-exception end-exception (stackedAddress C v) (ppcOf C) (by-this v (not-not (stacksNext v) (both-true (hasProtocol F) (not (stacksNext v)) (subst (λ (o : Option Class). rule F o v ≡ true) e (rules F v vl)) .1)))
-      (protocol-hold F (St fa op) v (status-fits C) ppl pcl vl (both-true (hasProtocol F) (not (stacksNext v)) (subst (λ (o : Option Class). rule F o v ≡ true) e (rules F v vl)) .0)) (protocol-far F (St fa op) v (both-true (hasProtocol F) (not (stacksNext v)) (subst (λ (o : Option Class). rule F o v ≡ true) e (rules F v vl)) .0)) (λ x. not-own x)
+      (protocol-hold F (St fa op) v (status-fits C) ppl pcl vl (both-true (hasProtocol F) (not (stacksNext v)) (subst (λ (o : Option Class). rule F o v ≡ true) e (rules F v vl)) .0)) (protocol-far F (St fa op) v (both-true (hasProtocol F) (not (stacksNext v)) (subst (λ (o : Option Class). rule F o v ≡ true) e (rules F v vl)) .0)) (λ x. not-own x) (λ d. impossible (sym d))
   vector-agrees v vl configuration e fa op =
       short-agrees fa op configuration v byVector vl (λ d. enterSupervisor (setException d true)) (λ d. setException d false) turn-exception end-exception (stackedAddress C v) (ppcOf C) (by-this v (not-not (stacksNext v) (both-true (hasConfiguration F) (not (stacksNext v)) (subst (λ (o : Option Class). rule F o v ≡ true) e (rules F v vl)) .1)))
-      (configuration-hold F (St fa op) v (status-fits C) ppl pcl vl (both-true (hasConfiguration F) (not (stacksNext v)) (subst (λ (o : Option Class). rule F o v ≡ true) e (rules F v vl)) .0)) (configuration-far F (St fa op) v (both-true (hasConfiguration F) (not (stacksNext v)) (subst (λ (o : Option Class). rule F o v ≡ true) e (rules F v vl)) .0)) (λ x. not-own x)
+      (configuration-hold F (St fa op) v (status-fits C) ppl pcl vl (both-true (hasConfiguration F) (not (stacksNext v)) (subst (λ (o : Option Class). rule F o v ≡ true) e (rules F v vl)) .0)) (configuration-far F (St fa op) v (both-true (hasConfiguration F) (not (stacksNext v)) (subst (λ (o : Option Class). rule F o v ≡ true) e (rules F v vl)) .0)) (λ x. not-own x) (λ d. impossible (sym d))
   vector-agrees v vl fpUnimplemented e fa op = impossible (sym (subst (λ (o : Option Class). rule F o v ≡ true) e (rules F v vl)))
   vector-agrees v vl fpDisabled e fa op = impossible (sym (subst (λ (o : Option Class). rule F o v ≡ true) e (rules F v vl)))
 
@@ -497,10 +515,10 @@ module _ (w : World) (F : Family) (t : Tests F (kindOf (cpuOf w))) (so : Sound (
   unfolding fpUnimpPlan stateBy topFields pcOf ppcOf
   unimplemented-agrees ea x fa =
       one-agrees w F t so fit fa (some ea) fpUnimplemented 11 own (omega arith) (λ d. enterSupervisor (noteFpiar d)) same (longFrame (getSr C) (pcOf C) (formatWord 2 11) ea) 12 turn-fpiar end-same
-      (size12 (getSr C) (pcOf C) (formatWord 2 11) ea) (unimplemented-hold F (St fa (some ea)) (status-fits C) ppl pcl x ea refl) (λ e. unimplemented-far F (St fa (some ea)) x) (λ e. refl)
+      (size12 (getSr C) (pcOf C) (formatWord 2 11) ea) (unimplemented-hold F (St fa (some ea)) (status-fits C) ppl pcl x ea refl) (λ e. unimplemented-far F (St fa (some ea)) x) (λ e. refl) (λ d. impossible (sym d))
 
   pub disabled-agrees : sixty F ≡ true → (fa : Fault) → Clean (gist w) (fpDisabledPlan C) → Agrees differences (St fa none) (event fpDisabled 11 own) w (planned (gist w) (fpDisabledPlan C))
   unfolding fpDisabledPlan stateBy topFields pcOf ppcOf
   disabled-agrees x fa =
       one-agrees w F t so fit fa none fpDisabled 11 own (omega arith) enterSupervisor same (disabledFrame (getSr C) (ppcOf C) (formatWord 4 11) 0 (ppcOf C)) 16 turn-supervisor end-same
-      (size16 (getSr C) (ppcOf C) (formatWord 4 11) 0 (ppcOf C)) (disabled-hold F (St fa none) (status-fits C) ppl pcl x refl) (λ e. disabled-far F (St fa none) x) (λ e. refl)
+      (size16 (getSr C) (ppcOf C) (formatWord 4 11) 0 (ppcOf C)) (disabled-hold F (St fa none) (status-fits C) ppl pcl x refl) (λ e. disabled-far F (St fa none) x) (λ e. refl) (λ d. impossible (sym d))

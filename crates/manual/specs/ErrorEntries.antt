@@ -34,7 +34,7 @@ use Rattle.manual.specs.Statement.{Agrees}
 use Rattle.manual.specs.Plain.{of, first, early}
 use Rattle.manual.specs.Errors.{fault, first-busError, first-addressError, second-busError, second-addressError, third-busError, third-addressError, fourth-busError, fourth-addressError, sixth-busError, sixth-addressError}
 use Rattle.manual.specs.Errors.{at as withFault}
-use Rattle.manual.specs.PartLaws.{Tests, forty, sixty, s-bit}
+use Rattle.manual.specs.PartLaws.{impossible, Tests, forty, sixty, s-bit}
 use Rattle.manual.specs.Lengths.{busBytes, addressBytes, busError-own-length, addressError-own-length}
 use Rattle.manual.specs.Entries.{Sized, Turn, End, turn-supervisor, turn-bus, end-same, one-agrees, by-frame, size14, size58, sizeError2, sizeError0, sizeError4, sizeError7, sizeError11}
 
@@ -120,14 +120,15 @@ module _ (s : State) (sr : s .status < 0x10000) (op : s .opcode < 0x10000) (a : 
   bus-hold mc68040 z k = fourth-busError s sr op a write i z code datum (causeNumber k) k write l
   bus-hold mc68060 z k = sixth-busError s sr op a write i z code datum (causeNumber k) k write i l
 
-  address-hold : (f : Family) → Holding (addressBy f (s .status) (s .this) (s .opcode) a write i code) (fieldDiffers differences (of f (withFault s (fault a write i 0 code datum 0))) own addressError 3)
+  -- our frame has the function code of the state; where the manual has that of the access, a row stands
+  address-hold : (f : Family) (stacked : ℕ) → Holding (addressBy f (s .status) (s .this) (s .opcode) a write i stacked) (fieldDiffers differences (of f (withFault s (fault a write i 0 code datum 0))) own addressError 3)
       (fieldsOf (of f (withFault s (fault a write i 0 code datum 0))) addressError 3)
-  address-hold mc68000 = first-addressError s sr op a write i 0 code datum 0 (faultWord code write i)
-  address-hold mc68010 = second-addressError s sr op a write i 0 code datum 0 write i
-  address-hold mc68020 = third-addressError s sr op a write i 0 code datum 0 true
-  address-hold mc68030 = third-addressError s sr op a write i 0 code datum 0 false
-  address-hold mc68040 = fourth-addressError s sr op a write i 0 code datum 0
-  address-hold mc68060 = sixth-addressError s sr op a write i 0 code datum 0
+  address-hold mc68000 stacked = first-addressError s sr op a write i 0 code datum 0 (faultWord stacked write i)
+  address-hold mc68010 stacked = second-addressError s sr op a write i 0 code datum 0 write i
+  address-hold mc68020 stacked = third-addressError s sr op a write i 0 code datum 0 true
+  address-hold mc68030 stacked = third-addressError s sr op a write i 0 code datum 0 false
+  address-hold mc68040 stacked = fourth-addressError s sr op a write i 0 code datum 0
+  address-hold mc68060 stacked = sixth-addressError s sr op a write i 0 code datum 0
 
 -- ---- the entries
 
@@ -136,26 +137,32 @@ module _ (w : World) (F : Family) (t : Tests F (kindOf (cpuOf w))) (so : Sound (
   abbrev C : Cpu
   C = cpuOf w
 
-  pub bus-agrees : (z : ℕ) (k : FaultCause) → Clean (gist w) (busPlan C a write i z (causeNumber k))
-      → Agrees differences (stateBy w F (faultBy C a write i z (codeOf C i) (causeNumber k)) none) (event busError 2 own) w (planned (gist w) (busPlan C a write i z (causeNumber k)))
-  unfolding busPlan stateBy topFields ppcOf irOf wdataOf
-  bus-agrees z k =
+  -- a bus error, whatever else the record does before the frame and at the end
+  pub bus-by : (turn close : Cpu → Cpu) → Turn turn → End close → (z : ℕ) (k : FaultCause) → Clean (gist w) (single turn (busFrame C a write i z (causeNumber k)) 2 close)
+      → Agrees differences (stateBy w F (faultBy C a write i z (codeOf C i) (causeNumber k)) none) (event busError 2 own) w (planned (gist w) (single turn (busFrame C a write i z (causeNumber k)) 2 close))
+  unfolding stateBy topFields ppcOf irOf wdataOf
+  bus-by turn close tu en z k =
       let fa : Fault = faultBy C a write i z (codeOf C i) (causeNumber k) in
       let s : State = stateBy w F fa none in
       let f : Frame = busBy F (getSr C) (ppcOf C) (irOf C % 0x10000) a write i z (codeOf C i) (wdataOf C) (causeNumber k) in
-      by-frame w F t so fit pcl ppl s (event busError 2 own) enterBusError same 2 _ f (bus-is F C t a write i z (causeNumber k))
-      (one-agrees w F t so fit fa none busError 2 own (omega arith) enterBusError same f (busBytes F) turn-bus end-same
+      by-frame w F t so fit pcl ppl s (event busError 2 own) turn close 2 _ f (bus-is F C t a write i z (causeNumber k))
+      (one-agrees w F t so fit fa none busError 2 own (omega arith) turn close f (busBytes F) tu en
       (bus-size F (getSr C) (ppcOf C) (irOf C % 0x10000) a write i z (codeOf C i) (wdataOf C) (causeNumber k))
-      (bus-hold s (status-fits C) (omega arith) a write i (codeOf C i) (wdataOf C) (code-small C i) F z k) (busError-own-length s 2 F) (λ e. refl))
+      (bus-hold s (status-fits C) (omega arith) a write i (codeOf C i) (wdataOf C) (code-small C i) F z k) (busError-own-length s 2 F) (λ e. refl) (λ d. impossible (sym d)))
+
+  pub bus-agrees : (z : ℕ) (k : FaultCause) → Clean (gist w) (busPlan C a write i z (causeNumber k))
+      → Agrees differences (stateBy w F (faultBy C a write i z (codeOf C i) (causeNumber k)) none) (event busError 2 own) w (planned (gist w) (busPlan C a write i z (causeNumber k)))
+  unfolding busPlan
+  bus-agrees z k = bus-by enterBusError same turn-bus end-same z k
 
   pub address-agrees : Clean (gist w) (addressPlan C a write i)
-      → Agrees differences (stateBy w F (faultBy C a write i 0 (codeBy (isSet 13 (getSr C)) i) 0) none) (event addressError 3 own) w (planned (gist w) (addressPlan C a write i))
+      → Agrees differences (stateBy w F (faultBy C a write i 0 (codeOf C i) 0) none) (event addressError 3 own) w (planned (gist w) (addressPlan C a write i))
   unfolding addressPlan stateBy topFields ppcOf irOf wdataOf
   address-agrees =
-      let fa : Fault = faultBy C a write i 0 (codeBy (isSet 13 (getSr C)) i) 0 in
+      let fa : Fault = faultBy C a write i 0 (codeOf C i) 0 in
       let s : State = stateBy w F fa none in
       let f : Frame = addressBy F (getSr C) (ppcOf C) (irOf C % 0x10000) a write i (codeBy (isSet 13 (getSr C)) i) in
       by-frame w F t so fit pcl ppl s (event addressError 3 own) enterSupervisor same 3 _ f (address-is F C t a write i)
       (one-agrees w F t so fit fa none addressError 3 own (omega arith) enterSupervisor same f (addressBytes F) turn-supervisor end-same
       (address-size F (getSr C) (ppcOf C) (irOf C % 0x10000) a write i (codeBy (isSet 13 (getSr C)) i))
-      (address-hold s (status-fits C) (omega arith) a write i (codeBy (isSet 13 (getSr C)) i) (wdataOf C) (small (isSet 13 (getSr C)) i) F) (addressError-own-length s 3 F) (λ e. refl))
+      (address-hold s (status-fits C) (omega arith) a write i (codeOf C i) (wdataOf C) (code-small C i) F (codeBy (isSet 13 (getSr C)) i)) (addressError-own-length s 3 F) (λ e. refl) (λ d. impossible (sym d)))

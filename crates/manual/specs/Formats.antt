@@ -97,11 +97,16 @@ size060 z = cond (eqb z 1) (some 0) (cond (eqb z 2) (some 1) (cond (eqb z 4) (so
 abbrev pub plainBus : Fault → Bool
 plainBus f = eqb (f .cause) 0 || eqb (f .cause) 8
 
+-- TT of the 68040 and 68060: 10, an alternate function code, for codes 0, 3, 4 and 7, which MOVES alone has; else 00, a normal access. TM is the code.
+-- M68040UM section 5, MC68060UM 8.4.4 (recalled)
+abbrev pub transferTypeOf : ℕ → ℕ
+transferTypeOf code = cond (eqb code 0 || (eqb code 3 || (eqb code 4 || eqb code 7))) 2 0
+
 abbrev pub format4Access : ℕ → ℕ → ℕ → Fault → List Field
 format4Access sr pc fw f =
     word 0x00 statusRegister (some sr) ∷ long 0x02 programCounter (some pc) ∷ word 0x06 formatVector (some fw) ∷ long 0x08 faultAddress (some (f .address))
     ∷ inLong 0x0C 27 1 misaligned unsaid ∷ inLong 0x0C 25 1 locked unsaid ∷ inLong 0x0C 23 2 readWrite (cond (f .write) (some 1) (some 2))
-    ∷ inLong 0x0C 21 2 size (size060 (f .size)) ∷ inLong 0x0C 19 2 transferType (some 0) ∷ inLong 0x0C 16 3 transferModifier (some (f .code))
+    ∷ inLong 0x0C 21 2 size (size060 (f .size)) ∷ inLong 0x0C 19 2 transferType (some (transferTypeOf (f .code))) ∷ inLong 0x0C 16 3 transferModifier (some (f .code))
     ∷ inLong 0x0C 15 1 instructionOrOperand (flag (f .instruction)) ∷ inLong 0x0C 12 1 pointerA (flag (eqb (f .cause) 1))
     ∷ inLong 0x0C 11 1 pointerB (flag (eqb (f .cause) 2)) ∷ inLong 0x0C 10 1 indirectLevel (flag (eqb (f .cause) 3))
     ∷ inLong 0x0C 9 1 pageFault (flag (eqb (f .cause) 4)) ∷ inLong 0x0C 8 1 supervisorProtect (flag (eqb (f .cause) 6))
@@ -118,23 +123,23 @@ format7 sr pc fw f =
     word 0x00 statusRegister (some sr) ∷ long 0x02 programCounter (some pc) ∷ word 0x06 formatVector (some fw) ∷ long 0x08 effectiveAddress unsaid
     ∷ inWord 0x0C 12 4 continuation unsaid ∷ inWord 0x0C 11 1 misaligned unsaid ∷ inWord 0x0C 10 1 translation (flag (not (plainBus f)))
     ∷ inWord 0x0C 9 1 locked unsaid ∷ inWord 0x0C 8 1 readWrite (flag (not (f .write))) ∷ inWord 0x0C 5 2 size (size040 (f .size))
-    ∷ inWord 0x0C 3 2 transferType (some 0) ∷ inWord 0x0C 0 3 transferModifier (some (f .code))
+    ∷ inWord 0x0C 3 2 transferType (some (transferTypeOf (f .code))) ∷ inWord 0x0C 0 3 transferModifier (some (f .code))
     ∷ inWord 0x0E 7 1 writeBack3Valid (flag (f .write)) ∷ inWord 0x0E 5 2 writeBack3Size (cond (f .write) (size040 (f .size)) none)
-    ∷ inWord 0x0E 3 2 writeBack3Type (only (f .write) 0) ∷ inWord 0x0E 0 3 writeBack3Modifier (only (f .write) (f .code))
+    ∷ inWord 0x0E 3 2 writeBack3Type (only (f .write) (transferTypeOf (f .code))) ∷ inWord 0x0E 0 3 writeBack3Modifier (only (f .write) (f .code))
     ∷ inWord 0x10 7 1 writeBack2Valid (some 0) ∷ inWord 0x12 7 1 writeBack1Valid (some 0) ∷ long 0x14 faultAddress (some (f .address))
     ∷ long 0x18 writeBack3Address (only (f .write) (f .address)) ∷ long 0x1C writeBack3Data (only (f .write) (f .datum))
     ∷ long 0x20 internal none ∷ long 0x24 internal none ∷ long 0x28 internal none ∷ long 0x2C internal none ∷ long 0x30 internal none
     ∷ long 0x34 internal none ∷ long 0x38 internal none ∷ []
 
 -- format 8 of the 68010, 58 bytes: M68000UM 6.3.9.2, figures 6-8 and 6-9 (recalled). The program counter is advanced by up to five words. RR is 0: the
--- return runs the cycle again. IF and DF: an instruction, a datum. BY: a byte, HB: the high one
+-- return runs the cycle again. IF: an instruction is fetched, DF: a datum is read. BY: a byte, HB: the high one
 abbrev pub isByte : Fault → Bool
 isByte f = eqb (f .size) 1
 
 abbrev pub format8 : ℕ → ℕ → Fault → List Field
 format8 sr fw f =
     word 0x00 statusRegister (some sr) ∷ long 0x02 programCounter unsaid ∷ word 0x06 formatVector (some fw) ∷ inWord 0x08 15 1 rerun (some 0)
-    ∷ inWord 0x08 13 1 instructionFetch (flag (f .instruction)) ∷ inWord 0x08 12 1 dataFetch (flag (not (f .instruction)))
+    ∷ inWord 0x08 13 1 instructionFetch (flag (f .instruction)) ∷ inWord 0x08 12 1 dataFetch (flag (not (f .instruction) && not (f .write)))
     ∷ inWord 0x08 11 1 readModifyWrite unsaid ∷ inWord 0x08 10 1 highByte (flag (isByte f && eqb (f .address % 2) 0))
     ∷ inWord 0x08 9 1 byteTransfer (flag (isByte f)) ∷ inWord 0x08 8 1 readWrite (flag (not (f .write))) ∷ inWord 0x08 0 3 functionCode (some (f .code))
     ∷ long 0x0A faultAddress (some (f .address)) ∷ word 0x0E internal none

@@ -130,11 +130,13 @@ unfolding gist gistCpu pcOf
 pc-gist z = refl
 
 -- what is said of the gist is said of the world
-agrees-gist : (s : State) (e : Event) (w z : World) → Agrees differences s e w (gist z) → Agrees differences s e w z
+pub agrees-gist : (s : State) (e : Event) (w z : World) → Agrees differences s e w (gist z) → Agrees differences s e w z
 agrees-gist s e w z h =
     record {
       frame = rw (mem-gist z, top) at (h .frame);
-      under = λ d a. rw (mem-gist z) at (h .under d (rw top a));
+      under = λ d a. rw (mem-gist z) at (h .under d a);
+      usp = rw (views-gist z) at (h .usp);
+      selected = λ x. rw (views-gist z, top) at (h .selected x);
       pointer = λ x. sym top ∙ h .pointer x;
       stacks = λ x. rw (views-gist z) at (h .stacks x);
       status = λ x. sym state ∙ h .status x;
@@ -162,7 +164,7 @@ module _ (w : World) (c : Call) (r : refusal w c ≡ 0) (d : InDomain (cpuOf w))
   -- the count of events does not matter
   same-start : (s : State) (e : Event) (z : World) → Agrees differences s e (begun w) z → Agrees differences s e w z
   unfolding begun restarted
-  same-start s e z h = record { frame = h .frame; under = h .under; pointer = h .pointer; stacks = h .stacks; status = h .status; pc = h .pc; pins = h .pins }
+  same-start s e z h = record { frame = h .frame; under = h .under; usp = h .usp; selected = h .selected; pointer = h .pointer; stacks = h .stacks; status = h .status; pc = h .pc; pins = h .pins }
 
   begun-agrees : (F : Family) (p : Plan) (e : Event) → familyOf (kindOf (cpuOf w)) ≡ some F → planOf (begun w) c ≡ some p → eventOf (stateOf w F c) c ≡ some e → Sound (regsOf (cpuOf w)) → Clean (gist w) p
       → Agrees differences (stateOf w F c) e w (planned (gist w) p)

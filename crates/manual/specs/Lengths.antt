@@ -198,29 +198,15 @@ module _ (s : State) (v : ℕ) where
 
 -- ---- no frame under the first but of an interrupt
 
-or-true : (a : Bool) → (a || true) ≡ true
-or-true true = refl
-or-true false = refl
-
-pub under-of : (s : State) (v : ℕ) (P : Field → ℕ → Type 0) (f : Family) (w : Via) (c : Class) → (w ≡ own → isInterrupt c ≡ false) → throwsAway (of f s) c ≡ true
-    → Each (λ t. (x : ℕ) → t .value ≡ some x → fieldDiffers differences (of f s) w c v t ≡ false → P t x) (fieldsOf (of f s) c v)
-unfolding differences fieldDiffers fieldsOf
-under-of s v P f w instruction h d = impossible (sym d)
-under-of s v P f w trap h d = impossible (sym d)
-under-of s v P f w group2 h d = impossible (sym d)
-under-of s v P f w busError h d = impossible (sym d)
-under-of s v P f w addressError h d = impossible (sym d)
-under-of s v P f w protocol h d = impossible (sym d)
-under-of s v P f w configuration h d = impossible (sym d)
-under-of s v P f w fpUnimplemented h d = impossible (sym d)
-under-of s v P f w fpDisabled h d = impossible (sym d)
-under-of s v P f own interrupt h d = impossible (h refl)
-under-of s v P mc68000 byVector interrupt h d = impossible (sym d)
-under-of s v P mc68010 byVector interrupt h d = impossible (sym d)
-under-of s v P mc68020 byVector interrupt h d = (λ x q o. impossible (rw d at o), (λ x q o. impossible (sym (or-true (eqb v 15 || leb 64 v)) ∙ (rw d at o)), (λ x q o. impossible (rw d at o), tt)))
-under-of s v P mc68030 byVector interrupt h d = (λ x q o. impossible (rw d at o), (λ x q o. impossible (sym (or-true (eqb v 15 || leb 64 v)) ∙ (rw d at o)), (λ x q o. impossible (rw d at o), tt)))
-under-of s v P mc68040 byVector interrupt h d = (λ x q o. impossible (rw d at o), (λ x q o. impossible (sym (or-true (eqb v 15 || leb 64 v)) ∙ (rw d at o)), (λ x q o. impossible (rw d at o), tt)))
-under-of s v P mc68060 byVector interrupt h d = impossible (sym d)
+-- where the first frame of an interrupt lies
+pub interrupt-first : (s : State) (f : Family) → firstFrame (of f s) interrupt ≡ down (supervisorPointer (of f s)) (plainBytes f)
+unfolding firstFrame lengthOf
+interrupt-first s mc68000 = refl
+interrupt-first s mc68010 = refl
+interrupt-first s mc68020 = refl
+interrupt-first s mc68030 = refl
+interrupt-first s mc68040 = refl
+interrupt-first s mc68060 = refl
 
 -- where the length does not differ there is no second frame
 pub no-throw : (s : State) (v : ℕ) (f : Family) (w : Via) (c : Class) → (w ≡ own → isInterrupt c ≡ false) → lengthDiffers differences (of f s) w c v ≡ false → throwsAway (of f s) c ≡ false

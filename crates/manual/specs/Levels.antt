@@ -42,14 +42,14 @@ use Rattle.manual.specs.Parts.{Family, mc68000, mc68010, mc68020, mc6803
 use Rattle.manual.specs.State.{State, Fault, isSet, interrupted, supervisorPointer, down, mask}
 use Rattle.manual.specs.Vectors.{interrupt, acknowledged, takesLevel}
 use Rattle.manual.specs.Exceptions.{fieldsOf, throwaway, throwsAway, topFields, pointerAfter, ispAfter, mspAfter, statusAfter, firstFrame, lengthOf, withS}
-use Rattle.manual.specs.Differences.{own, differences, fieldDiffers, lengthDiffers, statusDiffers}
+use Rattle.manual.specs.Differences.{own, differences, fieldDiffers, underDiffers, lengthDiffers, statusDiffers}
 use Rattle.manual.specs.Calls.{event, stateBy, responseFor}
 use Rattle.manual.specs.Formats.{Field}
 use Rattle.manual.specs.Cells.{partOf, inFrame, Holding}
 use Rattle.manual.specs.Statement.{Reads, Each, Apart, Agrees}
 use Rattle.manual.specs.Single.{Still, Same3, same-3, Within, holding-found, holding-within}
 use Rattle.manual.specs.Double.{two-pointer, two-stacks, two-a7, two-reads, two-status, two-pc, two-under}
-use Rattle.manual.specs.Plain.{of, first, early, second, level, interrupt-cells, throwaway-cells}
+use Rattle.manual.specs.Plain.{of, first, early, second, level, interrupt-cells, under-cells, throwaway-cells}
 use Rattle.manual.specs.PartLaws.{Tests, impossible, mask-bits, sixty, no-m, sound-m, sound-mask, level-status, clear-none, sixty-is}
 use Rattle.manual.specs.Lengths.{plainBytes, interrupt-own-length}
 use Rattle.manual.specs.Entries.{Sized, End, still-same, still-supervisor, settled-agrees, flags-status, pointer-of, usp-of, vector-of, pins-of, kind-gist, size6, size8}
@@ -226,6 +226,10 @@ module _ (w : World) (F : Family) (t : Tests F (kindOf (cpuOf w))) (so : Sound (
   unfolding stateBy pcOf ppcOf
   first-cells = interrupt-cells S N (status-fits C) ppl pcl (vector-small C (w .core .bus)) F
 
+  first-under : Holding (level F (getSr C) (pcOf C) (offsetWord N)) (underDiffers differences S own interrupt N) (fieldsOf S interrupt N)
+  unfolding stateBy pcOf ppcOf
+  first-under = under-cells S N (status-fits C) ppl pcl (vector-small C (w .core .bus)) F
+
   first-length : (hasMaster F && isSet 12 (getSr C)) ≡ false → pointerAfter S interrupt ≡ down (supervisorPointer S) (plainBytes F)
   unfolding stateBy
   first-length e = interrupt-own-length S N F e
@@ -251,7 +255,7 @@ module _ (w : World) (F : Family) (t : Tests F (kindOf (cpuOf w))) (so : Sound (
   one-level settle ss sa sf st sv e =
       subst (λ (f : Frame). Clean (gist w) (oneOf (λ d. enterLevel d L) f settle N end) → Agrees differences S (event interrupt N own) w (planned (gist w) (oneOf (λ d. enterLevel d L) f settle N end))) (sym (frame-is N))
       (settled-agrees w F t so fit fa none interrupt N own (vector-small C (w .core .bus)) (λ d. enterLevel d L) settle end (level F (getSr C) (pcOf C) (offsetWord N)) (plainBytes F)
-      (enters-level L) (still-level L) ss sa sf end-level (level-size F (getSr C) (pcOf C) (offsetWord N)) (rw (single-top e) first-cells) (λ x. first-length e) (λ x. st ∙ level-after) sv (λ x. no-throws e) (λ P d. impossible (sym (no-second e d))))
+      (enters-level L) (still-level L) ss sa sf end-level (level-size F (getSr C) (pcOf C) (offsetWord N)) (rw (single-top e) first-cells) (λ x. first-length e) (λ x. st ∙ level-after) sv (λ x. no-throws e) (λ d. impossible (sym (no-second e d))))
 
   -- two frames
   top-two : (hasMaster F && isSet 12 (getSr C)) ≡ true → topFields S interrupt N ≡ throwaway S N
@@ -289,6 +293,10 @@ module _ (w : World) (F : Family) (t : Tests F (kindOf (cpuOf w))) (so : Sound (
   usp-is : view (stacksOf (cpuOf (gist w))) .usp ≡ view (regsOf C) .usp
   unfolding stacksOf regsOf view gist gistCpu kindOf a7Of
   usp-is = refl
+
+  throws-two : (hasMaster F && isSet 12 (getSr C)) ≡ true → throwsAway S interrupt ≡ true
+  unfolding stateBy
+  throws-two e = e
 
   isp-two : (hasMaster F && isSet 12 (getSr C)) ≡ true → pointerAfter S interrupt ≡ ispAfter S interrupt
   unfolding pointerAfter ispAfter stateBy
@@ -362,13 +370,13 @@ module _ (w : World) (F : Family) (t : Tests F (kindOf (cpuOf w))) (so : Sound (
           ∙ ap (λ (n : ℕ). minus32 n (frameBytes f1 (f1 .count))) (sym enter-top)
 
       under-fields : throwsAway S interrupt ≡ true → (c : Clean (gist w) (twoOf (λ d. enterLevel d L) f1 h N end)) → Apart (kindOf C) (a7Of (cpuOf (planned (gist w) (twoOf (λ d. enterLevel d L) f1 h N end)))) (firstFrame S interrupt)
-          → Each (λ y. (m : ℕ) → y .value ≡ some m → fieldDiffers differences S own interrupt N y ≡ false → Reads (peek (mem (planned (gist w) (twoOf (λ d. enterLevel d L) f1 h N end)))) (kindOf C) (firstFrame S interrupt) y m) (fieldsOf S interrupt N)
+          → Each (λ y. (m : ℕ) → y .value ≡ some m → underDiffers differences S own interrupt N y ≡ false → Reads (peek (mem (planned (gist w) (twoOf (λ d. enterLevel d L) f1 h N end)))) (kindOf C) (firstFrame S interrupt) y m) (fieldsOf S interrupt N)
       under-fields d c a =
-          holding-within f1 (fieldDiffers differences S own interrupt N) (Reads (peek (mem (planned (gist w) (twoOf (λ d. enterLevel d L) f1 h N end)))) (kindOf C) (firstFrame S interrupt))
+          holding-within f1 (underDiffers differences S own interrupt N) (Reads (peek (mem (planned (gist w) (twoOf (λ d. enterLevel d L) f1 h N end)))) (kindOf C) (firstFrame S interrupt))
           (subst (λ (k : ℕ). Apart k (a7Of (cpuOf (planned (gist w) (twoOf (λ d. enterLevel d L) f1 h N end)))) (firstFrame S interrupt) → (y : Field) (m : ℕ) → y .offset + cond (y .long) 4 2 ≤ 8 → partOf (y .span) (inFrame f1 (y .offset) (y .long)) ≡ some m
           → Reads (peek (mem (planned (gist w) (twoOf (λ d. enterLevel d L) f1 h N end)))) k (firstFrame S interrupt) y m) (kind-gist w F t so fit fa none interrupt N own (vector-small C (w .core .bus)))
           (two-under (gist w) (λ d. enterLevel d L) end f1 h N fit (enters-level L) (still-level L) (end-level .keeps) (end-level .pc) (end-level .status) (level-size F (getSr C) (pcOf C) (offsetWord N) .shape) (z .shape) (m-gist ms) (bank-is hm) c (z .size) (firstFrame S interrupt) first-is) a)
-          (fieldsOf S interrupt N) first-cells (within-of hm)
+          (fieldsOf S interrupt N) first-under (within-of hm)
 
       pointer-two : (c : Clean (gist w) (twoOf (λ d. enterLevel d L) f1 h N end)) → a7Of (cpuOf (planned (gist w) (twoOf (λ d. enterLevel d L) f1 h N end))) ≡ pointerAfter S interrupt
       pointer-two c =
@@ -379,18 +387,19 @@ module _ (w : World) (F : Family) (t : Tests F (kindOf (cpuOf w))) (so : Sound (
       go : Clean (gist w) (twoOf (λ d. enterLevel d L) f1 h N end) → Agrees differences S (event interrupt N own) w (planned (gist w) (twoOf (λ d. enterLevel d L) f1 h N end))
       go c =
           let P : World = planned (gist w) (twoOf (λ d. enterLevel d L) f1 h N end) in
+          let u = view-of (cpuOf P) ∙ two-stacks (gist w) (λ d. enterLevel d L) end f1 h N fit (enters-level L) (still-level L) (end-level .keeps) (end-level .pc) (end-level .status) (level-size F (getSr C) (pcOf C) (offsetWord N) .shape) (z .shape) (m-gist ms) (bank-is hm) c in
           record {
-            under = λ d a. under-fields d c a;
+            under = λ d a. under-fields d c (subst (λ (p : ℕ). Apart (kindOf C) p (firstFrame S interrupt)) (sym (pointer-two c)) a);
             frame = subst (λ (k : ℕ). Each (λ y. (m : ℕ) → y .value ≡ some m → fieldDiffers differences S own interrupt N y ≡ false → Reads (peek (mem P)) k (a7Of (cpuOf P)) y m) (topFields S interrupt N))
                 (kind-gist w F t so fit fa none interrupt N own (vector-small C (w .core .bus)))
                 (holding-found h (fieldDiffers differences S own interrupt N) (Reads (peek (mem P)) (kindOf (cpuOf (gist w))) (a7Of (cpuOf P)))
                 (two-reads (gist w) (λ d. enterLevel d L) end f1 h N fit (enters-level L) (still-level L) (end-level .keeps) (end-level .pc) (end-level .status) (level-size F (getSr C) (pcOf C) (offsetWord N) .shape) (z .shape) (m-gist ms) (bank-is hm) c)
                 (topFields S interrupt N) (rw (top-two q) second-cells));
+            usp = ap (λ (y : View). y .usp) u ∙ usp-is ∙ usp-of w F t so fit fa none interrupt N own (vector-small C (w .core .bus));
+            selected = λ e. impossible (sym (throws-two q) ∙ e);
             pointer = λ e. pointer-two c;
             stacks = λ e.
-                let u = view-of (cpuOf P) ∙ two-stacks (gist w) (λ d. enterLevel d L) end f1 h N fit (enters-level L) (still-level L) (end-level .keeps) (end-level .pc) (end-level .status) (level-size F (getSr C) (pcOf C) (offsetWord N) .shape) (z .shape) (m-gist ms) (bank-is hm) c in
                 record {
-                  usp = ap (λ (y : View). y .usp) u ∙ usp-is ∙ usp-of w F t so fit fa none interrupt N own (vector-small C (w .core .bus));
                   isp = ap (λ (y : View). y .isp) u ∙ sym (two-a7 (gist w) (λ d. enterLevel d L) end f1 h N fit (enters-level L) (still-level L) (end-level .keeps) (end-level .pc) (end-level .status) (level-size F (getSr C) (pcOf C) (offsetWord N) .shape) (z .shape) (m-gist ms) (bank-is hm) c) ∙ pointer-two c ∙ isp-two q;
                   msp = ap (λ (y : View). y .msp) u ∙ sym first-is ∙ msp-two q;
                 };

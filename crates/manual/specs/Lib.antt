@@ -17,6 +17,7 @@ pub mod ErrorEntries
 pub mod Double
 pub mod Levels
 pub mod Holds
+pub mod Triggers
 pub mod Computed
 pub mod Shown
 pub mod Returns

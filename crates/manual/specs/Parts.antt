@@ -7,8 +7,8 @@ use mathlib.Core.Option.{Option, none, some}
 use lib.Dec.{eqb}
 use lib.ListN.{getD}
 
--- by manual: M68000UM covers the 68000 and 68010, MC68020UM the 68020 and 68EC020, MC68030UM the 68030 and 68EC030, M68040UM the 68040, 68LC040
--- and 68EC040, MC68060UM the 68060; M68000PRM, the Programmer's Reference Manual, all of them
+-- by manual: M68000UM covers the 68000 and 68010, MC68020UM the 68020 and 68EC020, MC68030UM the 68030, MC68EC030UM the 68EC030, M68040UM the 68040,
+-- 68LC040 and 68EC040, MC68060UM the 68060; M68000PRM, the Programmer's Reference Manual, all of them
 pub data Family : Type 0 where
   mc68000 mc68010 mc68020 mc68030 mc68040 mc68060 : Family
 

@@ -15,7 +15,7 @@ use Rattle.manual.specs.Parts.{Family, mc68000, mc68010, mc68020, mc6803
 use Rattle.manual.specs.State.{State}
 use Rattle.manual.specs.Vectors.{Class, instruction, trap, group2, interrupt, busError, addressError, protocol, configuration, fpUnimplemented, fpDisabled}
 use Rattle.manual.specs.Exceptions.{fieldsOf, throwaway, topFields}
-use Rattle.manual.specs.Differences.{Via, byVector, own, differences, fieldDiffers}
+use Rattle.manual.specs.Differences.{Via, byVector, own, differences, fieldDiffers, underDiffers}
 use Rattle.manual.specs.Cells.{look, inFrame, Holding, is}
 
 -- a state of a part
@@ -140,6 +140,16 @@ module _ (s : State) (v : ℕ) (sr : s .status < 0x10000) (this : s .this < 0x10
   interrupt-cells mc68040 = (is (fits (s .status) sr), (refl, (is (offset v vl), tt)))
   interrupt-cells mc68060 = (is (fits (s .status) sr), (refl, (is (offset v vl), tt)))
 
+  -- the same, for the frame under one of format 1
+  pub under-cells : (f : Family) → Holding (level f (s .status) (s .next) (offsetWord v)) (underDiffers differences (of f s) own interrupt v) (fieldsOf (of f s) interrupt v)
+  unfolding differences underDiffers fieldsOf topFields throwaway look inFrame words6 words8 shortFrame longFrame disabledFrame fieldAt isCounted frameBytes
+  under-cells mc68000 = (is (fits (s .status) sr), (is (halves (s .next) next), tt))
+  under-cells mc68010 = (is (fits (s .status) sr), (is (halves (s .next) next), (is (offset v vl), tt)))
+  under-cells mc68020 = (is (fits (s .status) sr), (refl, (is (offset v vl), tt)))
+  under-cells mc68030 = (is (fits (s .status) sr), (refl, (is (offset v vl), tt)))
+  under-cells mc68040 = (is (fits (s .status) sr), (refl, (is (offset v vl), tt)))
+  under-cells mc68060 = (is (fits (s .status) sr), (refl, (is (offset v vl), tt)))
+
   -- the frame of format 1, its status w that of the first with S set
   pub throwaway-cells : (f : Family) (w : ℕ) → w < 0x10000 → cond (eqb (s .status / 2 ^ 13 % 2) 1) (s .status) (s .status + 0x2000) ≡ w → Holding (shortFrame w (s .next) (formatWord 1 v)) (fieldDiffers differences (of f s) own interrupt v) (throwaway (of f s) v)
   unfolding differences fieldDiffers fieldsOf topFields throwaway look inFrame words6 words8 shortFrame longFrame disabledFrame fieldAt isCounted frameBytes
@@ -195,6 +205,23 @@ module _ (s : State) (v : ℕ) (sr : s .status < 0x10000) (this : s .this < 0x10
   vector-interrupt a al n mc68060 true e false d = rw e (is (fits (s .status) sr), (tt, (is (offset v vl), tt)))
   vector-interrupt a al n mc68060 false e true d = rw e (is (fits (s .status) sr), (is (n e), (is (offset v vl), tt)))
   vector-interrupt a al n mc68060 false e false d = rw e (is (fits (s .status) sr), (is (n e), (is (offset v vl), tt)))
+
+  -- the frame under one of format 1, which `take_exception` of an interrupt's vector makes too
+  pub vector-under : (a : ℕ) → a < 0x100000000 → ((eqb v 15 || leb 64 v) ≡ false → a ≡ s .next) → (f : Family) (b : Bool) → (eqb v 15 || leb 64 v) ≡ b
+      → Holding (plain f (s .status) a (offsetWord v)) (underDiffers differences (of f s) byVector interrupt v) (fieldsOf (of f s) interrupt v)
+  unfolding differences underDiffers fieldsOf look inFrame words6 words8 shortFrame longFrame disabledFrame fieldAt isCounted frameBytes
+  vector-under a al n mc68000 true e = rw e (is (fits (s .status) sr), (tt, tt))
+  vector-under a al n mc68000 false e = rw e (is (fits (s .status) sr), (is (halves a al ∙ n e), tt))
+  vector-under a al n mc68010 true e = rw e (is (fits (s .status) sr), (tt, (is (offset v vl), tt)))
+  vector-under a al n mc68010 false e = rw e (is (fits (s .status) sr), (is (n e), (is (offset v vl), tt)))
+  vector-under a al n mc68020 true e = rw e (is (fits (s .status) sr), (tt, (is (offset v vl), tt)))
+  vector-under a al n mc68020 false e = rw e (is (fits (s .status) sr), (is (n e), (is (offset v vl), tt)))
+  vector-under a al n mc68030 true e = rw e (is (fits (s .status) sr), (tt, (is (offset v vl), tt)))
+  vector-under a al n mc68030 false e = rw e (is (fits (s .status) sr), (is (n e), (is (offset v vl), tt)))
+  vector-under a al n mc68040 true e = rw e (is (fits (s .status) sr), (tt, (is (offset v vl), tt)))
+  vector-under a al n mc68040 false e = rw e (is (fits (s .status) sr), (is (n e), (is (offset v vl), tt)))
+  vector-under a al n mc68060 true e = rw e (is (fits (s .status) sr), (tt, (is (offset v vl), tt)))
+  vector-under a al n mc68060 false e = rw e (is (fits (s .status) sr), (is (n e), (is (offset v vl), tt)))
 
   pub vector-busError : (f : Family) → Holding (plain f (s .status) (s .this) (offsetWord v)) (fieldDiffers differences (of f s) byVector busError v) (fieldsOf (of f s) busError v)
   unfolding differences fieldDiffers fieldsOf topFields throwaway look inFrame words6 words8 shortFrame longFrame disabledFrame fieldAt isCounted frameBytes

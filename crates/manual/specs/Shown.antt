@@ -9,7 +9,7 @@ use lib.ListN.{set, replicate, getD, length}
 use Rattle.types.specs.Kinds.{maskAddress}
 use Rattle.types.specs.declared.FaultCause.the-variants.{Absent, AccessBusError}
 use Rattle.cpu.specs.declared.Cpu.{Cpu}
-use Rattle.cpu.specs.Setters.{withSp}
+use Rattle.cpu.specs.Setters.{withSp, withMmuFcOverride}
 use Rattle.cpu.specs.Fields.{kindOf, pcOf, a7Of, setA7, setPc, setWdata}
 use Rattle.cpu.specs.Fresh.{freshCpu}
 use Rattle.status.specs.Status.{getSr, putBackSr}
@@ -32,7 +32,7 @@ use Rattle.manual.specs.State.{State, onPins}
 use Rattle.manual.specs.Vectors.{Class, place, vectorAt}
 use Rattle.manual.specs.Formats.{Field}
 use Rattle.manual.specs.Exceptions.{topFields, pointerAfter, statusAfter}
-use Rattle.manual.specs.Differences.{Row, What, field, fields, format, pc, pins, differences, applies, coversField, lowest, When, always, chk, vectored, based, ofTheBus, past24}
+use Rattle.manual.specs.Differences.{Row, What, field, fields, atTop, format, pc, pins, differences, applies, coversField, lowest, When, always, chk, vectored, based, ofTheBus, past24}
 use Rattle.manual.specs.Differences.{inMaster as inMaster′}
 use Rattle.manual.specs.Differences.{nonzero as notZero}
 use Rattle.manual.specs.Differences.{length as lengthRow}
@@ -54,6 +54,7 @@ pub record Input : Type 0 where
   pub ppc : ℕ
   pub vbr : ℕ
   pub level : ℕ
+  pub override : Option ℕ  -- `mmu_fc_override`
   pub byte : ℕ  -- the address of a byte that is 0x40
   pub offset : ℕ  -- the field that is looked at, its lowest bit; the address on the pins
   pub low : ℕ
@@ -61,15 +62,19 @@ pub record Input : Type 0 where
   pub ours : ℕ
 
 abbrev plainly : ℕ → List ℕ → Call → ℕ → ℕ → ℕ → ℕ → Input
-plainly r ks c o l m u = record { row = r; kinds = ks; call = c; status = 0x2700; a7 = 0x180; isp = 0x180; ppc = 0xFE; vbr = 0; level = 0; byte = 0x1FF; offset = o; low = l; manual = m; ours = u }
+plainly r ks c o l m u = record { row = r; kinds = ks; call = c; status = 0x2700; a7 = 0x180; isp = 0x180; ppc = 0xFE; vbr = 0; level = 0; override = none; byte = 0x1FF; offset = o; low = l; manual = m; ours = u }
 
 -- with the level asked for
 abbrev asked : ℕ → List ℕ → Call → ℕ → ℕ → ℕ → ℕ → ℕ → Input
-asked r ks c n o l m u = record { row = r; kinds = ks; call = c; status = 0x2700; a7 = 0x180; isp = 0x180; ppc = 0xFE; vbr = 0; level = n; byte = 0x1FF; offset = o; low = l; manual = m; ours = u }
+asked r ks c n o l m u = record { row = r; kinds = ks; call = c; status = 0x2700; a7 = 0x180; isp = 0x180; ppc = 0xFE; vbr = 0; level = n; override = none; byte = 0x1FF; offset = o; low = l; manual = m; ours = u }
 
 -- in the master state, the interrupt stack at 0x140
 abbrev inMaster : ℕ → List ℕ → Call → ℕ → ℕ → ℕ → ℕ → Input
-inMaster r ks c o l m u = record { row = r; kinds = ks; call = c; status = 0x3700; a7 = 0x180; isp = 0x140; ppc = 0xFE; vbr = 0; level = 0; byte = 0x1FF; offset = o; low = l; manual = m; ours = u }
+inMaster r ks c o l m u = record { row = r; kinds = ks; call = c; status = 0x3700; a7 = 0x180; isp = 0x140; ppc = 0xFE; vbr = 0; level = 0; override = none; byte = 0x1FF; offset = o; low = l; manual = m; ours = u }
+
+-- an access of MOVES, by its function code
+abbrev overridden : ℕ → List ℕ → Call → ℕ → ℕ → ℕ → ℕ → ℕ → Input
+overridden r ks c n o l m u = record { row = r; kinds = ks; call = c; status = 0x2700; a7 = 0x180; isp = 0x180; ppc = 0xFE; vbr = 0; level = 0; override = some n; byte = 0x1FF; offset = o; low = l; manual = m; ours = u }
 
 abbrev all : List ℕ
 all = 1 ∷ 2 ∷ 3 ∷ 4 ∷ 5 ∷ 6 ∷ 7 ∷ 8 ∷ 9 ∷ 11 ∷ []
@@ -92,7 +97,7 @@ odd = ExceptionAddressError 0x1235 false false
 abbrev pub inputs : List Input
 inputs =
     plainly 0 (1 ∷ []) read 0x00 4 1 0
-    ∷ record { row = 1; kinds = 1 ∷ []; call = read; status = 0x2700; a7 = 0x180; isp = 0x180; ppc = 0x800FE; vbr = 0; level = 0; byte = 0x1FF; offset = 0x00; low = 3; manual = 0; ours = 1 }
+    ∷ record { row = 1; kinds = 1 ∷ []; call = read; status = 0x2700; a7 = 0x180; isp = 0x180; ppc = 0x800FE; vbr = 0; level = 0; override = none; byte = 0x1FF; offset = 0x00; low = 3; manual = 0; ours = 1 }
     ∷ plainly 2 (1 ∷ []) read 0x00 0 5 0
     ∷ plainly 3 (1 ∷ []) read 0x02 0 0x1234 0xFE2700
     ∷ plainly 4 (1 ∷ []) read 0x08 0 0x2700 0
@@ -124,10 +129,13 @@ inputs =
     ∷ plainly 26 all (TakeException 64) 0x02 0 0x100 0xFE
     ∷ inMaster 27 masters (TakeException 25) 0x06 0 0x1064 0x0064
     ∷ inMaster 28 masters (TakeException 25) 0 0 0x138 0x178
-    ∷ record { row = 29; kinds = 1 ∷ []; call = TakeException 4; status = 0x2700; a7 = 0x180; isp = 0x180; ppc = 0xFE; vbr = 0x80; level = 0; byte = 0x93; offset = 0; low = 0; manual = 0; ours = 0x40 }
+    ∷ record { row = 29; kinds = 1 ∷ []; call = TakeException 4; status = 0x2700; a7 = 0x180; isp = 0x180; ppc = 0xFE; vbr = 0x80; level = 0; override = none; byte = 0x93; offset = 0; low = 0; manual = 0; ours = 0x40 }
     ∷ plainly 30 (3 ∷ []) (Trap 0) 0x1000000 0 0 0x1000000
+    ∷ overridden 31 (7 ∷ 8 ∷ 9 ∷ []) read 7 0x0C 3 2 0
+    ∷ overridden 32 (7 ∷ 8 ∷ 9 ∷ []) (ExceptionBusError 0x1234 true false 2 Absent) 7 0x0E 3 2 0
+    ∷ overridden 33 (11 ∷ []) read 7 0x0C 19 2 0
     ∷ plainly 0 (1 ∷ []) odd 0x00 4 1 0
-    ∷ record { row = 1; kinds = 1 ∷ []; call = odd; status = 0x2700; a7 = 0x180; isp = 0x180; ppc = 0x800FE; vbr = 0; level = 0; byte = 0x1FF; offset = 0x00; low = 3; manual = 0; ours = 1 }
+    ∷ record { row = 1; kinds = 1 ∷ []; call = odd; status = 0x2700; a7 = 0x180; isp = 0x180; ppc = 0x800FE; vbr = 0; level = 0; override = none; byte = 0x1FF; offset = 0x00; low = 3; manual = 0; ours = 1 }
     ∷ plainly 2 (1 ∷ []) odd 0x00 0 5 0
     ∷ plainly 3 (1 ∷ []) odd 0x02 0 0x1235 0xFE2700
     ∷ plainly 4 (1 ∷ []) odd 0x08 0 0x2700 0
@@ -145,9 +153,13 @@ inputs =
 
 -- ---- what is computed
 
+abbrev overrides : Option ℕ → Cpu → Cpu
+overrides none c = c
+overrides (some n) c = withMmuFcOverride c (record { some = true; value = n })
+
 abbrev cpuFor : Input → ℕ → Cpu
 cpuFor i k =
-    setVbr (setPpc (setWdata (setIrq (putBackSr (setA7 (setPc (withSp (freshCpu k) (set (set (set (replicate 8 0) 0 0x100) 4 (i .isp)) 6 0x180)) 0x100) (i .a7)) (i .status)) (i .level)) 0xABCD) (i .ppc)) (i .vbr)
+    overrides (i .override) (setVbr (setPpc (setWdata (setIrq (putBackSr (setA7 (setPc (withSp (freshCpu k) (set (set (set (replicate 8 0) 0 0x100) 4 (i .isp)) 6 0x180)) 0x100) (i .a7)) (i .status)) (i .level)) 0xABCD) (i .ppc)) (i .vbr))
 
 abbrev worldFor : Input → ℕ → World
 worldFor i k = world (record { cpu = cpuFor i k; bus = record { base = 0; windows = 0; starts = replicate 8 0; lengths = replicate 8 0; responses = replicate 8 0xFFFFFFFF; events = 0 } }) (set (replicate 512 0) (i .byte) 0x40) (replicate 192 0)
@@ -171,6 +183,7 @@ byField i r s e z k (t ∷ ts) =
 abbrev byWhat : What → Input → Row → State → Event → World → ℕ → Bool
 byWhat (field o l) i r s e z k = byField i r s e z k (topFields s (e .class) (e .vector))
 byWhat fields i r s e z k = byField i r s e z k (topFields s (e .class) (e .vector))
+byWhat atTop i r s e z k = byField i r s e z k (topFields s (e .class) (e .vector))
 byWhat format i r s e z k = byField i r s e z k (topFields s (e .class) (e .vector))
 byWhat lengthRow i r s e z k = applies s (e .via) (e .class) (e .vector) none r && values i (some (pointerAfter s (e .class))) (some (a7Of (cpuOf z)))
 byWhat statusRow i r s e z k = applies s (e .via) (e .class) (e .vector) none r && values i (some (statusAfter s (e .class))) (some (getSr (cpuOf z)))
@@ -420,13 +433,25 @@ input-49 : one 49 ≡ true
 unfolding shown
 input-49 = refl
 
+input-50 : one 50 ≡ true
+unfolding shown
+input-50 = refl
+
+input-51 : one 51 ≡ true
+unfolding shown
+input-51 = refl
+
+input-52 : one 52 ≡ true
+unfolding shown
+input-52 = refl
+
 -- THE INPUTS: each shows its row's difference on each of its kinds
 abbrev pub AllShown : List Input → Type 0
 AllShown [] = Unit {0}
 AllShown (i ∷ is) = (onAll i (i .kinds) ≡ true) × AllShown is
 
 pub all-shown : AllShown inputs
-all-shown = (input-0, (input-1, (input-2, (input-3, (input-4, (input-5, (input-6, (input-7, (input-8, (input-9, (input-10, (input-11, (input-12, (input-13, (input-14, (input-15, (input-16, (input-17, (input-18, (input-19, (input-20, (input-21, (input-22, (input-23, (input-24, (input-25, (input-26, (input-27, (input-28, (input-29, (input-30, (input-31, (input-32, (input-33, (input-34, (input-35, (input-36, (input-37, (input-38, (input-39, (input-40, (input-41, (input-42, (input-43, (input-44, (input-45, (input-46, (input-47, (input-48, (input-49, tt))))))))))))))))))))))))))))))))))))))))))))))))))
+all-shown = (input-0, (input-1, (input-2, (input-3, (input-4, (input-5, (input-6, (input-7, (input-8, (input-9, (input-10, (input-11, (input-12, (input-13, (input-14, (input-15, (input-16, (input-17, (input-18, (input-19, (input-20, (input-21, (input-22, (input-23, (input-24, (input-25, (input-26, (input-27, (input-28, (input-29, (input-30, (input-31, (input-32, (input-33, (input-34, (input-35, (input-36, (input-37, (input-38, (input-39, (input-40, (input-41, (input-42, (input-43, (input-44, (input-45, (input-46, (input-47, (input-48, (input-49, (input-50, (input-51, (input-52, tt)))))))))))))))))))))))))))))))))))))))))))))))))))))
 
 -- and every row of the table has one on each kind of its parts for each of its exceptions; the rows of the vector base and the pins, which are of any
 -- exception, have one

@@ -16,7 +16,7 @@ pub data Class : Type 0 where
   addressError : Class
   protocol : Class  -- coprocessor protocol violation
   configuration : Class  -- MMU configuration error
-  fpUnimplemented : Class  -- 68060: floating-point instruction or data type not implemented, vector 11
+  fpUnimplemented : Class  -- 68060: floating-point instruction not implemented, vector 11
   fpDisabled : Class  -- 68060: floating-point unit disabled, vector 11
 
 abbrev pub place : Class → ℕ
