@@ -12,8 +12,10 @@ use lib.IntN.{pos, negsuc, _-ℤ_}
 use lib.Signed.{_<ℤ_}
 use lib.ListN.{length, getD, drop, replicate}
 use Rattle.types.specs.Kinds.{pick, maskStatus}
+use Rattle.types.specs.Causes.{causeNumber}
+use Rattle.types.specs.declared.FaultCause.{FaultCause}
 use Rattle.cpu.specs.declared.Cpu.{Cpu}
-use Rattle.cpu.specs.Fields.{kindOf, vbrOf, ppcOf, inException, isFaulted, hasFcOverride, fcOverrideOf, wdataOf}
+use Rattle.cpu.specs.Fields.{kindOf, vbrOf, ppcOf, inException, isFaulted, causeNumberOf, hasFcOverride, fcOverrideOf, wdataOf}
 use Rattle.status.specs.Status.{getSr}
 use Rattle.pending.specs.Interrupts.{pendingLevel, maskLevel}
 use Rattle.memory.specs.declared.Core.{Core}
@@ -23,7 +25,7 @@ use Rattle.frames.specs.Frames.{busFrame, fieldAt, isCounted}
 use Rattle.steps.specs.Steps.{enterBusError}
 use Rattle.access.specs.Access.{Raise, raised, pushFrame, exceptionBusError}
 use Rattle.answers.specs.declared.Call.{Call}
-use Rattle.answers.specs.declared.Call.the-variants.{CheckAndServiceInterrupts}
+use Rattle.answers.specs.declared.Call.the-variants.{ExceptionBusError, TriggerBusError, CheckAndServiceInterrupts}
 use Rattle.answers.specs.declared.Answer.the-variants.{Cycles, Refused}
 use Rattle.answers.specs.Matters.{matterOf}
 use Rattle.answers.specs.Answers.{answered, eventsOf, valueOf, countOf}
@@ -39,7 +41,7 @@ use Rattle.images.specs.Images.{Ready, bottom, frameBytes}
 use Rattle.images.specs.Jumps.{Reachable}
 use Rattle.images.specs.Values as values
 use Rattle.forms.specs.Gist.{gist}
-use Rattle.forms.specs.Plans.{Plan, planned}
+use Rattle.forms.specs.Plans.{Plan, Clean, planned}
 use Rattle.forms.specs.Tests.{Whole, cleanTest}
 use Rattle.forms.specs.Quiet.{Quiet}
 use Rattle.forms.specs.Forms.{planOf}
@@ -72,12 +74,17 @@ use Rattle.nest.specs.Nest.{Sound}
 use Rattle.entered.specs.Pointers.{regsOf, Fit}
 use Rattle.unwind.specs.Unwind.{sightOf}
 use Rattle.manual.specs.Parts.{Family, familyOf}
-use Rattle.manual.specs.Differences.{differences}
+use Rattle.manual.specs.Vectors.{busError}
+use Rattle.manual.specs.Differences.{own, differences}
 use Rattle.manual.specs.Calls.{Event as Exception}
+use Rattle.manual.specs.Calls.{event as exception}
 use Rattle.manual.specs.Calls.{stateOf, eventOf}
 use Rattle.manual.specs.Statement.{Agrees}
 use Rattle.manual.specs.Holds.{InDomain}
 use Rattle.manual.specs.Holds as manual
+use Rattle.manual.specs.Triggers.{restored as putBack}
+use Rattle.manual.specs.Triggers.{triggerPlan}
+use Rattle.manual.specs.Triggers as triggers
 use Rattle.manual.specs.Shown.{inputs, AllShown, hasAll}
 use Rattle.manual.specs.Shown as shown
 use Rattle.manual.specs.ReturnHolds.{Returns}
@@ -234,6 +241,13 @@ from-the-manuals = manual.holds
 -- "and differences are listed": every row of the table is shown by an input, and each input shows a difference on `perform`
 pub every-row-differs : AllShown inputs × (hasAll 0 differences inputs ≡ true)
 every-row-differs = (shown.all-shown, shown.every-row)
+
+-- and what a bus error's trigger leaves, from the status and registers that it puts back
+pub trigger-from-the-manuals : (w : World) (F : Family) → familyOf (kindOf (cpuOf w)) ≡ some F → InDomain (cpuOf (putBack w)) → Sound (regsOf (cpuOf (putBack w))) → (a : ℕ) (write i : Bool) (z : ℕ) (k : FaultCause)
+    → causeNumberOf (cpuOf w) ≡ causeNumber k → refusal w (TriggerBusError a write i z) ≡ 0 → isFaulted (cpuOf w) ≡ false → inException (cpuOf w) ≡ false
+    → Clean (gist (putBack w)) (triggerPlan (cpuOf (putBack w)) a write i z (causeNumber k))
+    → Agrees differences (stateOf (putBack w) F (ExceptionBusError a write i z k)) (exception busError 2 own) (putBack w) (perform w (TriggerBusError a write i z) .after)
+trigger-from-the-manuals w F f d so a write i = triggers.bus-trigger-holds w F f d so a write i
 
 -- what a return that is accepted restores is what RTE restores
 pub return-from-the-manuals : (m : Core) (s : List ℕ) (F : Family) → familyOf (kindOf (m .cpu)) ≡ some F → kindOf (m .cpu) < 12 → Fit (m .cpu) → ((i : ℕ) → getD s i 0 < 256)

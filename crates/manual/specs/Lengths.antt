@@ -1,24 +1,19 @@
 -- The lengths, statuses and stacked addresses by class and part: what the manuals give is what the entries give, but where a row stands.
-use Prim.Native.Nat.{ℕ, _+_, _-_, _*_, _/_, _%_, _^_, _≤_, _<_}
-use mathlib.Core.Path.{_≡_, refl, sym, ap, _∙_, subst}
+use Prim.Native.Nat.{ℕ, _-_, _<_}
+use mathlib.Core.Path.{_≡_, refl}
 use mathlib.Core.Bool.{Bool, true, false, cond, not, _&&_, _||_}
-use mathlib.Core.List.{List, [], _∷_}
 use mathlib.Core.Option.{Option, none, some}
-use native.Mathlib.Omega.{arith}
-use lib.Dec.{eqb, ltb, leb}
+use lib.Dec.{eqb, leb}
 use lib.ListN.{replicate}
-use Rattle.types.specs.Kinds.{pick, both, either}
 use Rattle.types.specs.Every.{at}
 use Rattle.steps.specs.Steps.{stacksNext}
 use Rattle.manual.specs.Parts.{Family, mc68000, mc68010, mc68020, mc68030, mc68040, mc68060, hasMaster}
-use Rattle.manual.specs.State.{State, isSet, entered, interrupted, supervisorPointer, down}
+use Rattle.manual.specs.State.{State, isSet, entered, supervisorPointer, down}
 use Rattle.manual.specs.Vectors.{Class, instruction, trap, group2, interrupt, busError, addressError, protocol, configuration, fpUnimplemented, fpDisabled, classOf}
-use Rattle.manual.specs.Exceptions.{fieldsOf, lengthOf, firstFrame, pointerAfter, statusAfter, throwsAway}
-use Rattle.manual.specs.Formats.{Field}
-use Rattle.manual.specs.Statement.{Each}
-use Rattle.manual.specs.Differences.{Via, byVector, own, differences, fieldDiffers, lengthDiffers, statusDiffers}
-use Rattle.manual.specs.Plain.{of, first, early, second}
-use Rattle.manual.specs.PartLaws.{impossible, both-true, forty, sixty}
+use Rattle.manual.specs.Exceptions.{lengthOf, firstFrame, pointerAfter, statusAfter, throwsAway}
+use Rattle.manual.specs.Differences.{Via, byVector, own, differences, lengthDiffers, statusDiffers}
+use Rattle.manual.specs.Plain.{of, first, early}
+use Rattle.manual.specs.PartLaws.{impossible, forty, sixty}
 
 -- the length of a frame that an entry makes
 abbrev pub plainBytes : Family → ℕ

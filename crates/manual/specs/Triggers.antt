@@ -1,18 +1,18 @@
 -- THE TRIGGERS. One that no number refuses, on a record that runs, outside an entry where it is a bus error, puts back status and registers as they were
 -- before the instruction; then it leaves what the manuals define for the error in that state, but for the rows of the table of differences.
-use Prim.Native.Nat.{ℕ, zero, suc, _+_, _*_, _/_, _%_, _<_}
+use Prim.Native.Nat.{ℕ, zero, suc, _*_, _/_, _%_, _<_}
 use mathlib.Core.Path.{_≡_, refl, sym, ap, _∙_, subst}
 use mathlib.Core.Bool.{Bool, true, false}
 use mathlib.Core.Logic.{_⊎_, inl, inr}
-use mathlib.Core.Option.{Option, none, some}
+use mathlib.Core.Option.{some}
 use native.Mathlib.Omega.{arith}
 use lib.Dec.{eqb}
 use Rattle.types.specs.Kinds.{pick, both, isPre68020, maskStatus}
 use Rattle.types.specs.Causes.{causeNumber}
 use Rattle.types.specs.declared.FaultCause.{FaultCause}
 use Rattle.cpu.specs.declared.Cpu.{Cpu}
-use Rattle.cpu.specs.Fields.{kindOf, pcOf, ppcOf, irOf, wdataOf, a7Of, vbrOf, isFaulted, inException, checksAlignment, causeNumberOf, hasFcOverride, fcOverrideOf, setException, restoreRegisters, clearCause, clearFcOverride}
-use Rattle.status.specs.Status.{getSr, sOf, mOf, mUnderS, decompose, setSrNointNosp, restoreSr, keepResume}
+use Rattle.cpu.specs.Fields.{kindOf, pcOf, ppcOf, irOf, wdataOf, a7Of, vbrOf, isFaulted, inException, checksAlignment, causeNumberOf, hasFcOverride, fcOverrideOf, setException, restoreRegisters, clearCause}
+use Rattle.status.specs.Status.{getSr, sOf, mUnderS, decompose, setSrNointNosp, restoreSr, keepResume}
 use Rattle.status.specs.Laws.{dropM, status-restored}
 use Rattle.memory.specs.World.{World, putCpu, cpuOf, step}
 use Rattle.frames.specs.declared.Frame.{Frame}
@@ -21,7 +21,7 @@ use Rattle.frames.specs.Frames.{writeData, busFrame}
 use Rattle.refusals.specs.Refusals.{oddBase}
 use Rattle.steps.specs.Steps.{beginBus, beginAddress, closeBus, enterBusError}
 use Rattle.access.specs.Access.{raiseBus, raiseAddress, raised, exceptionBusError, exceptionAddressError}
-use Rattle.access.specs.Access.{busError as bus, addressError as odd}
+use Rattle.access.specs.Access.{busError as bus}
 use Rattle.bounds.specs.Levels.{Domain, again}
 use Rattle.answers.specs.declared.Call.the-variants.{TriggerBusError, TriggerAddressError, ExceptionBusError, ExceptionAddressError}
 use Rattle.answers.specs.Answers.{plain}
@@ -34,10 +34,9 @@ use Rattle.forms.specs.Jumps.{jumped}
 use Rattle.forms.specs.Plans.{Plan, planned, turned, stackAll, AllReady, Clean, single, same, addressPlan, busPlan}
 use Rattle.forms.specs.Entries.{turn-form, seen-bus, address-form, bus-form}
 use Rattle.forms.specs.Accepted.{accepted-kind, accepted-base}
-use Rattle.nest.specs.View.{peek, view}
+use Rattle.nest.specs.View.{view}
 use Rattle.nest.specs.Nest.{Sound}
 use Rattle.entered.specs.Pointers.{regsOf, stacksOf, Fit}
-use Rattle.entered.specs.Bytes.{mem, memOf, windowsOf}
 use Rattle.entered.specs.One.{EntersAt, Enters}
 use Rattle.entered.specs.Turns.{enters-bus}
 use Rattle.manual.specs.Parts.{Family, familyOf}
