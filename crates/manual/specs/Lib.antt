@@ -23,3 +23,4 @@ pub mod Shown
 pub mod Returns
 pub mod ReturnHolds
 pub mod Faults
+pub mod Lost
