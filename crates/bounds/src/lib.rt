@@ -1,2 +1,2 @@
 // Bounds of the functions that call each other in `access`: mathematics only, in `specs`. It uses `access` and everything below; `promises`,
-// `forms` and `claims` use it.
+// `forms`, `manual` and `claims` use it.

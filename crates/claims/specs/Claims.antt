@@ -1,45 +1,35 @@
 -- WHAT IS CLAIMED, in the papers' words, each stated in full. A reader stops here: the proof is the name on the right, and what the words
 -- of a statement mean is in the `specs` of the crate that they are taken from. The contract of the calls is an equation with `perform`, those
--- of return and walk with `returnFrom` and `walkFrom`, and that of a block of a session's input with `takeAll`, which `answers` is made of.
+-- of return and walk with `returnFrom` and `walkFrom`, and that of a block of a session's input with `takeAll`.
 use Prim.Native.Nat.{ℕ, _+_, _*_, _%_, _^_, _≤_, _<_}
 use mathlib.Core.Path.{_≡_}
 use mathlib.Core.Bool.{Bool, true, false}
-use mathlib.Core.List.{List, [], _∷_, _++_, flatten}
+use mathlib.Core.List.{List, [], _∷_, _++_}
 use mathlib.Core.Logic.{_⊎_, _↔_}
 use mathlib.Core.Option.{none, some}
 use lib.Dec.{eqb}
 use lib.IntN.{pos, negsuc, _-ℤ_}
 use lib.Signed.{_<ℤ_}
 use lib.ListN.{length, getD, drop, replicate}
-use Rattle.types.specs.Kinds.{pick, maskStatus}
+use Rattle.types.specs.Kinds.{pick}
 use Rattle.types.specs.Causes.{causeNumber}
 use Rattle.types.specs.declared.FaultCause.{FaultCause}
 use Rattle.cpu.specs.declared.Cpu.{Cpu}
-use Rattle.cpu.specs.Fields.{kindOf, vbrOf, ppcOf, inException, isFaulted, causeNumberOf, hasFcOverride, fcOverrideOf, wdataOf}
-use Rattle.status.specs.Status.{getSr}
+use Rattle.cpu.specs.Fields.{kindOf, vbrOf, inException, isFaulted, causeNumberOf, hasFcOverride, fcOverrideOf}
 use Rattle.pending.specs.Interrupts.{pendingLevel, maskLevel}
 use Rattle.memory.specs.declared.Core.{Core}
 use Rattle.memory.specs.LogLaws.{Event, spell}
-use Rattle.memory.specs.World.{World, cpuOf, step, readValue}
-use Rattle.frames.specs.Frames.{busFrame, fieldAt, isCounted}
-use Rattle.steps.specs.Steps.{enterBusError}
-use Rattle.access.specs.Access.{Raise, raised, pushFrame, exceptionBusError}
+use Rattle.memory.specs.World.{World, cpuOf}
+use Rattle.access.specs.Access.{Raise, raised}
 use Rattle.answers.specs.declared.Call.{Call}
 use Rattle.answers.specs.declared.Call.the-variants.{ExceptionBusError, TriggerBusError, CheckAndServiceInterrupts}
 use Rattle.answers.specs.declared.Answer.the-variants.{Cycles, Refused}
 use Rattle.answers.specs.Matters.{matterOf}
 use Rattle.answers.specs.Answers.{answered, eventsOf, valueOf, countOf}
 use Rattle.calls.specs.Calls.{refusal, perform, begun}
-use Rattle.unwind.specs.Returns.{takeFrame, walkOf}
-use Rattle.unwind.specs.declared.frames.Frame.{Frame as Taken}
-use Rattle.unwind.specs.Frames.{Sight}
 use Rattle.unwind.specs.Unwind.{returnFrom, walkFrom}
-use Rattle.unwind.specs.Laws as unwind
 use Rattle.bounds.specs.Levels.{Unrolls}
 use Rattle.bounds.specs.Unique as unique
-use Rattle.images.specs.Images.{Ready, bottom, frameBytes}
-use Rattle.images.specs.Jumps.{Reachable}
-use Rattle.images.specs.Values as values
 use Rattle.forms.specs.Gist.{gist}
 use Rattle.forms.specs.Plans.{Plan, Clean, planned}
 use Rattle.forms.specs.Tests.{Whole, cleanTest}
@@ -63,8 +53,6 @@ use Rattle.rule3.specs.Rule3.{coreOf, Real}
 use Rattle.rule3.specs.Rule3 as rule3
 use Rattle.lines.specs.Commands.{retName}
 use Rattle.sessions.specs.Printed.{started, printed}
-use Rattle.sessions.specs.Cuts.{answers}
-use Rattle.sessions.specs.Cuts as cuts
 use Rattle.printed.specs.Lines.{withFeed, text, walkLine}
 use Rattle.printed.specs.Steps.{Meets, bookOf, depthOf}
 use Rattle.printed.specs.Told.{rowsText, returnsText}
@@ -114,11 +102,6 @@ pub printed-book : (input : List ℕ) → Meets started (linesIn input) → 0 < 
     → printed (withFeed input ++ text (walkLine (depthOf started (linesIn input)) ∷ replicate (depthOf started (linesIn input)) retName))
     ≡ printed (withFeed input) ++ rowsText (rows (bookOf started (linesIn input))) ++ returnsText (restoredBy (bookOf started (linesIn input)))
 printed-book = bytes.printed-book
-
--- "A line ends with a line feed, not counted in its bytes, or with the input": however the input is cut into reads, the answers to them make
--- what the session of its lines prints
-pub read-by-read : (parts : List (List ℕ)) → answers (started .after) [] parts ≡ printed (flatten parts)
-read-by-read = cuts.read-by-read
 
 -- ---- refusals
 
@@ -174,10 +157,6 @@ pub service-charges : (w : World) → refusal w CheckAndServiceInterrupts ≡ 0 
     → cpuOf (perform w CheckAndServiceInterrupts .after) .flow .«cycles_remaining» ≡ cpuOf w .flow .«cycles_remaining» -ℤ pos (pick (eqb (kindOf (cpuOf w)) 2) 46 44)
 service-charges = charged.service-charges
 
--- where it is not taken nothing changes, and there is no event
-pub service-untaken : (w : World) → refusal w CheckAndServiceInterrupts ≡ 0 → valueOf (perform w CheckAndServiceInterrupts .answer) ≡ 0 → perform w CheckAndServiceInterrupts .after ≡ begun w
-service-untaken = calls.service-untaken
-
 -- ---- a fault inside an entry
 
 -- "The unbounded fault chain: a level count that falls": whatever `t` meets the equations of the recursion, which have no levels, every
@@ -200,30 +179,6 @@ entry-tested = forms.entry-tested
 pub adequate : (w : World) (c : Call) (p : Plan) → refusal w c ≡ 0 → planOf (begun w) c ≡ some p → Whole (cpuOf w)
     → (cleanTest (gist w) p ≡ true) ↔ (Quiet (perform w c .after) × (isFaulted (cpuOf (perform w c .after)) ≡ false))
 adequate = adequacy.adequate
-
--- "Contents are as `exception_bus_error` and its neighbours push them": where all accesses are served, each written field of a bus error
--- frame is read at its offset above the new A7
-pub bus-fields : (w : World) (a : ℕ) (write instruction : Bool) (z cause : ℕ) → ppcOf (cpuOf w) < 2 ^ 32 → a < 2 ^ 32 → wdataOf (cpuOf w) < 2 ^ 32
-    → Ready (step enterBusError w) (busFrame (cpuOf w) a write instruction z cause)
-    → Reachable (pushFrame raised (step enterBusError w) (busFrame (cpuOf w) a write instruction z cause)) 2
-    → (i : ℕ) → i < busFrame (cpuOf w) a write instruction z cause .count → isCounted (fieldAt (busFrame (cpuOf w) a write instruction z cause) i) ≡ false
-    → readValue (exceptionBusError raised w a write instruction z cause) (bottom (step enterBusError w) (busFrame (cpuOf w) a write instruction z cause) + frameBytes (busFrame (cpuOf w) a write instruction z cause) i) (fieldAt (busFrame (cpuOf w) a write instruction z cause) i .long)
-    ≡ fieldAt (busFrame (cpuOf w) a write instruction z cause) i .value
-bus-fields w a write instruction z cause p q d = values.bus-fields raised w a write instruction p q z cause d
-
--- ---- return and walk
-
--- "Every refusal leaves record, store and log alone"
-pub return-refused : (m : Core) (s : List ℕ) → (returnFrom m s .refused ≡ 0 → ⊥) → returnFrom m s .core ≡ m
-return-refused = unwind.return-refused
-
--- a return "sets status under the kind's mask with M as stacked"
-pub return-status : (c : Cpu) (f : Taken) → getSr (takeFrame c f) ≡ maskStatus (kindOf c) (f .status)
-return-status = unwind.take-status
-
--- "the walk keeps the rows read so far and gives their count": no word behind them is touched
-pub walk-behind : (n : ℕ) (v : Sight) (c : Cpu) (ws : List ℕ) (j : ℕ) → walkOf n v c ws .count * 4 ≤ j → getD (walkOf n v c ws .words) j 0 ≡ getD ws j 0
-walk-behind = unwind.walk-behind
 
 -- ---- the instances of paper 01
 
