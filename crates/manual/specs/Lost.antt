@@ -1,18 +1,22 @@
--- THE DIFFERENCE OF THE TRIGGERS, shown on `perform`: in the user state with M set a trigger puts the status back without M, so that the frame lies on
--- the interrupt stack and its status lacks M; by the manuals M stays and the frame lies on the master stack. From the 68020 to the 68040.
-use Prim.Native.Nat.{ℕ, _-_}
-use mathlib.Core.Path.{_≡_, refl}
-use mathlib.Core.Bool.{Bool, true, false, _&&_}
+-- THE DIFFERENCE OF THE TRIGGERS: in the user state with M set a trigger puts the status back without M, so that the stacked status lacks M and, from the
+-- 68020 to the 68040, the frame lies on the interrupt stack; by the manuals M stays and the frame lies on the master stack. `put-back` proves that
+-- the status put back differs in nothing else, `m-lost` and `m-lost-68060` show the difference on `perform`.
+use Prim.Native.Nat.{ℕ, zero, suc, _-_, _*_, _/_, _%_, _<_}
+use mathlib.Core.Path.{_≡_, refl, ap, _∙_}
+use mathlib.Core.Bool.{Bool, true, false, cond, _&&_}
 use mathlib.Core.List.{List, [], _∷_}
 use mathlib.Core.Option.{Option, none, some}
+use native.Mathlib.Omega.{arith}
 use lib.Dec.{eqb}
 use lib.ListN.{set, replicate}
+use Rattle.types.specs.Kinds.{pick, maskStatus}
 use Rattle.types.specs.declared.FaultCause.the-variants.{Absent}
 use Rattle.cpu.specs.declared.Cpu.{Cpu}
 use Rattle.cpu.specs.Groups.{withRegs, withFlags}
-use Rattle.cpu.specs.Fields.{a7Of}
+use Rattle.cpu.specs.Fields.{kindOf, a7Of}
 use Rattle.cpu.specs.Fresh.{freshCpu}
-use Rattle.status.specs.Status.{putBackSr}
+use Rattle.status.specs.Status.{getSr, putBackSr}
+use Rattle.status.specs.Laws.{dropM}
 use Rattle.memory.specs.World.{World, world, cpuOf}
 use Rattle.answers.specs.declared.Call.the-variants.{TriggerBusError, ExceptionBusError}
 use Rattle.answers.specs.Answers.{plain}
@@ -25,6 +29,9 @@ use Rattle.manual.specs.State.{State}
 use Rattle.manual.specs.Vectors.{busError}
 use Rattle.manual.specs.Exceptions.{pointerAfter, lengthOf}
 use Rattle.manual.specs.Calls.{stateOf}
+use Rattle.manual.specs.Returns.{implemented}
+use Rattle.manual.specs.ReturnHolds.{mask-is}
+use Rattle.manual.specs.Triggers.{restored, status-back}
 use Rattle.manual.specs.Computed.{shown}
 
 -- user stack at 0x100, interrupt stack at 0x180, master stack at 0x200; status and registers as before the instruction
@@ -78,3 +85,29 @@ lostOn (k ∷ ks) = lostBy (familyOf k) (worldFor k) (perform (worldFor k) (Trig
 pub m-lost : lostOn (3 ∷ 4 ∷ 5 ∷ 6 ∷ 7 ∷ 8 ∷ 9 ∷ []) ≡ true
 unfolding shown plain
 m-lost = refl
+
+-- the 68060 has one supervisor stack: the status alone
+pub m-lost-68060 : is (wordAt (peek (mem (perform (worldFor 11) (TriggerBusError 0x1234 false false 2) .after))) (a7Of (cpuOf (perform (worldFor 11) (TriggerBusError 0x1234 false false 2) .after)))) 0x0700 ≡ true
+unfolding shown plain
+m-lost-68060 = refl
+
+-- ---- and nothing else
+
+-- S clear and M set
+abbrev pub losesM : ℕ → Bool
+losesM v = eqb (v / 0x2000 % 2) 0 && eqb (v / 0x1000 % 2) 1
+
+keeps : (v : ℕ) → losesM v ≡ false → dropM v ≡ v
+unfolding dropM
+keeps v h = go (eqb (v / 0x2000 % 2) 0) (v / 0x1000 % 2) (omega arith) h
+  where
+    go : (b : Bool) (m : ℕ) → m < 2 → b && eqb m 1 ≡ false → pick b (v - m * 0x1000) v ≡ v
+    go false m l e = refl
+    go true zero l e = omega arith
+    go true (suc zero) l e = let z : _≡_ {A = ℕ} 0 1 = ap (λ (b : Bool). cond b 0 1) e in absurd (omega arith)
+    go true (suc (suc m)) l e = absurd (omega arith)
+
+-- the status put back is the one before the instruction, in the bits that the part has, but where S is clear and M set
+pub put-back : (w : World) (F : Family) → kindOf (cpuOf w) < 12 → familyOf (kindOf (cpuOf w)) ≡ some F → losesM (maskStatus (kindOf (cpuOf w)) (cpuOf w .flags .«sr_save»)) ≡ false
+    → getSr (cpuOf (restored w)) ≡ implemented F (cpuOf w .flags .«sr_save»)
+put-back w F l e h = status-back w ∙ keeps (maskStatus (kindOf (cpuOf w)) (cpuOf w .flags .«sr_save»)) h ∙ mask-is (kindOf (cpuOf w)) F (cpuOf w .flags .«sr_save») l e
