@@ -95,7 +95,7 @@ fn minus_46(n: i32) -> i32
 
 // The cycles of an interrupt are taken off: 46 or 44. Where the difference would not fit, nothing is; number 3 refuses such a
 // record first.
-fn less_cycles(n: i32, more: bool) -> i32
+pub fn less_cycles(n: i32, more: bool) -> i32
     ensures { λ r. ⌜ r ≡ lessCycles n more ⌝ }
 {
     if has_room(n) {
@@ -107,7 +107,7 @@ fn less_cycles(n: i32, more: bool) -> i32
     n
 }
 
-fn has_room(n: i32) -> bool
+pub fn has_room(n: i32) -> bool
     ensures { λ r. ⌜ r ≡ hasRoom n ⌝ }
 {
     -2147483602 <= n

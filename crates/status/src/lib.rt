@@ -17,7 +17,8 @@ pub fn get_sr(c: Cpu) -> u16
     compose(c.flags)
 }
 
-fn compose(f: Flags) -> u16
+// The status register of the flags.
+pub fn compose(f: Flags) -> u16
     ensures { λ r. ⌜ r ≡ compose f ⌝ }
 {
     let system = f.t1_flag / 0x8000 % 2 * 0x8000

@@ -1,0 +1,6 @@
+pub mod Views
+pub mod Places
+pub mod Plans
+pub mod Stacks
+pub mod Quiet
+pub mod Patches

@@ -1,0 +1,67 @@
+-- Where the frame of an entry lies and where its jump lands. A frame or a jump that the fast way does not take has `ok` false.
+use Prim.Native.Nat.{ℕ, _+_, _-_, _*_, _%_}
+use mathlib.Core.Bool.{Bool, true, false}
+use mathlib.Core.List.{List}
+use lib.Dec.{eqb, ltb, leb}
+use lib.ListN.{length}
+use Rattle.types.specs.Kinds.{pick, isPrefetchKind}
+use Rattle.memory.specs.Bytes.{getWord, getLong}
+use Rattle.fast.specs.declared.View.{View}
+use Rattle.fast.specs.declared.places.Spot.{Spot}
+use Rattle.fast.specs.declared.places.Landing.{Landing}
+
+-- `prefetch_enabled`
+unfoldable pub fetchesOf : View → Bool
+fetchesOf x = pick (x .precise) (isPrefetchKind (x .kind)) false
+
+-- the supervisor and the user stack pointer once S is set, M being clear
+unfoldable pub topOf : View → ℕ
+topOf x = pick (eqb (x .flags .«s_flag») 0) (x .interrupt) (x .a7)
+
+unfoldable pub userOf : View → ℕ
+userOf x = pick (eqb (x .flags .«s_flag») 0) (x .a7) (x .user)
+
+abbrev pub noSpot : Spot
+noSpot = record { ok = false; a7 = 0; place = 0 }
+
+abbrev pub spot : ℕ → ℕ → Spot
+spot q p = record { ok = true; a7 = q; place = p }
+
+-- n bytes below the supervisor's pointer, within the store, at an even address
+unfoldable pub spotOf : View → ℕ → ℕ → Spot
+spotOf x stored n =
+    pick (ltb (topOf x) n) noSpot
+    (pick (ltb (topOf x - n) (x .base)) noSpot
+    (pick (ltb stored (topOf x - n - x .base + n)) noSpot
+    (pick (eqb ((topOf x - n) % 2) 1) noSpot (spot (topOf x - n) (topOf x - n - x .base)))))
+
+abbrev pub noLanding : Landing
+noLanding = record { ok = false; from = 0; pc = 0; first = 0; second = 0 }
+
+abbrev pub landed : ℕ → ℕ → ℕ → ℕ → Landing
+landed a to f s = record { ok = true; from = a; pc = to; first = f; second = s }
+
+-- the 4 bytes at place p and the n bytes at place s have a byte in common
+unfoldable pub meets : ℕ → ℕ → ℕ → Bool
+meets p s n = pick (leb p s) (ltb (s - p) 4) (ltb (p - s) n)
+
+-- the queue at an even handler in the store, apart from the n bytes at place s
+unfoldable pub queuedOf : View → List ℕ → ℕ → ℕ → ℕ → ℕ → Landing
+queuedOf x m a to s n =
+    pick (eqb (to % 2) 1) noLanding
+    (pick (ltb to (x .base)) noLanding
+    (pick (ltb (length m) (to - x .base + 4)) noLanding
+    (pick (meets (to - x .base) s n) noLanding
+    (landed a to (getWord m (to - x .base)) (getWord m (to - x .base + 2))))))
+
+-- the jump by vector v
+unfoldable pub vectorAt : View → ℕ → ℕ
+vectorAt x v = v * 4 + x .vbr
+
+unfoldable pub landingOf : View → List ℕ → ℕ → ℕ → ℕ → Landing
+landingOf x m v s n =
+    pick (ltb (vectorAt x v) (x .base)) noLanding
+    (pick (ltb (length m) (vectorAt x v - x .base + 4)) noLanding
+    (pick (meets (vectorAt x v - x .base) s n) noLanding
+    (pick (fetchesOf x) (queuedOf x m (vectorAt x v) (getLong m (vectorAt x v - x .base)) s n)
+    (landed (vectorAt x v) (getLong m (vectorAt x v - x .base)) 0 0))))

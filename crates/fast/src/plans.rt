@@ -1,0 +1,284 @@
+// A call as data: which entry it is, and what the entry writes.
+use crate::View;
+use crate::places;
+use boundary::RawCall;
+ghost use Prim.Native.Nat.{_≤_};
+ghost use mathlib.Core.Path.{_≡_};
+ghost use Rattle.types.specs.Kinds.{pick};
+ghost use Rattle.types.specs.Tables.{exceptionCycles};
+ghost use Rattle.fast.specs.Plans.{row, rowOf, noPlan, stacksNext, isLong, addressOf, halts, entryPlan, entryOf, takes, responseTo, interruptPlan, planOf};
+
+// An entry. Ways: 0 none; 1 take_exception; 2 take_group2_exception; 3 the same for a trace. `rewound`: PC goes back to the
+// instruction first.
+pub struct EntryRow {
+    pub way: u8,
+    pub vector: u32,
+    pub rewound: bool,
+}
+
+// What an entry writes and answers. Shapes: 0 none; 1 the 68000's three words; 2 format 0; 3 format 2; 4, 5, 6 an interrupt on kind 1, on
+// kind 2, on another.
+pub struct Plan {
+    pub shape: u8,
+    pub bytes: u32,
+    pub clocks: u32,
+    pub sr: u32,
+    pub pc: u32,
+    pub extra: u32,
+    pub format: u32,
+    pub vector: u32,
+    pub level: u32,
+    pub response: u32,
+    pub answer: u32,
+    pub last: u32,
+    pub stopped: u32,
+    pub mask: u32,
+    pub pending: u32,
+    pub cycles: i32,
+}
+
+fn row(way: u8, vector: u32, rewound: bool) -> EntryRow
+    ensures { λ r. ⌜ r ≡ row way vector rewound ⌝ }
+{
+    EntryRow {
+        way: way,
+        vector: vector,
+        rewound: rewound,
+    }
+}
+
+// The entry of a call by number: a further entry is a row here.
+fn row_of(call: RawCall) -> EntryRow
+    ensures { λ r. ⌜ r ≡ rowOf call ⌝ }
+{
+    let n = call.number;
+    if n == 1 {
+        return row(1, call.a, false);
+    }
+    if n == 2 {
+        return row(1, 32 + call.a % 16, false);
+    }
+    if n == 3 {
+        return row(2, call.a, false);
+    }
+    if n == 4 {
+        return row(2, 6, false);
+    }
+    if n == 5 {
+        return row(2, 5, false);
+    }
+    if n == 6 {
+        return row(1, 8, false);
+    }
+    if n == 7 {
+        return row(3, 9, false);
+    }
+    if n == 12 {
+        return row(1, 10, true);
+    }
+    if n == 13 {
+        return row(1, 11, true);
+    }
+    if n == 14 {
+        return row(1, 32 + call.a % 16, false);
+    }
+    if n == 15 || n == 16 {
+        return row(1, 4, true);
+    }
+    row(0, 0, false)
+}
+
+fn no_plan() -> Plan
+    ensures { λ r. ⌜ r ≡ noPlan ⌝ }
+{
+    Plan {
+        shape: 0,
+        bytes: 0,
+        clocks: 0,
+        sr: 0,
+        pc: 0,
+        extra: 0,
+        format: 0,
+        vector: 0,
+        level: 0,
+        response: 0,
+        answer: 0,
+        last: 0,
+        stopped: 0,
+        mask: 0,
+        pending: 0,
+        cycles: 0,
+    }
+}
+
+// Cycles of an exception, by tests: an index into the table would copy it.
+fn cycles(v: u32) -> u32
+    ensures { λ r. ⌜ r ≡ exceptionCycles v ⌝ }
+{
+    if v < 2 || v == 6 {
+        return 40;
+    }
+    if v == 2 || v == 3 {
+        return 50;
+    }
+    if v == 5 {
+        return 38;
+    }
+    if 24 <= v && v <= 31 {
+        return 44;
+    }
+    34
+}
+
+// The vectors for which `take_exception` stacks PC.
+fn stacks_next(v: u32) -> bool
+    ensures { λ r. ⌜ r ≡ stacksNext v ⌝ }
+{
+    if v == types::ZERO_DIVIDE || v == types::TRAPV || v == types::TRACE {
+        return true;
+    }
+    24 <= v && v <= 47
+}
+
+fn choose8(b: bool, x: u8, y: u8) -> u8
+    ensures { λ r. ⌜ r ≡ pick b x y ⌝ }
+{
+    if b {
+        return x;
+    }
+    y
+}
+
+// Whether the frame is of format 2.
+fn is_long(kind: u8, way: u8) -> bool
+    ensures { λ r. ⌜ r ≡ isLong kind way ⌝ }
+{
+    if way == 1 {
+        return false;
+    }
+    !types::is_pre_68020(kind)
+}
+
+// The address that is stacked.
+fn address(x: View, r: EntryRow) -> u32
+    ensures { λ a. ⌜ a ≡ addressOf x r ⌝ }
+{
+    if r.way == 1 {
+        if r.rewound {
+            return x.ppc;
+        }
+        return places::choose(stacks_next(r.vector), x.pc, x.ppc);
+    }
+    x.pc
+}
+
+// `take_exception` halts while an entry is under way.
+fn halts(x: View, r: EntryRow) -> bool
+    ensures { λ b. ⌜ b ≡ halts x r ⌝ }
+{
+    r.way == 1 && x.exception
+}
+
+fn entry_plan(x: View, r: EntryRow) -> Plan
+    requires { ⌜ r .vector ≤ 255 ⌝ }
+    ensures { λ p. ⌜ p ≡ entryPlan x r ⌝ }
+{
+    let old = x.kind == types::M68000;
+    let long = is_long(x.kind, r.way);
+    let sr = status::compose(x.flags) as u32;
+    let pc = address(x, r);
+    Plan {
+        shape: choose8(old, 1, choose8(long, 3, 2)),
+        bytes: places::choose(old, 6, places::choose(long, 12, 8)),
+        clocks: places::choose(r.way == 2, 0, 4),
+        sr: sr,
+        pc: pc,
+        extra: x.ppc,
+        format: places::choose(long, 0x2000, 0) + r.vector * 4,
+        vector: r.vector,
+        level: 0,
+        response: 0,
+        answer: cycles(r.vector),
+        last: places::choose(old, pc / 0x10000, sr),
+        stopped: places::choose(r.way == 3, x.stopped - x.stopped % 2, x.stopped),
+        mask: x.flags.int_mask,
+        pending: x.flags.int_level,
+        cycles: x.cycles,
+    }
+}
+
+fn entry_of(x: View, r: EntryRow) -> Plan
+    ensures { λ p. ⌜ p ≡ entryOf x r ⌝ }
+{
+    if r.way == 0 {
+        return no_plan();
+    }
+    if 255 < r.vector {
+        return no_plan();
+    }
+    if halts(x, r) {
+        return no_plan();
+    }
+    entry_plan(x, r)
+}
+
+// The decision of the interrupt call.
+pub(crate) fn takes(x: View) -> bool
+    ensures { λ r. ⌜ r ≡ takes x ⌝ }
+{
+    let level = x.flags.int_level % 8;
+    if level == 7 {
+        return true;
+    }
+    x.flags.int_mask / 256 % 8 < level
+}
+
+// The response of a level.
+fn response_to(x: View, level: u32) -> u32
+    ensures { λ r. ⌜ r ≡ responseTo x level ⌝ }
+{
+    let responses = x.responses;
+    responses[(level % 8) as usize]
+}
+
+fn interrupt_plan(x: View) -> Plan
+    ensures { λ p. ⌜ p ≡ interruptPlan x ⌝ }
+{
+    let level = x.flags.int_level % 8;
+    let response = response_to(x, level);
+    let v = steps::iack_vector(response, level as u8);
+    let old = x.kind == types::M68000;
+    let ten = x.kind == types::M68010;
+    let sr = status::compose(x.flags) as u32;
+    Plan {
+        shape: choose8(old, 4, choose8(ten, 5, 6)),
+        bytes: places::choose(old, 6, 8),
+        clocks: places::choose(old, 6, places::choose(ten, 12, 0)),
+        sr: sr,
+        pc: x.pc,
+        extra: 0,
+        format: v * 4,
+        vector: v,
+        level: level,
+        response: response,
+        answer: 1,
+        last: places::choose(old, x.pc / 0x10000, places::choose(ten, v * 4, sr)),
+        stopped: 0,
+        mask: level * 256,
+        pending: 0,
+        cycles: pending::interrupts::less_cycles(x.cycles, ten),
+    }
+}
+
+// The plan of a call, or none.
+pub(crate) fn plan_of(x: View, call: RawCall) -> Plan
+    ensures { λ p. ⌜ p ≡ planOf x call ⌝ }
+{
+    if call.number == 22 {
+        if pending::interrupts::has_room(x.cycles) {
+            return interrupt_plan(x);
+        }
+        return no_plan();
+    }
+    entry_of(x, row_of(call))
+}
