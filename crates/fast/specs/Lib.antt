@@ -4,3 +4,4 @@ pub mod Plans
 pub mod Stacks
 pub mod Quiet
 pub mod Patches
+pub mod Laws

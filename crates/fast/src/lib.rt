@@ -87,16 +87,28 @@ fn accepts(x: View, stored: usize, logged: usize) -> bool
     if is_other(x.flags.s_flag) {
         return false;
     }
-    if x.flags.m_flag != 0 || x.vbr % 2 == 1 {
+    if x.flags.m_flag != 0 {
         return false;
     }
-    if x.overridden || x.windows != 0 {
+    if x.vbr % 2 == 1 {
         return false;
     }
-    if 65536 < stored || span(x.kind) < x.base as usize + stored {
+    if x.overridden {
         return false;
     }
-    if logged < 192 || 11 < x.kind {
+    if x.windows != 0 {
+        return false;
+    }
+    if 65536 < stored {
+        return false;
+    }
+    if span(x.kind) < x.base as usize + stored {
+        return false;
+    }
+    if logged < 192 {
+        return false;
+    }
+    if 11 < x.kind {
         return false;
     }
     x.run_mode != 1
@@ -106,7 +118,10 @@ fn accepts(x: View, stored: usize, logged: usize) -> bool
 fn is_other(s: u32) -> bool
     ensures { λ r. ⌜ r ≡ isOther s ⌝ }
 {
-    s != 0 && s != 4
+    if s == 0 {
+        return false;
+    }
+    s != 4
 }
 
 // The fast way does not take the call.

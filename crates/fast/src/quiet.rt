@@ -16,7 +16,10 @@ pub(crate) fn is_quiet(x: View, call: RawCall) -> bool
         }
         return pending::interrupts::has_room(x.cycles);
     }
-    19 <= call.number && call.number <= 21
+    if 19 <= call.number {
+        return call.number <= 21;
+    }
+    false
 }
 
 // At most the level and the change of flow change.
