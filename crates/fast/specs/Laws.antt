@@ -44,13 +44,17 @@ compose-fits f = go (eqb (f .«not_z_flag») 0)
     go false = omega arith
 
 -- so is a format word
-vector-fits : (r level : ℕ) → iackVector r level < 256
+pub vector-fits : (r level : ℕ) → iackVector r level < 256
 unfolding iackVector
 vector-fits r level = go (eqb r 0xFFFFFFFF)
   where
     go : (t : Bool) → pick t (24 + level % 8) (r % 256) < 256
     go true = omega arith
     go false = omega arith
+
+pub format-small : {v : ℕ} (t : Bool) → v ≡ pick t 0x2000 0 → v ≤ 0x2000
+format-small true e = rw e (omega arith)
+format-small false e = rw e (omega arith)
 
 entry-format : (t : Bool) (v : ℕ) → v ≤ 255 → pick t 0x2000 0 + v * 4 < 0x10000
 entry-format true v h = omega arith

@@ -19,6 +19,7 @@ ghost use Prim.Native.Nat.{_+_, _≤_};
 ghost use lib.ListN.{length};
 ghost use Rattle.fast.specs.Views.{spanOf, isOther, acceptsOf};
 ghost use Rattle.fast.specs.Plans.{Shaped};
+ghost use Rattle.fast.specs.Quiet.{quiet};
 ghost use Rattle.fast.specs.Patches.{noPatch, patchBy, enterOf, goOf, ended};
 
 // What the fast way reads of a record and its bus.
@@ -124,16 +125,16 @@ fn is_other(s: u32) -> bool
     s != 4
 }
 
-// The fast way does not take the call.
-pub fn none() -> Patch
-    ensures { λ r. ⌜ r ≡ noPatch ⌝ }
+// A patch of no entry.
+pub(crate) fn quiet_patch(idle: bool, calm: bool, answer: u32, level: u32, flow: bool) -> Patch
+    ensures { λ r. ⌜ r ≡ quiet idle calm answer level flow ⌝ }
 {
     Patch {
-        idle: false,
-        calm: false,
+        idle: idle,
+        calm: calm,
         fast: false,
         fetches: false,
-        answer: 0,
+        answer: answer,
         events: 0,
         user: 0,
         top: 0,
@@ -145,10 +146,17 @@ pub fn none() -> Patch
         vector: 0,
         stopped: 0,
         mask: 0,
-        level: 0,
+        level: level,
         cycles: 0,
-        flow: false,
+        flow: flow,
     }
+}
+
+// The fast way does not take the call.
+pub fn none() -> Patch
+    ensures { λ r. ⌜ r ≡ noPatch ⌝ }
+{
+    quiet_patch(false, false, 0, 0, false)
 }
 
 // What an entry leaves: its plan p, its frame at s, its jump to l and how many events there are.

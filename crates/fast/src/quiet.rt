@@ -26,12 +26,7 @@ pub(crate) fn is_quiet(x: View, call: RawCall) -> bool
 fn calm(answer: u32, level: u32, flow: bool) -> Patch
     ensures { λ r. ⌜ r ≡ calmPatch answer level flow ⌝ }
 {
-    let mut p = crate::none();
-    p.calm = true;
-    p.answer = answer;
-    p.level = level;
-    p.flow = flow;
-    p
+    crate::quiet_patch(false, true, answer, level, flow)
 }
 
 // Nothing changes, but that the events of an earlier call are forgotten.
@@ -39,10 +34,7 @@ fn still(x: View, answer: u32) -> Patch
     ensures { λ r. ⌜ r ≡ stillPatch x answer ⌝ }
 {
     if x.events == 0 {
-        let mut p = crate::none();
-        p.idle = true;
-        p.answer = answer;
-        return p;
+        return crate::quiet_patch(true, false, answer, 0, false);
     }
     calm(answer, x.flags.int_level, x.change_of_flow)
 }
