@@ -16,6 +16,7 @@ pub mod stacks; // frames and events written
 
 ghost use mathlib.Core.Path.{_≡_};
 ghost use Prim.Native.Nat.{_+_, _≤_};
+ghost use lib.Dec.{ltb};
 ghost use lib.ListN.{length};
 ghost use Rattle.fast.specs.Views.{spanOf, isOther, acceptsOf};
 ghost use Rattle.fast.specs.Plans.{Shaped};
@@ -36,7 +37,7 @@ pub struct View {
     pub stopped: u32,
     pub exception: bool,
     pub change_of_flow: bool,
-    pub cycles: i32,
+    pub room: bool,
     pub clocks: u32,
     pub precise: bool,
     pub overridden: bool,
@@ -66,7 +67,7 @@ pub struct Patch {
     pub stopped: u32,
     pub mask: u32,
     pub level: u32,
-    pub cycles: i32,
+    pub serviced: bool,
     pub flow: bool,
 }
 
@@ -78,6 +79,14 @@ fn span(kind: u8) -> usize
         return 0x1000000;
     }
     0x100000000
+}
+
+// Whether so many bytes at a base end past the addresses of the kind.
+fn ends_past(kind: u8, base: u32, stored: usize) -> bool
+    requires { ⌜ stored ≤ 65536 ⌝ }
+    ensures { λ r. ⌜ r ≡ ltb (spanOf kind) (base + stored) ⌝ }
+{
+    span(kind) < base as usize + stored
 }
 
 // Whether the fast way takes such a record, store and log: none of the numbers 1, 2, 4 to 7 and 9 refuses the call, M is clear, no window counts,
@@ -103,7 +112,7 @@ fn accepts(x: View, stored: usize, logged: usize) -> bool
     if 65536 < stored {
         return false;
     }
-    if span(x.kind) < x.base as usize + stored {
+    if ends_past(x.kind, x.base, stored) {
         return false;
     }
     if logged < 192 {
@@ -147,7 +156,7 @@ pub(crate) fn quiet_patch(idle: bool, calm: bool, answer: u32, level: u32, flow:
         stopped: 0,
         mask: 0,
         level: level,
-        cycles: 0,
+        serviced: false,
         flow: flow,
     }
 }
@@ -181,7 +190,7 @@ fn patch_by(x: View, p: Plan, s: Spot, l: Landing, events: u32) -> Patch
         stopped: p.stopped,
         mask: p.mask,
         level: p.pending,
-        cycles: p.cycles,
+        serviced: p.serviced,
         flow: x.change_of_flow,
     }
 }

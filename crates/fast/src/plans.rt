@@ -34,7 +34,7 @@ pub struct Plan {
     pub stopped: u32,
     pub mask: u32,
     pub pending: u32,
-    pub cycles: i32,
+    pub serviced: bool,
 }
 
 fn row(way: u8, vector: u32, rewound: bool) -> EntryRow
@@ -110,7 +110,7 @@ fn no_plan() -> Plan
         stopped: 0,
         mask: 0,
         pending: 0,
-        cycles: 0,
+        serviced: false,
     }
 }
 
@@ -227,7 +227,7 @@ fn entry_plan(x: View, r: EntryRow) -> Plan
         stopped: places::choose(r.way == 3, x.stopped - x.stopped % 2, x.stopped),
         mask: x.flags.int_mask,
         pending: x.flags.int_level,
-        cycles: x.cycles,
+        serviced: false,
     }
 }
 
@@ -290,7 +290,7 @@ fn interrupt_plan(x: View) -> Plan
         stopped: 0,
         mask: level * 256,
         pending: 0,
-        cycles: pending::interrupts::less_cycles(x.cycles, ten),
+        serviced: true,
     }
 }
 
@@ -299,7 +299,7 @@ pub(crate) fn plan_of(x: View, call: RawCall) -> Plan
     ensures { λ p. ⌜ p ≡ planOf x call ⌝ }
 {
     if call.number == 22 {
-        if pending::interrupts::has_room(x.cycles) {
+        if x.room {
             return interrupt_plan(x);
         }
         return no_plan();

@@ -14,7 +14,7 @@ pub(crate) fn is_quiet(x: View, call: RawCall) -> bool
         if plans::takes(x) {
             return false;
         }
-        return pending::interrupts::has_room(x.cycles);
+        return x.room;
     }
     if 19 <= call.number {
         return call.number <= 21;

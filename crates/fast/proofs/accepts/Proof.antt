@@ -1,15 +1,15 @@
 use mathlib.Core.Path.{_≡_, refl, sym, _∙_}
 use native.Mathlib.Omega.{arith}
-use lib.ListN.{length-set}
-use borrow.Author.Tests.{lt-ltb, le-ltb, le-leb, lt-leb, eq-eqb, ne-eqb}
+use borrow.Author.Tests.{lt-ltb, le-ltb, eq-eqb, ne-eqb}
 use Rattle.fast.specs.Views.{acceptsOf}
+use Rattle.fast.proofs.Ways.{accepts-way}
 use borrow.Author.Needs.{needs}
 use Rattle.fast.proofs.accepts.Statement.{statement}
 use Rattle.fast.proofs.accepts.Tie as tie
 use Rattle.fast.proofs.accepts.Reads as reads
 use Rattle.fast.proofs.accepts.Lts as lts
+use Rattle.fast.proofs.ends_past.Reads as ends-past-reads
 use Rattle.fast.proofs.is_other.Reads as is-other-reads
-use Rattle.fast.proofs.span.Reads as span-reads
 
 is-other-requires : tie.Need-is-other-requires
 is-other-requires c κs = search needs
@@ -38,30 +38,23 @@ returns-6 : tie.Need-returns-6
 unfolding acceptsOf
 returns-6 c = simp (sym (c .before .before .before .before .before .before .before .before .before .is-other .ensures) ∙ c .before .before .before .before .before .before .before .before .if1 .left, eq-eqb _ _ (c .before .before .before .before .before .before .if2 .left), ne-eqb _ _ (c .before .before .before .before .if3 .left), c .before .before .before .if4 .left, eq-eqb _ _ (c .before .if5 .left), lt-ltb _ _ (c .if6 .taken))
 
-span-requires : tie.Need-span-requires
-span-requires c κs = search needs
-
-cast-if7 : tie.Need-cast-if7
-cast-if7 c = search needs
-
-add-if7 : tie.Need-add-if7
-add-if7 c = search needs
+ends-past-requires : tie.Need-ends-past-requires
+ends-past-requires c κs = c .if6 .left
 
 returns-7 : tie.Need-returns-7
 unfolding acceptsOf
-returns-7 c = rw (← c .before .before .span .ensures) (simp (sym (c .before .before .before .before .before .before .before .before .before .before .before .before .is-other .ensures) ∙ c .before .before .before .before .before .before .before .before .before .before .before .if1 .left, eq-eqb _ _ (c .before .before .before .before .before .before .before .before .before .if2 .left), ne-eqb _ _ (c .before .before .before .before .before .before .before .if3 .left), c .before .before .before .before .before .before .if4 .left, eq-eqb _ _ (c .before .before .before .before .if5 .left), le-ltb _ _ (c .before .before .before .if6 .left), lt-ltb _ _ (c .if7 .taken)))
+returns-7 c = simp (sym (c .before .before .before .before .before .before .before .before .before .before .before .is-other .ensures) ∙ c .before .before .before .before .before .before .before .before .before .before .if1 .left, eq-eqb _ _ (c .before .before .before .before .before .before .before .before .if2 .left), ne-eqb _ _ (c .before .before .before .before .before .before .if3 .left), c .before .before .before .before .before .if4 .left, eq-eqb _ _ (c .before .before .before .if5 .left), le-ltb _ _ (c .before .before .if6 .left), sym (c .before .ends-past .ensures) ∙ c .if7 .taken)
 
 returns-8 : tie.Need-returns-8
 unfolding acceptsOf
-returns-8 c = rw (← c .before .before .before .span .ensures) (simp (sym (c .before .before .before .before .before .before .before .before .before .before .before .before .before .is-other .ensures) ∙ c .before .before .before .before .before .before .before .before .before .before .before .before .if1 .left, eq-eqb _ _ (c .before .before .before .before .before .before .before .before .before .before .if2 .left), ne-eqb _ _ (c .before .before .before .before .before .before .before .before .if3 .left), c .before .before .before .before .before .before .before .if4 .left, eq-eqb _ _ (c .before .before .before .before .before .if5 .left), le-ltb _ _ (c .before .before .before .before .if6 .left), le-ltb _ _ (c .before .if7 .left), lt-ltb _ _ (c .if8 .taken)))
+returns-8 c = simp (sym (c .before .before .before .before .before .before .before .before .before .before .before .before .is-other .ensures) ∙ c .before .before .before .before .before .before .before .before .before .before .before .if1 .left, eq-eqb _ _ (c .before .before .before .before .before .before .before .before .before .if2 .left), ne-eqb _ _ (c .before .before .before .before .before .before .before .if3 .left), c .before .before .before .before .before .before .if4 .left, eq-eqb _ _ (c .before .before .before .before .if5 .left), le-ltb _ _ (c .before .before .before .if6 .left), sym (c .before .before .ends-past .ensures) ∙ c .before .if7 .left, lt-ltb _ _ (c .if8 .taken))
 
 returns-9 : tie.Need-returns-9
 unfolding acceptsOf
-returns-9 c = rw (← c .before .before .before .before .before .span .ensures) (simp (sym (c .before .before .before .before .before .before .before .before .before .before .before .before .before .before .before .is-other .ensures) ∙ c .before .before .before .before .before .before .before .before .before .before .before .before .before .before .if1 .left, eq-eqb _ _ (c .before .before .before .before .before .before .before .before .before .before .before .before .if2 .left), ne-eqb _ _ (c .before .before .before .before .before .before .before .before .before .before .if3 .left), c .before .before .before .before .before .before .before .before .before .if4 .left, eq-eqb _ _ (c .before .before .before .before .before .before .before .if5 .left), le-ltb _ _ (c .before .before .before .before .before .before .if6 .left), le-ltb _ _ (c .before .before .before .if7 .left), le-ltb _ _ (c .before .before .if8 .left), lt-ltb _ _ (c .if9 .taken)))
+returns-9 c = simp (sym (c .before .before .before .before .before .before .before .before .before .before .before .before .before .before .is-other .ensures) ∙ c .before .before .before .before .before .before .before .before .before .before .before .before .before .if1 .left, eq-eqb _ _ (c .before .before .before .before .before .before .before .before .before .before .before .if2 .left), ne-eqb _ _ (c .before .before .before .before .before .before .before .before .before .if3 .left), c .before .before .before .before .before .before .before .before .if4 .left, eq-eqb _ _ (c .before .before .before .before .before .before .if5 .left), le-ltb _ _ (c .before .before .before .before .before .if6 .left), sym (c .before .before .before .before .ends-past .ensures) ∙ c .before .before .before .if7 .left, le-ltb _ _ (c .before .before .if8 .left), lt-ltb _ _ (c .if9 .taken))
 
 returns-10 : tie.Need-returns-10
-unfolding acceptsOf
-returns-10 c = rw (← c .before .before .before .before .before .before .span .ensures) (simp (sym (c .before .before .before .before .before .before .before .before .before .before .before .before .before .before .before .before .is-other .ensures) ∙ c .before .before .before .before .before .before .before .before .before .before .before .before .before .before .before .if1 .left, eq-eqb _ _ (c .before .before .before .before .before .before .before .before .before .before .before .before .before .if2 .left), ne-eqb _ _ (c .before .before .before .before .before .before .before .before .before .before .before .if3 .left), c .before .before .before .before .before .before .before .before .before .before .if4 .left, eq-eqb _ _ (c .before .before .before .before .before .before .before .before .if5 .left), le-ltb _ _ (c .before .before .before .before .before .before .before .if6 .left), le-ltb _ _ (c .before .before .before .before .if7 .left), le-ltb _ _ (c .before .before .before .if8 .left), le-ltb _ _ (c .before .if9 .left)))
+returns-10 c = accepts-way _ _ _ (sym (c .before .before .before .before .before .before .before .before .before .before .before .before .before .before .before .is-other .ensures) ∙ c .before .before .before .before .before .before .before .before .before .before .before .before .before .before .if1 .left) (eq-eqb _ _ (c .before .before .before .before .before .before .before .before .before .before .before .before .if2 .left)) (ne-eqb _ _ (c .before .before .before .before .before .before .before .before .before .before .if3 .left)) (c .before .before .before .before .before .before .before .before .before .if4 .left) (eq-eqb _ _ (c .before .before .before .before .before .before .before .if5 .left)) (le-ltb _ _ (c .before .before .before .before .before .before .if6 .left)) (sym (c .before .before .before .before .before .ends-past .ensures) ∙ c .before .before .before .before .if7 .left) (le-ltb _ _ (c .before .before .before .if8 .left)) (le-ltb _ _ (c .before .if9 .left))
 
 pub accepts-spec : {M : Type 1} → statement M
 accepts-spec =
@@ -74,9 +67,7 @@ accepts-spec =
     returns-4
     returns-5
     returns-6
-    span-requires
-    cast-if7
-    add-if7
+    ends-past-requires
     returns-7
     returns-8
     returns-9

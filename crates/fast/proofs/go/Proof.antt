@@ -1,8 +1,6 @@
 use mathlib.Core.Path.{_≡_, refl, sym, _∙_}
-use native.Mathlib.Omega.{arith}
-use lib.ListN.{length-set}
-use borrow.Author.Tests.{lt-ltb, le-ltb, le-leb, lt-leb, eq-eqb, ne-eqb}
-use Rattle.fast.specs.Patches.{goOf, ended}
+use borrow.Author.Tests.{eq-eqb, ne-eqb}
+use Rattle.fast.proofs.Ways.{go-way, go-way-2, go-way-3, go-way-4, room-way, shaped-way}
 use borrow.Author.Needs.{needs}
 use Rattle.fast.proofs.go.Statement.{statement}
 use Rattle.fast.proofs.go.Tie as tie
@@ -25,8 +23,7 @@ patch-of-requires : tie.Need-patch-of-requires
 patch-of-requires c κs = search needs
 
 returns : tie.Need-returns
-unfolding goOf ended
-returns c = simp (sym (c .before .before .before .before .accepts .ensures) ∙ c .before .before .before .if1 .taken, sym (c .before .before .is-quiet .ensures) ∙ c .before .if2 .taken)
+returns c = go-way _ _ _ _ (c .before .before .before .before .accepts .ensures) (c .before .before .before .if1 .taken) (c .before .before .is-quiet .ensures) (c .before .if2 .taken) (c .patch-of .ensures)
 
 plan-of-requires : tie.Need-plan-of-requires
 plan-of-requires c κs = search needs
@@ -35,11 +32,11 @@ none-requires : tie.Need-none-requires
 none-requires c κs = search needs
 
 returns-2 : tie.Need-returns-2
-unfolding goOf ended
-returns-2 c = simp (sym (c .before .before .before .before .before .before .before .accepts .ensures) ∙ c .before .before .before .before .before .before .if1 .taken, sym (c .before .before .before .before .before .is-quiet .ensures) ∙ c .before .before .before .before .if2 .left, eq-eqb _ _ (c .before .if3 .taken))
+returns-2 c = go-way-2 _ _ _ _ (c .before .before .before .before .before .before .before .accepts .ensures) (c .before .before .before .before .before .before .if1 .taken) (c .before .before .before .before .before .is-quiet .ensures) (c .before .before .before .before .if2 .left) (c .before .before .before .plan-of .ensures) (eq-eqb _ _ (c .before .if3 .taken)) (c .none .ensures)
 
 enter-requires : tie.Need-enter-requires
-enter-requires c κs = simp length-set (omega arith)
+enter-requires c κs =
+    (shaped-way _ _ (c .before .before .before .before .plan-of .ensures) (ne-eqb _ _ (c .before .before .if3 .left)), room-way _ _ _ (c .before .before .before .before .before .before .before .before .accepts .ensures) (c .before .before .before .before .before .before .before .if1 .taken) .0, room-way _ _ _ (c .before .before .before .before .before .before .before .before .accepts .ensures) (c .before .before .before .before .before .before .before .if1 .taken) .1)
 
 same-length : tie.Need-same-length
 same-length c = search needs
@@ -48,15 +45,13 @@ same-length-2 : tie.Need-same-length-2
 same-length-2 c = search needs
 
 returns-3 : tie.Need-returns-3
-unfolding goOf ended
-returns-3 c = simp (sym (c .before .before .before .before .before .before .before .before .before .before .before .before .before .accepts .ensures) ∙ c .before .before .before .before .before .before .before .before .before .before .before .before .if1 .taken, sym (c .before .before .before .before .before .before .before .before .before .before .before .is-quiet .ensures) ∙ c .before .before .before .before .before .before .before .before .before .before .if2 .left, ne-eqb _ _ (c .before .before .before .before .before .before .before .if3 .left))
+returns-3 c = go-way-3 _ _ _ _ (c .before .before .before .before .before .before .before .before .before .before .before .before .before .accepts .ensures) (c .before .before .before .before .before .before .before .before .before .before .before .before .if1 .taken) (c .before .before .before .before .before .before .before .before .before .before .before .is-quiet .ensures) (c .before .before .before .before .before .before .before .before .before .before .if2 .left) (c .before .before .before .before .before .before .before .before .before .plan-of .ensures) (ne-eqb _ _ (c .before .before .before .before .before .before .before .if3 .left)) (c .before .before .before .before .enter .ensures)
 
 none-requires-2 : tie.Need-none-requires-2
 none-requires-2 c κs = search needs
 
 returns-4 : tie.Need-returns-4
-unfolding goOf ended
-returns-4 c = simp (sym (c .before .before .accepts .ensures) ∙ c .before .if1 .left)
+returns-4 c = go-way-4 _ _ _ _ (c .before .before .accepts .ensures) (c .before .if1 .left) (c .none2 .ensures)
 
 pub go-spec : {M : Type 1} → statement M
 go-spec =

@@ -1,9 +1,6 @@
-use mathlib.Core.Path.{_≡_, refl, sym, _∙_}
-use native.Mathlib.Omega.{arith}
-use lib.ListN.{length-set}
-use borrow.Author.Tests.{lt-ltb, le-ltb, le-leb, lt-leb, eq-eqb, ne-eqb}
-use Rattle.fast.specs.Patches.{patchBy}
+use mathlib.Core.Path.{_≡_, refl}
 use borrow.Author.Needs.{needs}
+use Rattle.fast.proofs.Ways.{patch-by-way}
 use Rattle.fast.proofs.patch_by.Statement.{statement}
 use Rattle.fast.proofs.patch_by.Tie as tie
 use Rattle.fast.proofs.patch_by.Reads as reads
@@ -22,8 +19,7 @@ top-requires : tie.Need-top-requires
 top-requires c κs = search needs
 
 returns : tie.Need-returns
-unfolding patchBy
-returns c = cc (c .before .before .before .fetches .ensures, c .before .before .user .ensures, c .before .top .ensures)
+returns c = patch-by-way _ _ _ _ _ (c .before .before .fetches .ensures) (c .before .user .ensures) (c .top .ensures)
 
 pub patch-by-spec : {M : Type 1} → statement M
 patch-by-spec = tie.close (tie.spec fetches-requires user-requires top-requires returns)

@@ -3,6 +3,7 @@ use native.Mathlib.Omega.{arith}
 use lib.ListN.{length-set}
 use borrow.Author.Tests.{lt-ltb, le-ltb, le-leb, lt-leb, eq-eqb, ne-eqb}
 use Rattle.memory.specs.Log.{noteLog}
+use Rattle.fast.proofs.Writes.{event-way}
 use borrow.Author.Needs.{needs}
 use Rattle.fast.proofs.bytes.event.Statement.{statement}
 use Rattle.fast.proofs.bytes.event.Tie as tie
@@ -40,8 +41,7 @@ same-length : tie.Need-same-length
 same-length c = search needs
 
 returns : tie.Need-returns
-unfolding noteLog
-returns c = cc
+returns c = event-way _ _ _ _ _ (c .pre .0) (c .pre .1)
 
 pub event-spec : {M : Type 1} → statement M
 event-spec =

@@ -4,6 +4,7 @@ use lib.ListN.{length-set}
 use borrow.Author.Tests.{lt-ltb, le-ltb, le-leb, lt-leb, eq-eqb, ne-eqb}
 use Rattle.fast.specs.Plans.{addressOf}
 use borrow.Author.Needs.{needs}
+use Rattle.fast.proofs.Ways.{address-way}
 use Rattle.fast.proofs.plans.address.Statement.{statement}
 use Rattle.fast.proofs.plans.address.Tie as tie
 use Rattle.fast.proofs.plans.address.Reads as reads
@@ -22,8 +23,7 @@ choose-requires : tie.Need-choose-requires
 choose-requires c κs = search needs
 
 returns-2 : tie.Need-returns-2
-unfolding addressOf
-returns-2 c = c .choose .ensures ∙ simp (eq-eqb _ _ (c .before .before .before .if1 .taken), c .before .before .if2 .left)
+returns-2 c = address-way _ _ (eq-eqb _ _ (c .before .before .before .if1 .taken)) (c .before .before .if2 .left) (c .before .stacks-next .ensures) (c .choose .ensures)
 
 returns-3 : tie.Need-returns-3
 unfolding addressOf

@@ -50,7 +50,7 @@ mul-t15 : tie.Need-mul-t15
 mul-t15 c = search needs
 
 add-t16 : tie.Need-add-t16
-add-t16 c = record { fits = omega (arith, format-small _ (c .before .choose4 .ensures)) }
+add-t16 c = record { fits = omega (arith, format-small (c .before .before .before .before .before .before .before .before .before .before .is-long .result) (c .before .choose4 .ensures)) }
 
 cycles-requires : tie.Need-cycles-requires
 cycles-requires c κs = search needs
@@ -65,7 +65,7 @@ choose-requires-6 : tie.Need-choose-requires-6
 choose-requires-6 c κs = search needs
 
 returns : tie.Need-returns
-returns c = entry-plan-way _ _ (c .before .before .before .before .before .before .before .before .before .before .before .before .before .before .before .before .before .is-long .ensures) (c .before .before .before .before .before .before .before .before .before .before .before .before .before .before .before .before .compose .ensures) (c .before .before .before .before .before .before .before .before .before .before .before .before .before .before .before .address .ensures) (c .before .before .before .before .before .before .before .before .before .before .before .before .before .before .choose8 .ensures) (c .before .before .before .before .before .before .before .before .before .before .before .before .before .choose82 .ensures) (c .before .before .before .before .before .before .before .before .before .before .before .before .choose .ensures) (c .before .before .before .before .before .before .before .before .before .before .before .choose2 .ensures) (c .before .before .before .before .before .before .before .before .before .choose3 .ensures) (c .before .before .before .before .before .before .before .before .choose4 .ensures) (c .before .before .before .before .before .before .cycles .ensures) (c .before .before .before .before .before .choose5 .ensures) (c .before .choose6 .ensures)
+returns c = entry-plan-way _ _ (c .before .before .before .before .before .before .before .before .before .before .before .before .before .before .before .before .is-long .ensures) (c .before .before .before .before .before .before .before .before .before .before .before .before .before .before .before .compose .ensures) (c .before .before .before .before .before .before .before .before .before .before .before .before .before .before .address .ensures) (c .before .before .before .before .before .before .before .before .before .before .before .before .before .choose8 .ensures) (c .before .before .before .before .before .before .before .before .before .before .before .before .choose82 .ensures) (c .before .before .before .before .before .before .before .before .before .before .before .choose .ensures) (c .before .before .before .before .before .before .before .before .before .before .choose2 .ensures) (c .before .before .before .before .before .before .before .before .choose3 .ensures) (c .before .before .before .before .before .before .before .choose4 .ensures) (c .before .before .before .before .before .cycles .ensures) (c .before .before .before .before .choose5 .ensures) (c .choose6 .ensures)
 
 pub entry-plan-spec : {M : Type 1} → statement M
 entry-plan-spec =

@@ -11,7 +11,6 @@ use Rattle.fast.proofs.plans.interrupt_plan.Lts as lts
 use Rattle.fast.proofs.places.choose.Reads as choose-reads
 use Rattle.fast.proofs.plans.choose8.Reads as choose8-reads
 use Rattle.fast.proofs.plans.response_to.Reads as response-to-reads
-use Rattle.pending.proofs.interrupts.less_cycles.Reads as less-cycles-reads
 use Rattle.status.proofs.compose.Reads as compose-reads
 use Rattle.steps.proofs.iack_vector.Reads as iack-vector-reads
 
@@ -46,10 +45,10 @@ choose-requires-3 : tie.Need-choose-requires-3
 choose-requires-3 c κs = search needs
 
 mul-t14 : tie.Need-mul-t14
-mul-t14 c = record { fits = omega (arith, vector-small (c .before .before .before .before .before .before .before .before .iack-vector .ensures)) }
+mul-t14 c = record { fits = omega (arith, vector-small _ _ (c .before .before .before .before .before .before .before .before .iack-vector .ensures)) }
 
 mul-choose : tie.Need-mul-choose
-mul-choose c = record { fits = omega (arith, vector-small (c .before .before .before .before .before .before .before .before .before .iack-vector .ensures)) }
+mul-choose c = record { fits = omega (arith, vector-small _ _ (c .before .before .before .before .before .before .before .before .before .iack-vector .ensures)) }
 
 choose-requires-4 : tie.Need-choose-requires-4
 choose-requires-4 c κs = search needs
@@ -60,11 +59,8 @@ choose-requires-5 c κs = search needs
 mul-t19 : tie.Need-mul-t19
 mul-t19 c = search needs
 
-less-cycles-requires : tie.Need-less-cycles-requires
-less-cycles-requires c κs = search needs
-
 returns : tie.Need-returns
-returns c = interrupt-plan-way _ (c .before .before .before .before .before .before .before .before .before .before .before .before .before .before .response-to .ensures) (c .before .before .before .before .before .before .before .before .before .before .before .before .before .iack-vector .ensures) (c .before .before .before .before .before .before .before .before .before .before .compose .ensures) (c .before .before .before .before .before .before .before .before .before .choose8 .ensures) (c .before .before .before .before .before .before .before .before .choose82 .ensures) (c .before .before .before .before .before .before .before .choose .ensures) (c .before .before .before .before .before .before .choose2 .ensures) (c .before .before .before .before .before .choose3 .ensures) (c .before .before .before .choose4 .ensures) (c .before .before .choose5 .ensures) (c .less-cycles .ensures)
+returns c = interrupt-plan-way _ (c .before .before .before .before .before .before .before .before .before .before .before .before .response-to .ensures) (c .before .before .before .before .before .before .before .before .before .before .before .iack-vector .ensures) (c .before .before .before .before .before .before .before .before .compose .ensures) (c .before .before .before .before .before .before .before .choose8 .ensures) (c .before .before .before .before .before .before .choose82 .ensures) (c .before .before .before .before .before .choose .ensures) (c .before .before .before .before .choose2 .ensures) (c .before .before .before .choose3 .ensures) (c .before .choose4 .ensures) (c .choose5 .ensures)
 
 pub interrupt-plan-spec : {M : Type 1} → statement M
 interrupt-plan-spec =
@@ -85,5 +81,4 @@ interrupt-plan-spec =
     choose-requires-4
     choose-requires-5
     mul-t19
-    less-cycles-requires
     returns)

@@ -9,7 +9,6 @@ use Rattle.fast.proofs.quiet.is_quiet.Tie as tie
 use Rattle.fast.proofs.quiet.is_quiet.Reads as reads
 use Rattle.fast.proofs.quiet.is_quiet.Lts as lts
 use Rattle.fast.proofs.plans.takes.Reads as takes-reads
-use Rattle.pending.proofs.interrupts.has_room.Reads as has-room-reads
 
 takes-requires : tie.Need-takes-requires
 takes-requires c κs = search needs
@@ -18,12 +17,9 @@ returns : tie.Need-returns
 unfolding isQuiet
 returns c = simp (eq-eqb _ _ (c .before .before .if1 .taken), sym (c .before .takes .ensures) ∙ c .if2 .taken)
 
-has-room-requires : tie.Need-has-room-requires
-has-room-requires c κs = search needs
-
 returns-2 : tie.Need-returns-2
 unfolding isQuiet
-returns-2 c = c .has-room .ensures ∙ simp (eq-eqb _ _ (c .before .before .before .before .if1 .taken), sym (c .before .before .before .takes .ensures) ∙ c .before .before .if2 .left)
+returns-2 c = simp (eq-eqb _ _ (c .before .before .if1 .taken), sym (c .before .takes .ensures) ∙ c .if2 .left)
 
 returns-3 : tie.Need-returns-3
 unfolding isQuiet
@@ -35,4 +31,4 @@ returns-4 c = simp (ne-eqb _ _ (c .before .before .if1 .left), lt-leb _ _ (c .if
 
 pub is-quiet-spec : {M : Type 1} → statement M
 is-quiet-spec =
-    tie.close (tie.spec takes-requires returns has-room-requires returns-2 returns-3 returns-4)
+    tie.close (tie.spec takes-requires returns returns-2 returns-3 returns-4)

@@ -4,6 +4,7 @@ use lib.ListN.{length-set}
 use borrow.Author.Tests.{lt-ltb, le-ltb, le-leb, lt-leb, eq-eqb, ne-eqb}
 use Rattle.fast.specs.Quiet.{quietOf}
 use borrow.Author.Needs.{needs}
+use Rattle.fast.proofs.Ways.{quiet-way-2, quiet-way-4}
 use Rattle.fast.proofs.quiet.patch_of.Statement.{statement}
 use Rattle.fast.proofs.quiet.patch_of.Tie as tie
 use Rattle.fast.proofs.quiet.patch_of.Reads as reads
@@ -31,8 +32,7 @@ still-requires-2 : tie.Need-still-requires-2
 still-requires-2 c κs = search needs
 
 returns-2 : tie.Need-returns-2
-unfolding quietOf
-returns-2 c = c .still2 .ensures ∙ simp (ne-eqb _ _ (c .before .before .before .before .before .if1 .left), eq-eqb _ _ (c .before .before .before .if2 .taken))
+returns-2 c = quiet-way-2 _ _ (ne-eqb _ _ (c .before .before .before .before .before .if1 .left)) (eq-eqb _ _ (c .before .before .before .if2 .taken)) (c .before .before .checks .ensures) (c .before .bit .ensures) (c .still2 .ensures)
 
 calm-requires : tie.Need-calm-requires
 calm-requires c κs = search needs
@@ -51,8 +51,7 @@ calm-requires-2 : tie.Need-calm-requires-2
 calm-requires-2 c κs = search needs
 
 returns-4 : tie.Need-returns-4
-unfolding quietOf
-returns-4 c = c .calm2 .ensures ∙ simp (ne-eqb _ _ (c .before .before .before .before .before .before .before .if1 .left), ne-eqb _ _ (c .before .before .before .before .before .if2 .left), ne-eqb _ _ (c .before .before .before .if3 .left))
+returns-4 c = quiet-way-4 _ _ (ne-eqb _ _ (c .before .before .before .before .before .before .before .if1 .left)) (ne-eqb _ _ (c .before .before .before .before .before .if2 .left)) (ne-eqb _ _ (c .before .before .before .if3 .left)) (c .before .before .asks .ensures) (c .before .bit2 .ensures) (c .calm2 .ensures)
 
 pub patch-of-spec : {M : Type 1} → statement M
 patch-of-spec =

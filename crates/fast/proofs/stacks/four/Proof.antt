@@ -3,6 +3,7 @@ use native.Mathlib.Omega.{arith}
 use lib.ListN.{length-set}
 use borrow.Author.Tests.{lt-ltb, le-ltb, le-leb, lt-leb, eq-eqb, ne-eqb}
 use Rattle.fast.specs.Stacks.{tape, fourAt}
+use Rattle.fast.proofs.Writes.{four-way}
 use borrow.Author.Needs.{needs}
 use Rattle.fast.proofs.stacks.four.Statement.{statement}
 use Rattle.fast.proofs.stacks.four.Tie as tie
@@ -34,8 +35,7 @@ same-length-2 : tie.Need-same-length-2
 same-length-2 c = search needs
 
 returns : tie.Need-returns
-unfolding tape fourAt
-returns c = cc (c .before .before .before .before .before .before .before .before .before .before .before .before .before .before .before .before .event .ensures, c .before .before .before .before .before .before .before .before .before .before .before .three .ensures, c .before .before .before .before .word .ensures)
+returns c = four-way _ _ _ _ _ _ _ _ (c .before .before .before .before .before .before .before .before .before .before .before .before .before .before .before .before .event .ensures) (c .before .before .before .before .before .before .before .before .before .before .before .three .ensures) (c .before .before .before .before .word .ensures)
 
 pub four-spec : {M : Type 1} → statement M
 four-spec =

@@ -3,6 +3,7 @@ use native.Mathlib.Omega.{arith}
 use lib.ListN.{length-set}
 use borrow.Author.Tests.{lt-ltb, le-ltb, le-leb, lt-leb, eq-eqb, ne-eqb}
 use Rattle.fast.specs.Stacks.{tape, longAt}
+use Rattle.fast.proofs.Writes.{long-way}
 use borrow.Author.Needs.{needs}
 use Rattle.fast.proofs.stacks.long.Statement.{statement}
 use Rattle.fast.proofs.stacks.long.Tie as tie
@@ -30,8 +31,7 @@ same-length-2 : tie.Need-same-length-2
 same-length-2 c = search needs
 
 returns : tie.Need-returns
-unfolding tape longAt
-returns c = cc (c .before .before .before .before .before .before .before .put-long .ensures, c .before .before .event .ensures)
+returns c = long-way _ _ _ _ _ _ _ _ (c .before .before .before .before .before .before .before .put-long .ensures) (c .before .before .event .ensures)
 
 pub long-spec : {M : Type 1} → statement M
 long-spec =

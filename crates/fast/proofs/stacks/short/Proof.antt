@@ -3,6 +3,7 @@ use native.Mathlib.Omega.{arith}
 use lib.ListN.{length-set}
 use borrow.Author.Tests.{lt-ltb, le-ltb, le-leb, lt-leb, eq-eqb, ne-eqb}
 use Rattle.fast.specs.Stacks.{tape, shortAt}
+use Rattle.fast.proofs.Writes.{short-way}
 use borrow.Author.Needs.{needs}
 use Rattle.fast.proofs.stacks.short.Statement.{statement}
 use Rattle.fast.proofs.stacks.short.Tie as tie
@@ -33,8 +34,7 @@ same-length-2 : tie.Need-same-length-2
 same-length-2 c = search needs
 
 returns : tie.Need-returns
-unfolding tape shortAt
-returns c = cc (c .before .before .before .before .before .before .before .before .before .before .before .before .before .before .before .before .before .before .word .ensures, c .before .before .before .before .before .before .before .before .before .before .before .long .ensures, c .before .before .before .before .word2 .ensures)
+returns c = short-way _ _ _ _ _ _ _ (c .before .before .before .before .before .before .before .before .before .before .before .before .before .before .before .before .before .before .word .ensures) (c .before .before .before .before .before .before .before .before .before .before .before .long .ensures) (c .before .before .before .before .word2 .ensures)
 
 pub short-spec : {M : Type 1} → statement M
 short-spec =

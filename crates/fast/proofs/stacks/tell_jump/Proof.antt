@@ -3,6 +3,7 @@ use native.Mathlib.Omega.{arith}
 use lib.ListN.{length-set}
 use borrow.Author.Tests.{lt-ltb, le-ltb, le-leb, lt-leb, eq-eqb, ne-eqb}
 use Rattle.fast.specs.Stacks.{jumpAt, jumpCount}
+use Rattle.fast.proofs.Writes.{jump-way, jump-way-2}
 use borrow.Author.Needs.{needs}
 use Rattle.fast.proofs.stacks.tell_jump.Statement.{statement}
 use Rattle.fast.proofs.stacks.tell_jump.Tie as tie
@@ -38,7 +39,7 @@ add-event-4 : tie.Need-add-event-4
 add-event-4 c = search needs
 
 add-event-5 : tie.Need-add-event-5
-add-event-5 c = search needs
+add-event-5 c = record { fits = c .before .before .before .before .before .before .before .before .before .before .before .before .before .before .before .before .before .before .before .before .before .pre .1 (c .before .before .before .before .before .before .before .before .before .before .before .if1 .taken) }
 
 cast-event-2 : tie.Need-cast-event-2
 cast-event-2 c = search needs
@@ -47,14 +48,13 @@ event-requires-5 : tie.Need-event-requires-5
 event-requires-5 c κs = search needs
 
 add-result : tie.Need-add-result
-add-result c = simp length-set (omega arith)
+add-result c = record { fits = omega (arith, c .before .before .before .before .before .before .before .before .before .before .before .before .before .before .before .before .before .before .before .before .before .before .before .before .before .pre .0) }
 
 same-length : tie.Need-same-length
 same-length c = search needs
 
 returns : tie.Need-returns
-unfolding jumpAt jumpCount
-returns c = (simp (sym (c .before .before .before .before .before .before .before .before .before .before .before .before .before .before .before .before .before .before .event2 .ensures) ∙ c .before .before .before .before .before .before .before .before .before .before .before .before .before .before .before .if1 .taken), omega arith)
+returns c = jump-way _ _ _ _ _ _ _ _ _ (c .before .before .before .before .before .before .before .before .before .before .before .before .before .before .before .if1 .taken) (c .before .before .before .before .before .before .before .before .before .before .before .before .before .before .before .before .before .before .before .before .before .before .event .ensures) (c .before .before .before .before .before .before .before .before .before .before .before .before .before .before .before .before .before .before .event2 .ensures) (c .before .before .before .before .before .before .before .before .before .before .before .before .event3 .ensures) (c .before .before .before .before .before .before .before .before .event4 .ensures) (c .before .before .event5 .ensures)
 
 add-result-2 : tie.Need-add-result-2
 add-result-2 c = search needs
@@ -63,8 +63,7 @@ same-length-2 : tie.Need-same-length-2
 same-length-2 c = search needs
 
 returns-2 : tie.Need-returns-2
-unfolding jumpAt jumpCount
-returns-2 c = (simp (sym (c .before .before .before .event2 .ensures) ∙ c .if1 .left), omega arith)
+returns-2 c = jump-way-2 _ _ _ _ _ _ (c .if1 .left) (c .before .before .before .before .before .before .before .event .ensures) (c .before .before .before .event2 .ensures)
 
 pub tell-jump-spec : {M : Type 1} → statement M
 tell-jump-spec =

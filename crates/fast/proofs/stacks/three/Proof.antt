@@ -3,6 +3,7 @@ use native.Mathlib.Omega.{arith}
 use lib.ListN.{length-set}
 use borrow.Author.Tests.{lt-ltb, le-ltb, le-leb, lt-leb, eq-eqb, ne-eqb}
 use Rattle.fast.specs.Stacks.{tape, threeAt}
+use Rattle.fast.proofs.Writes.{three-way}
 use borrow.Author.Needs.{needs}
 use Rattle.fast.proofs.stacks.three.Statement.{statement}
 use Rattle.fast.proofs.stacks.three.Tie as tie
@@ -32,8 +33,7 @@ same-length-2 : tie.Need-same-length-2
 same-length-2 c = search needs
 
 returns : tie.Need-returns
-unfolding tape threeAt
-returns c = cc (c .before .before .before .before .before .before .before .before .before .before .before .before .before .before .before .before .before .before .before .word .ensures, c .before .before .before .before .before .before .before .before .before .before .before .before .word2 .ensures, c .before .before .before .before .word3 .ensures)
+returns c = three-way _ _ _ _ _ _ _ (c .before .before .before .before .before .before .before .before .before .before .before .before .before .before .before .before .before .before .before .word .ensures) (c .before .before .before .before .before .before .before .before .before .before .before .before .word2 .ensures) (c .before .before .before .before .word3 .ensures)
 
 pub three-spec : {M : Type 1} → statement M
 three-spec =

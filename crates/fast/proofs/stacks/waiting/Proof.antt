@@ -3,6 +3,7 @@ use native.Mathlib.Omega.{arith}
 use lib.ListN.{length-set}
 use borrow.Author.Tests.{lt-ltb, le-ltb, le-leb, lt-leb, eq-eqb, ne-eqb}
 use Rattle.fast.specs.Stacks.{waitingOf}
+use Rattle.fast.proofs.Writes.{waiting-way, waiting-way-2}
 use borrow.Author.Needs.{needs}
 use Rattle.fast.proofs.stacks.waiting.Statement.{statement}
 use Rattle.fast.proofs.stacks.waiting.Tie as tie
@@ -18,12 +19,10 @@ wrapping-add-u32-requires : tie.Need-wrapping-add-u32-requires
 wrapping-add-u32-requires c κs = search needs
 
 returns : tie.Need-returns
-unfolding waitingOf
-returns c = simp (sym (c .before .before .fetches .ensures) ∙ c .before .if1 .taken)
+returns c = waiting-way _ _ _ _ (c .before .before .fetches .ensures) (c .before .if1 .taken) (c .wrapping-add-u32 .ensures)
 
 returns-2 : tie.Need-returns-2
-unfolding waitingOf
-returns-2 c = simp (sym (c .before .fetches .ensures) ∙ c .if1 .left)
+returns-2 c = waiting-way-2 _ _ _ (c .before .fetches .ensures) (c .if1 .left)
 
 pub waiting-spec : {M : Type 1} → statement M
 waiting-spec = tie.close (tie.spec fetches-requires wrapping-add-u32-requires returns returns-2)

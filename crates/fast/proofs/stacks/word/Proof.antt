@@ -3,6 +3,7 @@ use native.Mathlib.Omega.{arith}
 use lib.ListN.{length-set}
 use borrow.Author.Tests.{lt-ltb, le-ltb, le-leb, lt-leb, eq-eqb, ne-eqb}
 use Rattle.fast.specs.Stacks.{tape, wordAt}
+use Rattle.fast.proofs.Writes.{word-way}
 use borrow.Author.Needs.{needs}
 use Rattle.fast.proofs.stacks.word.Statement.{statement}
 use Rattle.fast.proofs.stacks.word.Tie as tie
@@ -30,8 +31,7 @@ same-length-2 : tie.Need-same-length-2
 same-length-2 c = search needs
 
 returns : tie.Need-returns
-unfolding tape wordAt
-returns c = cc (c .before .before .before .before .before .before .before .put-word .ensures, c .before .before .event .ensures)
+returns c = word-way _ _ _ _ _ _ _ _ (c .before .before .before .before .before .before .before .put-word .ensures) (c .before .before .event .ensures)
 
 pub word-spec : {M : Type 1} → statement M
 word-spec =
