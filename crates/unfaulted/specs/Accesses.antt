@@ -105,7 +105,7 @@ pub clocks-none : (c : Cpu) → clocksOf c ≡ 0 → setClocks c 0 ≡ c
 unfolding setClocks clocksOf
 clocks-none c h = ap (λ (n : ℕ). setClocks c n) (sym h)
 
-calm-has : (c : Cpu) → hasClocks (setClocks c 0) ≡ false
+pub calm-has : (c : Cpu) → hasClocks (setClocks c 0) ≡ false
 unfolding hasClocks setClocks
 calm-has c = refl
 
@@ -124,11 +124,11 @@ flush-closed b c e s l u = go (ltb 0 (c .queue .«pending_sync_clocks»)) refl
         rw (z, clocks-none c (let x = ltb-false 0 (c .queue .«pending_sync_clocks») h in omega arith))
 
 -- the sync of a record where none waits
-calm-flush : (b : Bus) (c : Cpu) (e : ℕ) (s l : List ℕ) → hasClocks c ≡ false → flush (closed b c e s l) ≡ closed b c e s l
+pub calm-flush : (b : Bus) (c : Cpu) (e : ℕ) (s l : List ℕ) → hasClocks c ≡ false → flush (closed b c e s l) ≡ closed b c e s l
 unfolding closed
 calm-flush b c e s l h = flush-none (closed b c e s l) h
 
-still-running : (c : Cpu) (n : ℕ) → isFaulted (setClocks c n) ≡ isFaulted c
+pub still-running : (c : Cpu) (n : ℕ) → isFaulted (setClocks c n) ≡ isFaulted c
 unfolding isFaulted setClocks
 still-running c n = refl
 

@@ -1,2 +1,4 @@
 pub mod Closed
+pub mod Lists
 pub mod Accesses
+pub mod Pushes
