@@ -8,10 +8,12 @@ use lib.Dec.{ltb}
 use lib.ListN.{length}
 use Rattle.types.specs.Kinds.{pick, maskAddress}
 use Rattle.cpu.specs.declared.Cpu.{Cpu}
-use Rattle.cpu.specs.Fields.{setWdata}
+use Rattle.cpu.specs.Fields.{setWdata, setPc, startVector}
+use Rattle.cpu.specs.Clocks.{firstWord, secondWord}
 use Rattle.memory.specs.declared.Core.{Core}
 use Rattle.memory.specs.declared.Bus.{Bus}
 use Rattle.memory.specs.Log.{noteLog, withEvents}
+use Rattle.memory.specs.Bytes.{getWord, getLong}
 use Rattle.memory.specs.World.{World, widthOf}
 use Rattle.memory.specs.ByteLaws.{put}
 use Rattle.memory.specs.LogLaws.{Event}
@@ -76,3 +78,21 @@ pub record Room (b : Bus) (k len a n : ℕ) : Type 0 where
 unfoldable pub Within : ℕ → List Piece → Type 0
 Within n [] = Unit {0}
 Within n (x ∷ xs) = (x .offset % 2 ≡ 0) × (x .offset + widthOf (x .long) ≤ n) × Within n xs
+
+-- the events of a jump: the release, the vector's long at a, and where words are fetched the first, 2 clocks, and the second
+unfoldable pub jumpEvents : Bool → ℕ → ℕ → ℕ → ℕ → ℕ → List Event
+jumpEvents fetches a to q x y = event 7 0 0 ∷ event 2 a to ∷ pick fetches (event 1 q x ∷ event 5 0 2 ∷ event 1 (q + 2) y ∷ []) []
+
+-- the record after a jump: vector v kept, PC at the handler, and the two words in the queue where they are fetched
+unfoldable pub jumped : Bool → Cpu → ℕ → ℕ → ℕ → ℕ → Cpu
+jumped fetches c v to x y = pick fetches (secondWord (firstWord (setPc (startVector c v) to) (x % 0x10000)) (y % 0x10000)) (setPc (startVector c v) to)
+
+-- the jump to vector v reads its long at a, which says `to`, and where words are fetched x and y at q
+pub record Landing (b : Bus) (k vbr : ℕ) (fetches : Bool) (s : List ℕ) (v a to q x y : ℕ) : Type 0 where
+  pub vector : maskAddress k ((v % 0x40000000 * 4 + vbr) % 2 ^ 32) ≡ a
+  pub vector-room : Room b k (length s) a 4
+  pub handler : getLong s (a - b .base) ≡ to
+  pub queue : fetches ≡ true → maskAddress k to ≡ q
+  pub queue-room : fetches ≡ true → Room b k (length s) q 4
+  pub first : fetches ≡ true → getWord s (q - b .base) ≡ x
+  pub second : fetches ≡ true → getWord s (q - b .base + 2) ≡ y

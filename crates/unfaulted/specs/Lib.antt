@@ -2,3 +2,4 @@ pub mod Closed
 pub mod Lists
 pub mod Accesses
 pub mod Pushes
+pub mod Jumps
