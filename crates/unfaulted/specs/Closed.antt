@@ -1,20 +1,21 @@
 -- The words in which an entry is told in full where nothing is refused and nothing faults: which events are logged, which bytes are laid
 -- into the store, and what must be known of the numbers before.
-use Prim.Native.Nat.{ℕ, zero, suc, _+_, _-_, _*_, _%_, _^_, _≤_, _<_}
+use Prim.Native.Nat.{ℕ, zero, suc, _+_, _-_, _*_, _/_, _%_, _^_, _≤_, _<_}
 use mathlib.Core.Path.{_≡_}
 use mathlib.Core.Bool.{Bool, true, false}
-use mathlib.Core.List.{List, [], _∷_}
+use mathlib.Core.List.{List, [], _∷_, _++_}
 use lib.Dec.{ltb}
 use lib.ListN.{length}
 use Rattle.types.specs.Kinds.{pick, maskAddress}
 use Rattle.cpu.specs.declared.Cpu.{Cpu}
-use Rattle.cpu.specs.Fields.{setWdata, setPc, startVector}
-use Rattle.cpu.specs.Clocks.{firstWord, secondWord}
+use Rattle.cpu.specs.Fields.{kindOf, vbrOf, a7Of, isFaulted, setA7, setWdata, setPc, startVector}
+use Rattle.cpu.specs.Clocks.{prefetchEnabled, clocksOf, setClocks, firstWord, secondWord}
 use Rattle.memory.specs.declared.Core.{Core}
 use Rattle.memory.specs.declared.Bus.{Bus}
 use Rattle.memory.specs.Log.{noteLog, withEvents}
 use Rattle.memory.specs.Bytes.{getWord, getLong}
 use Rattle.memory.specs.World.{World, widthOf}
+use Rattle.memory.specs.Runs.{Apart}
 use Rattle.memory.specs.ByteLaws.{put}
 use Rattle.memory.specs.LogLaws.{Event}
 use Rattle.memory.specs.AccessLaws.{writeCode, kept}
@@ -96,3 +97,43 @@ pub record Landing (b : Bus) (k vbr : ℕ) (fetches : Bool) (s : List ℕ) (v a 
   pub queue-room : fetches ≡ true → Room b k (length s) q 4
   pub first : fetches ≡ true → getWord s (q - b .base) ≡ x
   pub second : fetches ≡ true → getWord s (q - b .base + 2) ≡ y
+
+-- the value of the last piece
+unfoldable pub lastValue : List Piece → ℕ
+lastValue [] = 0
+lastValue (x ∷ []) = x .value
+lastValue (x ∷ y ∷ zs) = lastValue (y ∷ zs)
+
+-- the world after a frame at q: the clocks that waited are told first, A7 is q, and the data of the last write is kept
+unfoldable pub stacked : Bus → Cpu → ℕ → List ℕ → List ℕ → ℕ → List Piece → World
+stacked b c e s l q ps =
+    closed b (setWdata (setA7 (setClocks c 0) q) (lastValue ps)) (e + length (clockEvents (clocksOf c) ++ writesOf q ps)) (laid s (q - b .base) ps)
+    (told e l (clockEvents (clocksOf c) ++ writesOf q ps))
+
+-- the pieces of the frames of exceptions that are no errors, in the order of their writes: format 0 or 1, 2, 4; the 68000's three words;
+-- the four words of an interrupt on the 68010
+unfoldable pub shortPieces : ℕ → ℕ → ℕ → List Piece
+shortPieces sr pc format = wordAt 6 format ∷ longAt 2 pc ∷ wordAt 0 sr ∷ []
+
+unfoldable pub longPieces : ℕ → ℕ → ℕ → ℕ → List Piece
+longPieces sr pc format extra = longAt 8 extra ∷ shortPieces sr pc format
+
+unfoldable pub disabledPieces : ℕ → ℕ → ℕ → ℕ → ℕ → List Piece
+disabledPieces sr pc format ea extra = longAt 12 extra ∷ longPieces sr pc format ea
+
+unfoldable pub threePieces : ℕ → ℕ → List Piece
+threePieces sr pc = wordAt 4 (pc % 0x10000) ∷ wordAt 0 sr ∷ wordAt 2 (pc / 0x10000) ∷ []
+
+unfoldable pub fourPieces : ℕ → ℕ → ℕ → List Piece
+fourPieces sr pc format = wordAt 4 (pc % 0x10000) ∷ wordAt 0 sr ∷ wordAt 2 (pc / 0x10000) ∷ wordAt 6 format ∷ []
+
+-- what an entry with a frame of n bytes at q asks: the record c, in supervisor state, is not faulted, its A7 is the end of the frame, nothing
+-- refuses the frame or the reads of the jump, and these lie apart from the frame
+pub record Entering (b : Bus) (c : Cpu) (s : List ℕ) (n v q a to at x y : ℕ) : Type 0 where
+  pub running : isFaulted c ≡ false
+  pub registers : 15 < length (c .regs .dar)
+  pub stack : a7Of c ≡ q + n
+  pub room : Room b (kindOf c) (length s) q n
+  pub landing : Landing b (kindOf c) (vbrOf c) (prefetchEnabled c) s v a to at x y
+  pub vector-apart : Apart q n a 4
+  pub queue-apart : prefetchEnabled c ≡ true → Apart q n at 4

@@ -3,3 +3,4 @@ pub mod Lists
 pub mod Accesses
 pub mod Pushes
 pub mod Jumps
+pub mod Stacks

@@ -1,0 +1,130 @@
+-- The frames of exceptions that are no errors, in closed form, and the jump after a frame.
+use Prim.Native.Nat.{ℕ, zero, suc, _+_, _-_, _*_, _/_, _%_, _^_, _≤_, _<_}
+use mathlib.Core.Path.{_≡_, refl, sym, ap, _∙_}
+use mathlib.Core.Bool.{Bool, true, false}
+use mathlib.Core.Logic.{_⊎_, inl, inr}
+use mathlib.Core.List.{List, [], _∷_, _++_}
+use native.Mathlib.Omega.{arith}
+use lib.Dec.{eqb, ltb, lit≤}
+use lib.ListN.{length, getD, set, replicate, length-append}
+use lib.Seq.{getD-set-same}
+use Rattle.types.specs.Kinds.{pick, maskAddress}
+use Rattle.cpu.specs.declared.Cpu.{Cpu}
+use Rattle.cpu.specs.Fields.{kindOf, vbrOf, a7Of, isFaulted, setWdata, setA7, lowerA7}
+use Rattle.cpu.specs.Clocks.{hasClocks, clocksOf, setClocks, prefetchEnabled}
+use Rattle.memory.specs.declared.Core.{Core}
+use Rattle.memory.specs.declared.Bus.{Bus}
+use Rattle.memory.specs.Log.{noteLog}
+use Rattle.memory.specs.Bytes.{getWord, getLong}
+use Rattle.memory.specs.Runs.{Apart}
+use Rattle.memory.specs.World.{World, putCpu, widthOf, cpuOf, step, withCpu}
+use Rattle.memory.specs.LogLaws.{Event}
+use Rattle.frames.specs.declared.Field.{Field}
+use Rattle.frames.specs.declared.Frame.{Frame}
+use Rattle.frames.specs.Frames.{fieldAt, word, long}
+use Rattle.access.specs.Access.{Raise, writeAt, pushFields, pushFrame, shortWrites, pushExceptionFrame68000, jumpVector}
+use Rattle.formats.specs.Formats.{shortFrame, longFrame, disabledFrame}
+use Rattle.unfaulted.specs.Closed.{closed, event, told, Piece, wordAt, longAt, laid, writesOf, lastOf, lastValue, clockEvents, stacked, shortPieces, longPieces, disabledPieces, threePieces, fourPieces, Room, Within, Landing, Entering, jumped, jumpEvents}
+use Rattle.unfaulted.specs.Lists.{told-append, length-writes, clocks-small, laid-length, laid-other}
+use Rattle.unfaulted.specs.Pushes.{writeAll, writes-closed, frame-closed, joined, offsetOf, piecesOf, Guarded, lower-to, length-pieces}
+use Rattle.unfaulted.specs.Jumps.{jump-closed}
+
+over : (c : Cpu) (v u : ℕ) → setWdata (setWdata c v) u ≡ setWdata c u
+unfolding setWdata
+over c v u = refl
+
+-- the record keeps the value of the last piece
+pub last-kept : (c : Cpu) (x : Piece) (xs : List Piece) → lastOf c (x ∷ xs) ≡ setWdata c (lastValue (x ∷ xs))
+unfolding lastOf lastValue
+last-kept c x [] = refl
+last-kept c x (y ∷ ys) = last-kept (setWdata c (x .value)) y ys ∙ over c (x .value) (lastValue (y ∷ ys))
+
+a7-wdata : (c : Cpu) (q v : ℕ) → setA7 (setWdata c v) q ≡ setWdata (setA7 c q) v
+unfolding setA7 setWdata
+a7-wdata c q v = refl
+
+-- a frame of k + 1 guarded fields
+pub frame-stacked : (t : Raise) (b : Bus) (c : Cpu) (e : ℕ) (s l : List ℕ) (f : Frame) (k q : ℕ) (x : Piece) (xs : List Piece) → piecesOf f (suc k) ≡ x ∷ xs → Guarded f (suc k) → 15 < length (c .regs .dar)
+    → isFaulted c ≡ false → a7Of c ≡ q + offsetOf f (suc k) → Room b (kindOf c) (length s) q (offsetOf f (suc k)) → e + 1 + suc k < 2 ^ 32
+    → pushFields t (closed b c e s l) f (suc k) ≡ stacked b c e s l q (x ∷ xs)
+unfolding stacked
+frame-stacked t b c e s l f k q x xs p g h j a r u =
+    (rw p at (frame-closed f k t b c e s l q g h j a r u)) ∙ rw (last-kept (setClocks c 0) x xs, a7-wdata (setClocks c 0) q (lastValue (x ∷ xs)))
+
+module _ (t : Raise) (b : Bus) (c : Cpu) (e : ℕ) (s l : List ℕ) (q : ℕ) (regs : 15 < length (c .regs .dar)) (run : isFaulted c ≡ false) (u : e + 8 < 2 ^ 32) where
+  -- 8 bytes: format 0 or 1
+  pub short-stacked : (sr pc format : ℕ) → a7Of c ≡ q + 8 → Room b (kindOf c) (length s) q 8 → pushFrame t (closed b c e s l) (shortFrame sr pc format) ≡ stacked b c e s l q (shortPieces sr pc format)
+  unfolding pushFrame shortFrame shortPieces fieldAt offsetOf piecesOf Guarded
+  short-stacked sr pc format a r =
+      frame-stacked t b c e s l (shortFrame sr pc format) 2 q (wordAt 6 format) (longAt 2 pc ∷ wordAt 0 sr ∷ []) refl (refl, (refl, (refl, tt))) regs run a r (omega arith)
+
+  -- 12 bytes: format 2
+  pub long-stacked : (sr pc format extra : ℕ) → a7Of c ≡ q + 12 → Room b (kindOf c) (length s) q 12 → pushFrame t (closed b c e s l) (longFrame sr pc format extra) ≡ stacked b c e s l q (longPieces sr pc format extra)
+  unfolding pushFrame longFrame longPieces shortPieces fieldAt offsetOf piecesOf Guarded
+  long-stacked sr pc format extra a r =
+      frame-stacked t b c e s l (longFrame sr pc format extra) 3 q (longAt 8 extra) (shortPieces sr pc format) refl (refl, (refl, (refl, (refl, tt)))) regs run a r (omega arith)
+
+  -- 16 bytes: format 4
+  pub disabled-stacked : (sr pc format ea extra : ℕ) → a7Of c ≡ q + 16 → Room b (kindOf c) (length s) q 16
+      → pushFrame t (closed b c e s l) (disabledFrame sr pc format ea extra) ≡ stacked b c e s l q (disabledPieces sr pc format ea extra)
+  unfolding pushFrame disabledFrame disabledPieces longPieces shortPieces fieldAt offsetOf piecesOf Guarded
+  disabled-stacked sr pc format ea extra a r =
+      frame-stacked t b c e s l (disabledFrame sr pc format ea extra) 4 q (longAt 12 extra) (longPieces sr pc format ea) refl (refl, (refl, (refl, (refl, (refl, tt))))) regs run a r (omega arith)
+
+lower-step : (t : Raise) (b : Bus) (c : Cpu) (e : ℕ) (s l : List ℕ) (pc sr : ℕ) → pushExceptionFrame68000 t (closed b c e s l) pc sr ≡ shortWrites t (closed b (lowerA7 c 6) e s l) (a7Of (lowerA7 c 6)) pc sr
+unfolding pushExceptionFrame68000 closed putCpu
+lower-step t b c e s l pc sr = refl
+
+three-writes : (t : Raise) (w : World) (q sr pc : ℕ) → q + 6 ≤ 2 ^ 32 → shortWrites t w q pc sr ≡ writeAll t w q (threePieces sr pc)
+unfolding shortWrites writeAll threePieces
+three-writes t w q sr pc h =
+    let x : (q + 4) % 2 ^ 32 ≡ q + 4 = omega arith in
+    let y : (q + 2) % 2 ^ 32 ≡ q + 2 = omega arith in
+    let z : q + 0 ≡ q = omega arith in
+    rw (x, y, z)
+
+three-within : (sr pc : ℕ) → Within 6 (threePieces sr pc)
+unfolding Within threePieces
+three-within sr pc = (refl, omega arith, (refl, omega arith, (refl, omega arith, tt)))
+
+module _ (c : Cpu) (q : ℕ) where
+  at-running : isFaulted (setA7 c q) ≡ isFaulted c
+  unfolding isFaulted setA7
+  at-running = refl
+
+  at-kind : kindOf (setA7 c q) ≡ kindOf c
+  unfolding kindOf setA7
+  at-kind = refl
+
+  at-clocks : clocksOf (setA7 c q) ≡ clocksOf c
+  unfolding clocksOf setA7
+  at-clocks = refl
+
+  at-calm : setClocks (setA7 c q) 0 ≡ setA7 (setClocks c 0) q
+  unfolding setClocks setA7
+  at-calm = refl
+
+  a7-at : 15 < length (c .regs .dar) → a7Of (setA7 c q) ≡ q
+  unfolding a7Of setA7
+  a7-at h = getD-set-same (c .regs .dar) 15 q 0 h
+
+-- pieces written one by one at A7: the frame is there
+pub writes-stacked : (t : Raise) (b : Bus) (c : Cpu) (e : ℕ) (s l : List ℕ) (q n : ℕ) (x : Piece) (xs : List Piece) → isFaulted c ≡ false → Room b (kindOf c) (length s) q n → Within n (x ∷ xs)
+    → e + 1 + length (x ∷ xs) < 2 ^ 32 → writeAll t (closed b (setA7 c q) e s l) q (x ∷ xs) ≡ stacked b c e s l q (x ∷ xs)
+unfolding stacked
+writes-stacked t b c e s l q n x xs h r w u =
+    writes-closed x xs t b (setA7 c q) e s l q n (at-running c q ∙ h) (rw (at-kind c q) r) w u
+    ∙ rw (at-clocks c q, last-kept (setClocks (setA7 c q) 0) x xs, at-calm c q)
+
+-- the 68000's 6 bytes
+pub three-stacked : (t : Raise) (b : Bus) (c : Cpu) (e : ℕ) (s l : List ℕ) (q sr pc : ℕ) → 15 < length (c .regs .dar) → isFaulted c ≡ false → e + 8 < 2 ^ 32 → a7Of c ≡ q + 6 → Room b (kindOf c) (length s) q 6
+    → pushExceptionFrame68000 t (closed b c e s l) pc sr ≡ stacked b c e s l q (threePieces sr pc)
+unfolding threePieces
+three-stacked t b c e s l q sr pc g h u a r =
+    let top : q + 6 ≤ 2 ^ 32 = r .top in
+    let z : lowerA7 c 6 ≡ setA7 c q = lower-to c q 6 a (omega arith) (omega arith) in
+    lower-step t b c e s l pc sr
+    ∙ ap (λ (m : Cpu). shortWrites t (closed b m e s l) (a7Of m) pc sr) z
+    ∙ ap (λ (p : ℕ). shortWrites t (closed b (setA7 c q) e s l) p pc sr) (a7-at c q g)
+    ∙ three-writes t (closed b (setA7 c q) e s l) q sr pc top
+    ∙ writes-stacked t b c e s l q 6 (wordAt 4 (pc % 0x10000)) (wordAt 0 sr ∷ wordAt 2 (pc / 0x10000) ∷ []) h r (three-within sr pc) (omega arith)
