@@ -4,9 +4,9 @@ use Prim.Native.Nat.{ℕ, zero, suc, _+_, _-_, _*_, _/_, _%_, _^_, _≤_, _<_}
 use mathlib.Core.Path.{_≡_}
 use mathlib.Core.Bool.{Bool, true, false}
 use mathlib.Core.List.{List, [], _∷_, _++_}
-use lib.Dec.{ltb}
+use lib.Dec.{eqb, ltb}
 use lib.ListN.{length}
-use Rattle.types.specs.Kinds.{pick, maskAddress}
+use Rattle.types.specs.Kinds.{pick, isPre68020, maskAddress}
 use Rattle.cpu.specs.declared.Cpu.{Cpu}
 use Rattle.cpu.specs.Fields.{kindOf, vbrOf, a7Of, isFaulted, setA7, setWdata, setPc, startVector}
 use Rattle.cpu.specs.Clocks.{prefetchEnabled, clocksOf, setClocks, firstWord, secondWord}
@@ -19,6 +19,7 @@ use Rattle.memory.specs.Runs.{Apart}
 use Rattle.memory.specs.ByteLaws.{put}
 use Rattle.memory.specs.LogLaws.{Event}
 use Rattle.memory.specs.AccessLaws.{writeCode, kept}
+use Rattle.formats.specs.Formats.{formatWord, offsetWord}
 
 -- the world of bus b after e events, with record c, store s and log l
 unfoldable pub closed : Bus → Cpu → ℕ → List ℕ → List ℕ → World
@@ -137,3 +138,31 @@ pub record Entering (b : Bus) (c : Cpu) (s : List ℕ) (n v q a to at x y : ℕ)
   pub landing : Landing b (kindOf c) (vbrOf c) (prefetchEnabled c) s v a to at x y
   pub vector-apart : Apart q n a 4
   pub queue-apart : prefetchEnabled c ≡ true → Apart q n at 4
+
+-- all events of an entry: k clocks that waited, the frame, the jump
+unfoldable pub entryEvents : ℕ → ℕ → List Piece → Bool → ℕ → ℕ → ℕ → ℕ → ℕ → List Event
+entryEvents k q ps fetches a to at x y = (clockEvents k ++ writesOf q ps) ++ jumpEvents fetches a to at x y
+
+-- the world after the frame and the jump, from a record c in supervisor state with k clocks to tell
+unfoldable pub arrived : Bus → Cpu → ℕ → ℕ → List ℕ → List ℕ → ℕ → List Piece → Bool → ℕ → ℕ → ℕ → ℕ → ℕ → ℕ → World
+arrived b c k e s l q ps fetches v a to at x y =
+    closed b (jumped fetches (setWdata (setA7 (setClocks c 0) q) (lastValue ps)) v to x y) (e + length (entryEvents k q ps fetches a to at x y))
+    (laid s (q - b .base) ps) (told e l (entryEvents k q ps fetches a to at x y))
+
+-- the clocks that wait after n more: none is added without a queue
+unfoldable pub clocksAfter : Cpu → ℕ → ℕ
+clocksAfter c n = pick (prefetchEnabled c) ((clocksOf c + n) % 2 ^ 32) (clocksOf c)
+
+-- the short frame of kind k: its bytes and its pieces
+unfoldable pub shortBytes : ℕ → ℕ
+shortBytes k = pick (eqb k 1) 6 8
+
+unfoldable pub shortOf : ℕ → ℕ → ℕ → ℕ → List Piece
+shortOf k sr pc format = pick (eqb k 1) (threePieces sr pc) (shortPieces sr pc format)
+
+-- the frame of a group 2 exception: format 2 with the instruction's own address from the 68020 on
+unfoldable pub group2Bytes : ℕ → ℕ
+group2Bytes k = pick (isPre68020 k) (shortBytes k) 12
+
+unfoldable pub group2Of : ℕ → ℕ → ℕ → ℕ → ℕ → List Piece
+group2Of k sr pc ppc v = pick (isPre68020 k) (shortOf k sr pc (offsetWord v)) (longPieces sr pc (formatWord 2 v) ppc)

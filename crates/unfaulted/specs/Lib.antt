@@ -4,3 +4,4 @@ pub mod Accesses
 pub mod Pushes
 pub mod Jumps
 pub mod Stacks
+pub mod Entries

@@ -24,7 +24,7 @@ use Rattle.frames.specs.declared.Frame.{Frame}
 use Rattle.frames.specs.Frames.{fieldAt, word, long}
 use Rattle.access.specs.Access.{Raise, writeAt, pushFields, pushFrame, shortWrites, pushExceptionFrame68000, jumpVector}
 use Rattle.formats.specs.Formats.{shortFrame, longFrame, disabledFrame}
-use Rattle.unfaulted.specs.Closed.{closed, event, told, Piece, wordAt, longAt, laid, writesOf, lastOf, lastValue, clockEvents, stacked, shortPieces, longPieces, disabledPieces, threePieces, fourPieces, Room, Within, Landing, Entering, jumped, jumpEvents}
+use Rattle.unfaulted.specs.Closed.{closed, event, told, Piece, wordAt, longAt, laid, writesOf, lastOf, lastValue, clockEvents, stacked, shortPieces, longPieces, disabledPieces, threePieces, fourPieces, Room, Within, Landing, Entering, jumped, jumpEvents, entryEvents, arrived}
 use Rattle.unfaulted.specs.Lists.{told-append, length-writes, clocks-small, laid-length, laid-other}
 use Rattle.unfaulted.specs.Pushes.{writeAll, writes-closed, frame-closed, joined, offsetOf, piecesOf, Guarded, lower-to, length-pieces}
 use Rattle.unfaulted.specs.Jumps.{jump-closed}
@@ -83,7 +83,7 @@ three-writes t w q sr pc h =
     let z : q + 0 ≡ q = omega arith in
     rw (x, y, z)
 
-three-within : (sr pc : ℕ) → Within 6 (threePieces sr pc)
+pub three-within : (sr pc : ℕ) → Within 6 (threePieces sr pc)
 unfolding Within threePieces
 three-within sr pc = (refl, omega arith, (refl, omega arith, (refl, omega arith, tt)))
 
@@ -128,3 +128,69 @@ three-stacked t b c e s l q sr pc g h u a r =
     ∙ ap (λ (p : ℕ). shortWrites t (closed b (setA7 c q) e s l) p pc sr) (a7-at c q g)
     ∙ three-writes t (closed b (setA7 c q) e s l) q sr pc top
     ∙ writes-stacked t b c e s l q 6 (wordAt 4 (pc % 0x10000)) (wordAt 0 sr ∷ wordAt 2 (pc / 0x10000) ∷ []) h r (three-within sr pc) (omega arith)
+
+-- ---- the jump after a frame
+
+apart-places : (base q n a m : ℕ) → base ≤ q → base ≤ a → Apart q n a m → Apart (q - base) n (a - base) m
+apart-places base q n a m l k (inl h) = inl (omega arith)
+apart-places base q n a m l k (inr h) = inr (omega arith)
+
+halves : (p n a : ℕ) → Apart p n a 4 → (Apart p n a 2) × (Apart p n (a + 2) 2)
+halves p n a (inl h) = (inl (omega arith), inl (omega arith))
+halves p n a (inr h) = (inr (omega arith), inr (omega arith))
+
+-- reads that lie apart from a frame are the same before it and after it
+pub landing-laid : (b : Bus) (k vbr : ℕ) (f : Bool) (s : List ℕ) (v a to at x y q n : ℕ) (ps : List Piece) → Landing b k vbr f s v a to at x y → Room b k (length s) q n → Within n ps
+    → Apart q n a 4 → (f ≡ true → Apart q n at 4) → Landing b k vbr f (laid s (q - b .base) ps) v a to at x y
+landing-laid b k vbr f s v a to at x y q n ps h r w d g =
+    let p : ℕ = q - b .base in
+    record {
+      vector = h .vector;
+      vector-room = rw (laid-length ps s p) (h .vector-room);
+      handler = laid-other ps true s p n (a - b .base) w (apart-places (b .base) q n a 4 (r .low) (h .vector-room .low) d) ∙ h .handler;
+      queue = h .queue;
+      queue-room = λ i. rw (laid-length ps s p) (h .queue-room i);
+      first = λ i. laid-other ps false s p n (at - b .base) w (halves p n (at - b .base) (apart-places (b .base) q n at 4 (r .low) (h .queue-room i .low) (g i)) .0) ∙ h .first i;
+      second = λ i. laid-other ps false s p n (at - b .base + 2) w (halves p n (at - b .base) (apart-places (b .base) q n at 4 (r .low) (h .queue-room i .low) (g i)) .1) ∙ h .second i;
+    }
+
+module _ (c : Cpu) (q m : ℕ) where
+  -- the record after a frame
+  abbrev framed : Cpu
+  framed = setWdata (setA7 (setClocks c 0) q) m
+
+  framed-running : isFaulted framed ≡ isFaulted c
+  unfolding isFaulted setWdata setA7 setClocks
+  framed-running = refl
+
+  framed-clocks : clocksOf framed ≡ 0
+  unfolding clocksOf setWdata setA7 setClocks
+  framed-clocks = refl
+
+  framed-kind : kindOf framed ≡ kindOf c
+  unfolding kindOf setWdata setA7 setClocks
+  framed-kind = refl
+
+  framed-vbr : vbrOf framed ≡ vbrOf c
+  unfolding vbrOf setWdata setA7 setClocks
+  framed-vbr = refl
+
+  framed-on : prefetchEnabled framed ≡ prefetchEnabled c
+  unfolding prefetchEnabled setWdata setA7 setClocks
+  framed-on = refl
+
+-- the jump after a frame that starts at q
+pub jump-stacked : (t : Raise) (b : Bus) (c : Cpu) (e : ℕ) (s l : List ℕ) (n v q a to at x y : ℕ) (ps : List Piece) → Entering b c s n v q a to at x y → Within n ps → e + length ps + 6 < 2 ^ 32
+    → jumpVector t (stacked b c e s l q ps) v ≡ arrived b c (clocksOf c) e s l q ps (prefetchEnabled c) v a to at x y
+unfolding stacked arrived entryEvents
+jump-stacked t b c e s l n v q a to at x y ps h w u =
+    let f : Bool = prefetchEnabled c in
+    let d : Cpu = framed c q (lastValue ps) in
+    let xs : List Event = clockEvents (clocksOf c) ++ writesOf q ps in
+    let few : length (clockEvents (clocksOf c)) ≤ 1 = clocks-small (clocksOf c) in
+    let many : length xs ≡ length (clockEvents (clocksOf c)) + length ps = length-append (clockEvents (clocksOf c)) (writesOf q ps) ∙ ap (λ (i : ℕ). length (clockEvents (clocksOf c)) + i) (length-writes q ps) in
+    let r = landing-laid b (kindOf c) (vbrOf c) f s v a to at x y q n ps (h .landing) (h .room) w (h .vector-apart) (h .queue-apart) in
+    (rw (framed-on c q (lastValue ps)) at
+    (jump-closed t b d (e + length xs) (laid s (q - b .base) ps) (told e l xs) v a to at x y (framed-running c q (lastValue ps) ∙ h .running) (framed-clocks c q (lastValue ps))
+    (rw (framed-kind c q (lastValue ps), framed-vbr c q (lastValue ps), framed-on c q (lastValue ps)) r) (omega arith)))
+    ∙ joined b (jumped f d v to x y) e (laid s (q - b .base) ps) l xs (jumpEvents f a to at x y)
