@@ -60,3 +60,147 @@ alike-entering b c d s n v q a to at x y k h =
       vector-apart = h .vector-apart;
       queue-apart = rw (k .fetches) (h .queue-apart);
     }
+
+-- ---- the frames of an entry
+
+short-within : (sr pc format : ℕ) → Within 8 (shortPieces sr pc format)
+unfolding Within shortPieces
+short-within sr pc format = (refl, omega arith, (refl, omega arith, (refl, omega arith, tt)))
+
+long-within : (sr pc format extra : ℕ) → Within 12 (longPieces sr pc format extra)
+unfolding Within longPieces shortPieces
+long-within sr pc format extra = (refl, omega arith, (refl, omega arith, (refl, omega arith, (refl, omega arith, tt))))
+
+disabled-within : (sr pc format ea extra : ℕ) → Within 16 (disabledPieces sr pc format ea extra)
+unfolding Within disabledPieces longPieces shortPieces
+disabled-within sr pc format ea extra = (refl, omega arith, (refl, omega arith, (refl, omega arith, (refl, omega arith, (refl, omega arith, tt)))))
+
+three-few : (sr pc : ℕ) → length (threePieces sr pc) ≤ 5
+unfolding threePieces
+three-few sr pc = omega arith
+
+short-few : (sr pc format : ℕ) → length (shortPieces sr pc format) ≤ 5
+unfolding shortPieces
+short-few sr pc format = omega arith
+
+long-few : (sr pc format extra : ℕ) → length (longPieces sr pc format extra) ≤ 5
+unfolding longPieces shortPieces
+long-few sr pc format extra = omega arith
+
+disabled-few : (sr pc format ea extra : ℕ) → length (disabledPieces sr pc format ea extra) ≤ 5
+unfolding disabledPieces longPieces shortPieces
+disabled-few sr pc format ea extra = omega arith
+
+-- a frame that is laid whole at the start of its bytes, with 5 pieces at most
+pub record Frames (b : Bus) (c : Cpu) (e : ℕ) (s l : List ℕ) (w : World) (n q : ℕ) (ps : List Piece) : Type 0 where
+  pub world : w ≡ stacked b c e s l q ps
+  pub within : Within n ps
+  pub few : length ps ≤ 5
+
+short-step : (b : Bus) (d : Cpu) (e : ℕ) (s l : List ℕ) (pc format : ℕ)
+    → stackShort (closed b d e s l) pc format ≡ pick (eqb (kindOf d) 1) (pushExceptionFrame68000 raised (closed b (enterSupervisor d) e s l) pc (getSr d)) (pushFrame raised (closed b (enterSupervisor d) e s l) (shortFrame (getSr d) pc format))
+unfolding stackShort closed putCpu
+short-step b d e s l pc format = refl
+
+short-frames : (b : Bus) (d : Cpu) (e : ℕ) (s l : List ℕ) (pc format v q a to at x y : ℕ) → Entering b (enterSupervisor d) s (shortBytes (kindOf d)) v q a to at x y → e + 8 < 2 ^ 32
+    → Frames b (enterSupervisor d) e s l (stackShort (closed b d e s l) pc format) (shortBytes (kindOf d)) q (shortOf (kindOf d) (getSr d) pc format)
+unfolding shortBytes shortOf
+short-frames b d e s l pc format v q a to at x y h u = rw (short-step b d e s l pc format) (go (eqb (kindOf d) 1) h)
+  where
+    m : Cpu
+    m = enterSupervisor d
+
+    go : (t : Bool) → Entering b m s (pick t 6 8) v q a to at x y
+        → Frames b m e s l (pick t (pushExceptionFrame68000 raised (closed b m e s l) pc (getSr d)) (pushFrame raised (closed b m e s l) (shortFrame (getSr d) pc format))) (pick t 6 8) q (pick t (threePieces (getSr d) pc) (shortPieces (getSr d) pc format))
+    go true h = record { world = three-stacked raised b m e s l q (getSr d) pc (h .registers) (h .running) u (h .stack) (h .room); within = three-within (getSr d) pc; few = three-few (getSr d) pc }
+    go false h = record { world = short-stacked raised b m e s l q (h .registers) (h .running) u (getSr d) pc format (h .stack) (h .room); within = short-within (getSr d) pc format; few = short-few (getSr d) pc format }
+
+-- the jump after it
+jump-frames : (b : Bus) (c : Cpu) (e : ℕ) (s l : List ℕ) (w : World) (n v q a to at x y : ℕ) (ps : List Piece) → Entering b c s n v q a to at x y → Frames b c e s l w n q ps → e + 12 < 2 ^ 32
+    → jumpVector raised w v ≡ arrived b c (clocksOf c) e s l q ps (prefetchEnabled c) v a to at x y
+jump-frames b c e s l w n v q a to at x y ps h f u =
+    ap (λ (i : World). jumpVector raised i v) (f .world) ∙ jump-stacked raised b c e s l n v q a to at x y ps h (f .within) (let z = f .few in omega arith)
+
+-- ---- `take_exception`
+
+module _ (c : Cpu) (k : ℕ) where
+  -- the record before the frame
+  abbrev begun : Cpu
+  begun = setClocks (setException c true) k
+
+  begun-alike : Alike (enterSupervisor c) (enterSupervisor begun)
+  unfolding enterSupervisor clearTrace setSFlag restoreSp putS backupSp spIndex setClocks setException isFaulted kindOf vbrOf prefetchEnabled
+  begun-alike = record { running = refl; registers = refl; kind = refl; vbr = refl; fetches = refl }
+
+  begun-clocks : clocksOf (enterSupervisor begun) ≡ k
+  unfolding enterSupervisor clearTrace setSFlag restoreSp putS backupSp clocksOf setClocks
+  begun-clocks = refl
+
+  begun-fetches : prefetchEnabled (enterSupervisor begun) ≡ prefetchEnabled c
+  unfolding enterSupervisor clearTrace setSFlag restoreSp putS backupSp prefetchEnabled setClocks setException
+  begun-fetches = refl
+
+  begun-kind : kindOf begun ≡ kindOf c
+  unfolding kindOf setClocks setException
+  begun-kind = refl
+
+  begun-status : getSr begun ≡ getSr c
+  unfolding getSr setClocks setException
+  begun-status = refl
+
+  begun-address : (v : ℕ) → stackedAddress begun v ≡ stackedAddress c v
+  unfolding stackedAddress pcOf ppcOf setClocks setException
+  begun-address v = refl
+
+  -- after the jump the end of exception processing leaves the record as it was but for the entry
+  ended-alike : (f : Bool) (q m v to x y : ℕ) → setException (jumped f (setWdata (setA7 (setClocks (enterSupervisor begun) 0) q) m) v to x y) false ≡ setException (jumped f (setWdata (setA7 (setClocks (enterSupervisor c) 0) q) m) v to x y) false
+  unfolding jumped setException setWdata setA7 setClocks enterSupervisor clearTrace setSFlag restoreSp putS backupSp spIndex startVector setPc firstWord secondWord
+  ended-alike true q m v to x y = refl
+  ended-alike false q m v to x y = refl
+
+exception-own : (c : Cpu) → inException c ≡ false → setException c false ≡ c
+unfolding setException inException
+exception-own c h = ap (λ (t : Bool). setException c t) (sym h)
+
+jumped-exception : (f : Bool) (c : Cpu) (q m v to x y : ℕ) → inException (jumped f (setWdata (setA7 (setClocks (enterSupervisor c) 0) q) m) v to x y) ≡ inException c
+unfolding jumped inException setWdata setA7 setClocks enterSupervisor clearTrace setSFlag restoreSp putS backupSp startVector setPc firstWord secondWord
+jumped-exception true c q m v to x y = refl
+jumped-exception false c q m v to x y = refl
+
+same : (c : Cpu) → clocksAfter (setException c true) 4 ≡ clocksAfter c 4
+unfolding clocksAfter clocksOf prefetchEnabled setException
+same c = refl
+
+begins : (c : Cpu) → beginEntry c ≡ begun c (clocksAfter c 4)
+unfolding beginEntry
+begins c = cycles-after (setException c true) 4 ∙ ap (λ (k : ℕ). setClocks (setException c true) k) (same c)
+
+taken-step : (b : Bus) (c : Cpu) (e : ℕ) (s l : List ℕ) (v : ℕ) → inException c ≡ false
+    → takeException (closed b c e s l) v ≡ entry (finished (jumpVector raised (stackShort (closed b (beginEntry c) e s l) (stackedAddress (beginEntry c) v) (offsetWord v)) v)) (exceptionCycles v)
+unfolding takeException taken closed putCpu
+taken-step b c e s l v h = rw h
+
+finish-step : (b : Bus) (c : Cpu) (k e : ℕ) (s l : List ℕ) (q : ℕ) (ps : List Piece) (f : Bool) (v a to at x y i : ℕ) → inException c ≡ false
+    → finished (arrived b (enterSupervisor (begun c i)) k e s l q ps f v a to at x y) ≡ arrived b (enterSupervisor c) k e s l q ps f v a to at x y
+unfolding finished arrived closed putCpu
+finish-step b c k e s l q ps f v a to at x y i h =
+    let m : Cpu = jumped f (setWdata (setA7 (setClocks (enterSupervisor c) 0) q) (lastValue ps)) v to x y in
+    rw (ended-alike c i f q (lastValue ps) v to x y, exception-own m (jumped-exception f c q (lastValue ps) v to x y ∙ h))
+
+-- `take_exception` where no entry is under way
+pub take-closed : (b : Bus) (c : Cpu) (e : ℕ) (s l : List ℕ) (v q a to at x y : ℕ) → inException c ≡ false → Entering b (enterSupervisor c) s (shortBytes (kindOf c)) v q a to at x y → e + 12 < 2 ^ 32
+    → takeException (closed b c e s l) v
+    ≡ entry (arrived b (enterSupervisor c) (clocksAfter c 4) e s l q (shortOf (kindOf c) (getSr c) (stackedAddress c v) (offsetWord v)) (prefetchEnabled c) v a to at x y) (exceptionCycles v)
+take-closed b c e s l v q a to at x y h g u =
+    let k : ℕ = clocksAfter c 4 in
+    let d : Cpu = begun c k in
+    let ps : List Piece = shortOf (kindOf c) (getSr c) (stackedAddress c v) (offsetWord v) in
+    let i : Entering b (enterSupervisor d) s (shortBytes (kindOf c)) v q a to at x y = alike-entering b (enterSupervisor c) (enterSupervisor d) s (shortBytes (kindOf c)) v q a to at x y (begun-alike c k) g in
+    let f : Frames b (enterSupervisor d) e s l (stackShort (closed b d e s l) (stackedAddress d v) (offsetWord v)) (shortBytes (kindOf c)) q ps
+    = rw (begun-address c k v) (rw (begun-kind c k, begun-status c k) at (short-frames b d e s l (stackedAddress c v) (offsetWord v) v q a to at x y (rw (begun-kind c k) i) (omega arith))) in
+    taken-step b c e s l v h
+    ∙ ap (λ (m : Cpu). entry (finished (jumpVector raised (stackShort (closed b m e s l) (stackedAddress m v) (offsetWord v)) v)) (exceptionCycles v)) (begins c)
+    ∙ ap (λ (w : World). entry (finished w) (exceptionCycles v))
+    (jump-frames b (enterSupervisor d) e s l (stackShort (closed b d e s l) (stackedAddress d v) (offsetWord v)) (shortBytes (kindOf c)) v q a to at x y ps i f u
+    ∙ rw (begun-clocks c k, begun-fetches c k))
+    ∙ ap (λ (w : World). entry w (exceptionCycles v)) (finish-step b c k e s l q ps (prefetchEnabled c) v a to at x y k h)
