@@ -204,3 +204,103 @@ take-closed b c e s l v q a to at x y h g u =
     (jump-frames b (enterSupervisor d) e s l (stackShort (closed b d e s l) (stackedAddress d v) (offsetWord v)) (shortBytes (kindOf c)) v q a to at x y ps i f u
     ∙ rw (begun-clocks c k, begun-fetches c k))
     ∙ ap (λ (w : World). entry w (exceptionCycles v)) (finish-step b c k e s l q ps (prefetchEnabled c) v a to at x y k h)
+
+-- ---- group 2, and frames of format 2 and 4
+
+module _ (c : Cpu) where
+  supervisor-clocks : clocksOf (enterSupervisor c) ≡ clocksOf c
+  unfolding enterSupervisor clearTrace setSFlag restoreSp putS backupSp clocksOf
+  supervisor-clocks = refl
+
+  supervisor-fetches : prefetchEnabled (enterSupervisor c) ≡ prefetchEnabled c
+  unfolding enterSupervisor clearTrace setSFlag restoreSp putS backupSp prefetchEnabled
+  supervisor-fetches = refl
+
+  supervisor-kind : kindOf (enterSupervisor c) ≡ kindOf c
+  unfolding enterSupervisor clearTrace setSFlag restoreSp putS backupSp kindOf
+  supervisor-kind = refl
+
+  -- the registers stay 16
+  pub supervisor-registers : length (enterSupervisor c .regs .dar) ≡ length (c .regs .dar)
+  unfolding enterSupervisor clearTrace setSFlag restoreSp putS backupSp
+  supervisor-registers = length-set (c .regs .dar) 15 _
+
+group2-step : (b : Bus) (c : Cpu) (e : ℕ) (s l : List ℕ) (v : ℕ)
+    → stackGroup2 (closed b c e s l) v ≡ pick (isPre68020 (kindOf c)) (stackShort (closed b c e s l) (pcOf c) (offsetWord v)) (pushFrame raised (closed b (enterSupervisor c) e s l) (longFrame (getSr c) (pcOf c) (formatWord 2 v) (ppcOf c)))
+unfolding stackGroup2 closed putCpu
+group2-step b c e s l v = refl
+
+group2-frames : (b : Bus) (c : Cpu) (e : ℕ) (s l : List ℕ) (v q a to at x y : ℕ) → Entering b (enterSupervisor c) s (group2Bytes (kindOf c)) v q a to at x y → e + 8 < 2 ^ 32
+    → Frames b (enterSupervisor c) e s l (stackGroup2 (closed b c e s l) v) (group2Bytes (kindOf c)) q (group2Of (kindOf c) (getSr c) (pcOf c) (ppcOf c) v)
+unfolding group2Bytes group2Of
+group2-frames b c e s l v q a to at x y h u = rw (group2-step b c e s l v) (go (isPre68020 (kindOf c)) h)
+  where
+    m : Cpu
+    m = enterSupervisor c
+
+    go : (t : Bool) → Entering b m s (pick t (shortBytes (kindOf c)) 12) v q a to at x y
+        → Frames b m e s l (pick t (stackShort (closed b c e s l) (pcOf c) (offsetWord v)) (pushFrame raised (closed b m e s l) (longFrame (getSr c) (pcOf c) (formatWord 2 v) (ppcOf c)))) (pick t (shortBytes (kindOf c)) 12) q (pick t (shortOf (kindOf c) (getSr c) (pcOf c) (offsetWord v)) (longPieces (getSr c) (pcOf c) (formatWord 2 v) (ppcOf c)))
+    go true h = short-frames b c e s l (pcOf c) (offsetWord v) v q a to at x y h u
+    go false h =
+        record {
+          world = long-stacked raised b m e s l q (h .registers) (h .running) u (getSr c) (pcOf c) (formatWord 2 v) (ppcOf c) (h .stack) (h .room);
+          within = long-within (getSr c) (pcOf c) (formatWord 2 v) (ppcOf c);
+          few = long-few (getSr c) (pcOf c) (formatWord 2 v) (ppcOf c);
+        }
+
+-- a jump after any of these frames, from a record c before it entered supervisor state
+jump-supervised : (b : Bus) (c : Cpu) (e : ℕ) (s l : List ℕ) (w : World) (n v q a to at x y : ℕ) (ps : List Piece) → Entering b (enterSupervisor c) s n v q a to at x y → Frames b (enterSupervisor c) e s l w n q ps
+    → e + 12 < 2 ^ 32 → jumpVector raised w v ≡ arrived b (enterSupervisor c) (clocksOf c) e s l q ps (prefetchEnabled c) v a to at x y
+jump-supervised b c e s l w n v q a to at x y ps h f u = jump-frames b (enterSupervisor c) e s l w n v q a to at x y ps h f u ∙ rw (supervisor-clocks c, supervisor-fetches c)
+
+-- `take_group2_exception`
+pub group2-closed : (b : Bus) (c : Cpu) (e : ℕ) (s l : List ℕ) (v q a to at x y : ℕ) → Entering b (enterSupervisor c) s (group2Bytes (kindOf c)) v q a to at x y → e + 12 < 2 ^ 32
+    → takeGroup2 (closed b c e s l) v
+    ≡ entry (arrived b (enterSupervisor c) (clocksOf c) e s l q (group2Of (kindOf c) (getSr c) (pcOf c) (ppcOf c) v) (prefetchEnabled c) v a to at x y) (exceptionCycles v)
+unfolding takeGroup2
+group2-closed b c e s l v q a to at x y h u =
+    ap (λ (w : World). entry w (exceptionCycles v))
+    (jump-supervised b c e s l (stackGroup2 (closed b c e s l) v) (group2Bytes (kindOf c)) v q a to at x y (group2Of (kindOf c) (getSr c) (pcOf c) (ppcOf c) v) h (group2-frames b c e s l v q a to at x y h (omega arith)) u)
+
+-- `exception_trace`: a STOP ends, and 4 clocks come before the frame
+module _ (c : Cpu) (k : ℕ) where
+  abbrev traced : Cpu
+  traced = setClocks (leaveStop c) k
+
+  traced-alike : Alike (enterSupervisor c) (enterSupervisor traced)
+  unfolding enterSupervisor clearTrace setSFlag restoreSp putS backupSp spIndex setClocks leaveStop isFaulted kindOf vbrOf prefetchEnabled
+  traced-alike = record { running = refl; registers = refl; kind = refl; vbr = refl; fetches = refl }
+
+  traced-clocks : clocksOf traced ≡ k
+  unfolding clocksOf setClocks
+  traced-clocks = refl
+
+  traced-kind : kindOf traced ≡ kindOf c
+  unfolding kindOf setClocks leaveStop
+  traced-kind = refl
+
+  traced-arrived : (b : Bus) (e : ℕ) (s l : List ℕ) (q v a to at x y : ℕ) → arrived b (enterSupervisor traced) k e s l q (group2Of (kindOf traced) (getSr traced) (pcOf traced) (ppcOf traced) v) (prefetchEnabled traced) v a to at x y ≡ arrived b (enterSupervisor (leaveStop c)) k e s l q (group2Of (kindOf c) (getSr c) (pcOf c) (ppcOf c) v) (prefetchEnabled c) v a to at x y
+  unfolding arrived enterSupervisor clearTrace setSFlag restoreSp putS backupSp spIndex setClocks leaveStop kindOf getSr pcOf ppcOf prefetchEnabled
+  traced-arrived b e s l q v a to at x y = refl
+
+same-stop : (c : Cpu) → clocksAfter (leaveStop c) 4 ≡ clocksAfter c 4
+unfolding clocksAfter clocksOf prefetchEnabled leaveStop
+same-stop c = refl
+
+traces : (c : Cpu) → beginTrace c ≡ traced c (clocksAfter c 4)
+unfolding beginTrace
+traces c = cycles-after (leaveStop c) 4 ∙ ap (λ (k : ℕ). setClocks (leaveStop c) k) (same-stop c)
+
+trace-step : (b : Bus) (c : Cpu) (e : ℕ) (s l : List ℕ) → exceptionTrace (closed b c e s l) ≡ takeGroup2 (closed b (beginTrace c) e s l) trace
+unfolding exceptionTrace closed putCpu
+trace-step b c e s l = refl
+
+pub trace-closed : (b : Bus) (c : Cpu) (e : ℕ) (s l : List ℕ) (q a to at x y : ℕ) → Entering b (enterSupervisor c) s (group2Bytes (kindOf c)) trace q a to at x y → e + 12 < 2 ^ 32
+    → exceptionTrace (closed b c e s l)
+    ≡ entry (arrived b (enterSupervisor (leaveStop c)) (clocksAfter c 4) e s l q (group2Of (kindOf c) (getSr c) (pcOf c) (ppcOf c) trace) (prefetchEnabled c) trace a to at x y) (exceptionCycles trace)
+trace-closed b c e s l q a to at x y h u =
+    let k : ℕ = clocksAfter c 4 in
+    trace-step b c e s l
+    ∙ ap (λ (m : Cpu). takeGroup2 (closed b m e s l) trace) (traces c)
+    ∙ group2-closed b (traced c k) e s l trace q a to at x y (rw (traced-kind c k) (alike-entering b (enterSupervisor c) (enterSupervisor (traced c k)) s (group2Bytes (kindOf c)) trace q a to at x y (traced-alike c k) h)) u
+    ∙ ap (λ (w : World). entry w (exceptionCycles trace)) (rw (traced-clocks c k) (traced-arrived c k b e s l q trace a to at x y))
