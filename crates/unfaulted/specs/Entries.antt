@@ -18,7 +18,7 @@ use Rattle.status.specs.Banks.{enterSupervisor, setSFlag, restoreSp, putS, back
 use Rattle.memory.specs.declared.Core.{Core}
 use Rattle.memory.specs.declared.Bus.{Bus}
 use Rattle.memory.specs.World.{World, putCpu, cpuOf, step, withCpu}
-use Rattle.steps.specs.Steps.{stackedAddress, beginEntry, beginTrace}
+use Rattle.steps.specs.Steps.{stacksNext, stackedAddress, beginEntry, beginTrace}
 use Rattle.access.specs.Access.{raised, pushFrame, pushExceptionFrame68000, jumpVector}
 use Rattle.formats.specs.Formats.{formatWord, offsetWord, shortFrame, longFrame, disabledFrame}
 use Rattle.exceptions.specs.Exceptions.{Entry, entry, supervised, stackShort, finished, taken, takeException, stackGroup2, takeGroup2, exceptionTrace, takeRewound, stackUnimp, takeFpUnimp060, stackDisabled, takeFpDisabled060}
@@ -304,3 +304,111 @@ trace-closed b c e s l q a to at x y h u =
     ∙ ap (λ (m : Cpu). takeGroup2 (closed b m e s l) trace) (traces c)
     ∙ group2-closed b (traced c k) e s l trace q a to at x y (rw (traced-kind c k) (alike-entering b (enterSupervisor c) (enterSupervisor (traced c k)) s (group2Bytes (kindOf c)) trace q a to at x y (traced-alike c k) h)) u
     ∙ ap (λ (w : World). entry w (exceptionCycles trace)) (rw (traced-clocks c k) (traced-arrived c k b e s l q trace a to at x y))
+
+-- ---- the wrappers that take PC back to the instruction
+
+rewind-alike : (c : Cpu) → Alike (enterSupervisor c) (enterSupervisor (rewindPc c))
+unfolding enterSupervisor clearTrace setSFlag restoreSp putS backupSp spIndex rewindPc isFaulted kindOf vbrOf prefetchEnabled
+rewind-alike c = record { running = refl; registers = refl; kind = refl; vbr = refl; fetches = refl }
+
+rewind-kind : (c : Cpu) → kindOf (rewindPc c) ≡ kindOf c
+unfolding kindOf rewindPc
+rewind-kind c = refl
+
+rewind-exception : (c : Cpu) → inException (rewindPc c) ≡ inException c
+unfolding inException rewindPc
+rewind-exception c = refl
+
+rewind-address : (c : Cpu) (v : ℕ) → stackedAddress (rewindPc c) v ≡ ppcOf c
+unfolding stackedAddress rewindPc pcOf ppcOf
+rewind-address c v = go (stacksNext v)
+  where
+    go : (t : Bool) → pick t (c .flow .ppc) (c .flow .ppc) ≡ c .flow .ppc
+    go true = refl
+    go false = refl
+
+-- the jump sets PC in any case
+rewind-jumped : (c : Cpu) (f : Bool) (q m v to x y : ℕ) → jumped f (setWdata (setA7 (setClocks (enterSupervisor (rewindPc c)) 0) q) m) v to x y ≡ jumped f (setWdata (setA7 (setClocks (enterSupervisor c) 0) q) m) v to x y
+unfolding jumped setWdata setA7 setClocks enterSupervisor clearTrace setSFlag restoreSp putS backupSp spIndex startVector setPc firstWord secondWord rewindPc
+rewind-jumped c true q m v to x y = refl
+rewind-jumped c false q m v to x y = refl
+
+-- both addresses of a rewound record are the instruction's
+rewind-arrived : (b : Bus) (c : Cpu) (e : ℕ) (s l : List ℕ) (q v a to at x y : ℕ)
+    → arrived b (enterSupervisor (rewindPc c)) (clocksAfter (rewindPc c) 4) e s l q (shortOf (kindOf (rewindPc c)) (getSr (rewindPc c)) (stackedAddress (rewindPc c) v) (offsetWord v)) (prefetchEnabled (rewindPc c)) v a to at x y
+    ≡ arrived b (enterSupervisor c) (clocksAfter c 4) e s l q (shortOf (kindOf c) (getSr c) (ppcOf c) (offsetWord v)) (prefetchEnabled c) v a to at x y
+unfolding arrived clocksAfter clocksOf kindOf getSr prefetchEnabled rewindPc
+rewind-arrived b c e s l q v a to at x y =
+    rw (rewind-address c v, rewind-jumped c (prefetchEnabled c) q (lastValue (shortOf (kindOf c) (getSr c) (ppcOf c) (offsetWord v))) v to x y)
+
+rewind-step : (b : Bus) (c : Cpu) (e : ℕ) (s l : List ℕ) (v : ℕ) → takeRewound (closed b c e s l) v ≡ takeException (closed b (rewindPc c) e s l) v
+unfolding takeRewound closed putCpu
+rewind-step b c e s l v = refl
+
+-- line A, line F, breakpoint, illegal: the instruction's own address is stacked
+pub rewound-closed : (b : Bus) (c : Cpu) (e : ℕ) (s l : List ℕ) (v q a to at x y : ℕ) → inException c ≡ false → Entering b (enterSupervisor c) s (shortBytes (kindOf c)) v q a to at x y → e + 12 < 2 ^ 32
+    → takeRewound (closed b c e s l) v
+    ≡ entry (arrived b (enterSupervisor c) (clocksAfter c 4) e s l q (shortOf (kindOf c) (getSr c) (ppcOf c) (offsetWord v)) (prefetchEnabled c) v a to at x y) (exceptionCycles v)
+rewound-closed b c e s l v q a to at x y h g u =
+    rewind-step b c e s l v
+    ∙ take-closed b (rewindPc c) e s l v q a to at x y (rewind-exception c ∙ h) (rw (rewind-kind c) (alike-entering b (enterSupervisor c) (enterSupervisor (rewindPc c)) s (shortBytes (kindOf c)) v q a to at x y (rewind-alike c) g)) u
+    ∙ ap (λ (w : World). entry w (exceptionCycles v)) (rewind-arrived b c e s l q v a to at x y)
+
+-- ---- the 68060's floating point entries
+
+fpiar-alike : (c : Cpu) → Alike (enterSupervisor c) (enterSupervisor (noteFpiar c))
+unfolding enterSupervisor clearTrace setSFlag restoreSp putS backupSp spIndex noteFpiar isFaulted kindOf vbrOf prefetchEnabled
+fpiar-alike c = record { running = refl; registers = refl; kind = refl; vbr = refl; fetches = refl }
+
+unimp-step : (b : Bus) (c : Cpu) (e : ℕ) (s l : List ℕ) (ea : ℕ)
+    → takeFpUnimp060 (closed b c e s l) ea ≡ entry (jumpVector raised (pushFrame raised (closed b (enterSupervisor (noteFpiar c)) e s l) (longFrame (getSr c) (pcOf c) (formatWord 2 line1111) ea)) line1111) (exceptionCycles line1111)
+unfolding takeFpUnimp060 stackUnimp closed putCpu noteFpiar getSr pcOf
+unimp-step b c e s l ea = refl
+
+fpiar-fetches : (c : Cpu) → prefetchEnabled (noteFpiar c) ≡ prefetchEnabled c
+unfolding prefetchEnabled noteFpiar
+fpiar-fetches c = refl
+
+fpiar-clocks : (c : Cpu) → clocksOf (noteFpiar c) ≡ clocksOf c
+unfolding clocksOf noteFpiar
+fpiar-clocks c = refl
+
+-- `take_fp_unimp_060`: format 2 with the operand's address
+pub unimp-closed : (b : Bus) (c : Cpu) (e : ℕ) (s l : List ℕ) (ea q a to at x y : ℕ) → Entering b (enterSupervisor c) s 12 line1111 q a to at x y → e + 12 < 2 ^ 32
+    → takeFpUnimp060 (closed b c e s l) ea
+    ≡ entry (arrived b (enterSupervisor (noteFpiar c)) (clocksOf c) e s l q (longPieces (getSr c) (pcOf c) (formatWord 2 line1111) ea) (prefetchEnabled c) line1111 a to at x y) (exceptionCycles line1111)
+unimp-closed b c e s l ea q a to at x y g u =
+    let d : Cpu = noteFpiar c in
+    let m : Cpu = enterSupervisor d in
+    let h : Entering b m s 12 line1111 q a to at x y = alike-entering b (enterSupervisor c) m s 12 line1111 q a to at x y (fpiar-alike c) g in
+    let f : Frames b m e s l (pushFrame raised (closed b m e s l) (longFrame (getSr c) (pcOf c) (formatWord 2 line1111) ea)) 12 q (longPieces (getSr c) (pcOf c) (formatWord 2 line1111) ea)
+    = record {
+      world = long-stacked raised b m e s l q (h .registers) (h .running) (omega arith) (getSr c) (pcOf c) (formatWord 2 line1111) ea (h .stack) (h .room);
+      within = long-within (getSr c) (pcOf c) (formatWord 2 line1111) ea;
+      few = long-few (getSr c) (pcOf c) (formatWord 2 line1111) ea;
+    } in
+    unimp-step b c e s l ea
+    ∙ ap (λ (w : World). entry w (exceptionCycles line1111))
+    (jump-supervised b d e s l (pushFrame raised (closed b m e s l) (longFrame (getSr c) (pcOf c) (formatWord 2 line1111) ea)) 12 line1111 q a to at x y (longPieces (getSr c) (pcOf c) (formatWord 2 line1111) ea) h f u
+    ∙ rw (fpiar-clocks c, fpiar-fetches c))
+
+disabled-step : (b : Bus) (c : Cpu) (e : ℕ) (s l : List ℕ)
+    → takeFpDisabled060 (closed b c e s l) ≡ entry (jumpVector raised (pushFrame raised (closed b (enterSupervisor c) e s l) (disabledFrame (getSr c) (ppcOf c) (formatWord 4 line1111) 0 (ppcOf c))) line1111) (exceptionCycles line1111)
+unfolding takeFpDisabled060 stackDisabled closed putCpu
+disabled-step b c e s l = refl
+
+-- `take_fp_disabled_060`: format 4
+pub disabled-closed : (b : Bus) (c : Cpu) (e : ℕ) (s l : List ℕ) (q a to at x y : ℕ) → Entering b (enterSupervisor c) s 16 line1111 q a to at x y → e + 12 < 2 ^ 32
+    → takeFpDisabled060 (closed b c e s l)
+    ≡ entry (arrived b (enterSupervisor c) (clocksOf c) e s l q (disabledPieces (getSr c) (ppcOf c) (formatWord 4 line1111) 0 (ppcOf c)) (prefetchEnabled c) line1111 a to at x y) (exceptionCycles line1111)
+disabled-closed b c e s l q a to at x y h u =
+    let m : Cpu = enterSupervisor c in
+    let f : Frames b m e s l (pushFrame raised (closed b m e s l) (disabledFrame (getSr c) (ppcOf c) (formatWord 4 line1111) 0 (ppcOf c))) 16 q (disabledPieces (getSr c) (ppcOf c) (formatWord 4 line1111) 0 (ppcOf c))
+    = record {
+      world = disabled-stacked raised b m e s l q (h .registers) (h .running) (omega arith) (getSr c) (ppcOf c) (formatWord 4 line1111) 0 (ppcOf c) (h .stack) (h .room);
+      within = disabled-within (getSr c) (ppcOf c) (formatWord 4 line1111) 0 (ppcOf c);
+      few = disabled-few (getSr c) (ppcOf c) (formatWord 4 line1111) 0 (ppcOf c);
+    } in
+    disabled-step b c e s l
+    ∙ ap (λ (w : World). entry w (exceptionCycles line1111))
+    (jump-supervised b c e s l (pushFrame raised (closed b m e s l) (disabledFrame (getSr c) (ppcOf c) (formatWord 4 line1111) 0 (ppcOf c))) 16 line1111 q a to at x y (disabledPieces (getSr c) (ppcOf c) (formatWord 4 line1111) 0 (ppcOf c)) h f u)
