@@ -19,6 +19,8 @@ use Rattle.memory.specs.Runs.{Apart}
 use Rattle.memory.specs.ByteLaws.{put}
 use Rattle.memory.specs.LogLaws.{Event}
 use Rattle.memory.specs.AccessLaws.{writeCode, kept}
+use Rattle.pending.specs.Interrupts.{clearLevel}
+use Rattle.steps.specs.Steps.{enterLevel, closeInterrupt}
 use Rattle.formats.specs.Formats.{formatWord, offsetWord}
 
 -- the world of bus b after e events, with record c, store s and log l
@@ -166,3 +168,9 @@ group2Bytes k = pick (isPre68020 k) (shortBytes k) 12
 
 unfoldable pub group2Of : ℕ → ℕ → ℕ → ℕ → ℕ → List Piece
 group2Of k sr pc ppc v = pick (isPre68020 k) (shortOf k sr pc (offsetWord v)) (longPieces sr pc (formatWord 2 v) ppc)
+
+-- the world after an interrupt of a level with the frame ps at q, the events es in all
+unfoldable pub interrupted : Bus → Cpu → ℕ → ℕ → List ℕ → List ℕ → ℕ → List Piece → List Event → Bool → ℕ → ℕ → ℕ → ℕ → World
+interrupted b c level e s l q ps es fetches v to x y =
+    closed b (clearLevel (closeInterrupt (jumped fetches (setWdata (setA7 (setClocks (enterLevel c level) 0) q) (lastValue ps)) v to x y))) (e + length es)
+    (laid s (q - b .base) ps) (told e l es)

@@ -63,7 +63,7 @@ alike-entering b c d s n v q a to at x y k h =
 
 -- ---- the frames of an entry
 
-short-within : (sr pc format : ℕ) → Within 8 (shortPieces sr pc format)
+pub short-within : (sr pc format : ℕ) → Within 8 (shortPieces sr pc format)
 unfolding Within shortPieces
 short-within sr pc format = (refl, omega arith, (refl, omega arith, (refl, omega arith, tt)))
 

@@ -5,3 +5,4 @@ pub mod Pushes
 pub mod Jumps
 pub mod Stacks
 pub mod Entries
+pub mod Serviced

@@ -156,7 +156,7 @@ landing-laid b k vbr f s v a to at x y q n ps h r w d g =
 
 module _ (c : Cpu) (q m : ℕ) where
   -- the record after a frame
-  abbrev framed : Cpu
+  abbrev pub framed : Cpu
   framed = setWdata (setA7 (setClocks c 0) q) m
 
   framed-running : isFaulted framed ≡ isFaulted c
@@ -179,18 +179,25 @@ module _ (c : Cpu) (q m : ℕ) where
   unfolding prefetchEnabled setWdata setA7 setClocks
   framed-on = refl
 
--- the jump after a frame that starts at q
+-- the jump after a frame that starts at q, with the events hs before it
+pub jump-after : (t : Raise) (b : Bus) (c : Cpu) (e : ℕ) (s l : List ℕ) (n v q a to at x y : ℕ) (ps : List Piece) (hs : List Event) (m : ℕ) → Entering b c s n v q a to at x y → Within n ps
+    → e + length hs + 5 < 2 ^ 32
+    → jumpVector t (closed b (framed c q m) (e + length hs) (laid s (q - b .base) ps) (told e l hs)) v
+    ≡ closed b (jumped (prefetchEnabled c) (framed c q m) v to x y) (e + length (hs ++ jumpEvents (prefetchEnabled c) a to at x y)) (laid s (q - b .base) ps) (told e l (hs ++ jumpEvents (prefetchEnabled c) a to at x y))
+jump-after t b c e s l n v q a to at x y ps hs m h w u =
+    let f : Bool = prefetchEnabled c in
+    let r = landing-laid b (kindOf c) (vbrOf c) f s v a to at x y q n ps (h .landing) (h .room) w (h .vector-apart) (h .queue-apart) in
+    (rw (framed-on c q m) at
+    (jump-closed t b (framed c q m) (e + length hs) (laid s (q - b .base) ps) (told e l hs) v a to at x y (framed-running c q m ∙ h .running) (framed-clocks c q m)
+    (rw (framed-kind c q m, framed-vbr c q m, framed-on c q m) r) u))
+    ∙ joined b (jumped f (framed c q m) v to x y) e (laid s (q - b .base) ps) l hs (jumpEvents f a to at x y)
+
+-- the jump right after a frame
 pub jump-stacked : (t : Raise) (b : Bus) (c : Cpu) (e : ℕ) (s l : List ℕ) (n v q a to at x y : ℕ) (ps : List Piece) → Entering b c s n v q a to at x y → Within n ps → e + length ps + 6 < 2 ^ 32
     → jumpVector t (stacked b c e s l q ps) v ≡ arrived b c (clocksOf c) e s l q ps (prefetchEnabled c) v a to at x y
 unfolding stacked arrived entryEvents
 jump-stacked t b c e s l n v q a to at x y ps h w u =
-    let f : Bool = prefetchEnabled c in
-    let d : Cpu = framed c q (lastValue ps) in
-    let xs : List Event = clockEvents (clocksOf c) ++ writesOf q ps in
+    let hs : List Event = clockEvents (clocksOf c) ++ writesOf q ps in
     let few : length (clockEvents (clocksOf c)) ≤ 1 = clocks-small (clocksOf c) in
-    let many : length xs ≡ length (clockEvents (clocksOf c)) + length ps = length-append (clockEvents (clocksOf c)) (writesOf q ps) ∙ ap (λ (i : ℕ). length (clockEvents (clocksOf c)) + i) (length-writes q ps) in
-    let r = landing-laid b (kindOf c) (vbrOf c) f s v a to at x y q n ps (h .landing) (h .room) w (h .vector-apart) (h .queue-apart) in
-    (rw (framed-on c q (lastValue ps)) at
-    (jump-closed t b d (e + length xs) (laid s (q - b .base) ps) (told e l xs) v a to at x y (framed-running c q (lastValue ps) ∙ h .running) (framed-clocks c q (lastValue ps))
-    (rw (framed-kind c q (lastValue ps), framed-vbr c q (lastValue ps), framed-on c q (lastValue ps)) r) (omega arith)))
-    ∙ joined b (jumped f d v to x y) e (laid s (q - b .base) ps) l xs (jumpEvents f a to at x y)
+    let many : length hs ≡ length (clockEvents (clocksOf c)) + length ps = length-append (clockEvents (clocksOf c)) (writesOf q ps) ∙ ap (λ (i : ℕ). length (clockEvents (clocksOf c)) + i) (length-writes q ps) in
+    jump-after t b c e s l n v q a to at x y ps hs (lastValue ps) h w (omega arith)
