@@ -14,12 +14,12 @@ use Rattle.memory.specs.declared.Core.{Core}
 use Rattle.memory.specs.declared.Bus.{Bus}
 use Rattle.memory.specs.Log.{noteLog, withEvents}
 use Rattle.memory.specs.Bytes.{getWord, getLong}
-use Rattle.memory.specs.World.{World, widthOf}
+use Rattle.memory.specs.World.{World, widthOf, responseOf}
 use Rattle.memory.specs.Runs.{Apart}
 use Rattle.memory.specs.ByteLaws.{put}
 use Rattle.memory.specs.LogLaws.{Event}
 use Rattle.memory.specs.AccessLaws.{writeCode, kept}
-use Rattle.pending.specs.Interrupts.{clearLevel}
+use Rattle.pending.specs.Interrupts.{pendingLevel, clearLevel}
 use Rattle.steps.specs.Steps.{enterLevel, closeInterrupt}
 use Rattle.formats.specs.Formats.{formatWord, offsetWord}
 
@@ -174,3 +174,19 @@ unfoldable pub interrupted : Bus → Cpu → ℕ → ℕ → List ℕ → List �
 interrupted b c level e s l q ps es fetches v to x y =
     closed b (clearLevel (closeInterrupt (jumped fetches (setWdata (setA7 (setClocks (enterLevel c level) 0) q) (lastValue ps)) v to x y))) (e + length es)
     (laid s (q - b .base) ps) (told e l es)
+
+-- the events of an interrupt on a kind other than 1 and 2: the acknowledge, the clocks that wait, the frame, the jump
+unfoldable pub otherEvents : Bus → Cpu → ℕ → List Piece → Bool → ℕ → ℕ → ℕ → ℕ → ℕ → List Event
+otherEvents b c q ps fetches a to at x y =
+    (event 6 (pendingLevel c) (responseOf b (pendingLevel c)) ∷ (clockEvents (clocksOf c) ++ writesOf q ps)) ++ jumpEvents fetches a to at x y
+
+-- on kind 2: the clocks that wait with 12 more, the acknowledge, the frame, the jump
+unfoldable pub events68010 : Bus → Cpu → ℕ → List Piece → Bool → ℕ → ℕ → ℕ → ℕ → ℕ → List Event
+events68010 b c q ps fetches a to at x y =
+    ((clockEvents (clocksAfter c 12) ++ (event 6 (pendingLevel c) (responseOf b (pendingLevel c)) ∷ [])) ++ writesOf q ps) ++ jumpEvents fetches a to at x y
+
+-- on kind 1: the clocks that wait with 6 more, PC low, 4 clocks, the acknowledge, 4 clocks, the status, PC high, the jump
+unfoldable pub events68000 : Bus → Cpu → ℕ → ℕ → ℕ → Bool → ℕ → ℕ → ℕ → ℕ → ℕ → List Event
+events68000 b c q sr pc fetches a to at x y =
+    (((clockEvents (clocksAfter c 6) ++ (event 3 (q + 4) (pc % 0x10000) ∷ [])) ++ (clockEvents (pick fetches 4 0) ++ (event 6 (pendingLevel c) (responseOf b (pendingLevel c)) ∷ [])))
+    ++ (clockEvents (pick fetches 4 0) ++ (event 3 q sr ∷ event 3 (q + 2) (pc / 0x10000) ∷ []))) ++ jumpEvents fetches a to at x y

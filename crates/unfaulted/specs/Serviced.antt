@@ -23,7 +23,7 @@ use Rattle.steps.specs.Steps.{iackVector, enterLevel, closeInterrupt}
 use Rattle.access.specs.Access.{raised, writeAt, pushFrame, jumpVector}
 use Rattle.formats.specs.Formats.{offsetWord, shortFrame}
 use Rattle.interrupts.specs.Interrupts.{vectorFrom, acknowledgeLevel, syncedAcknowledge, rest68000, from68000, pushInterrupt68000, writes68010, rest68010, pushInterrupt68010, restOther, pushInterruptOther, firstFrame, secondFrame, ended, dispatched, serviceInterrupt, serviced, checkAndService}
-use Rattle.unfaulted.specs.Closed.{closed, event, told, Piece, wordAt, longAt, laid, writesOf, lastOf, lastValue, clockEvents, stacked, shortPieces, threePieces, fourPieces, Room, Within, Landing, Entering, jumped, jumpEvents, clocksAfter, shortBytes, interrupted}
+use Rattle.unfaulted.specs.Closed.{closed, event, told, Piece, wordAt, longAt, laid, writesOf, lastOf, lastValue, clockEvents, stacked, shortPieces, threePieces, fourPieces, Room, Within, Landing, Entering, jumped, jumpEvents, clocksAfter, shortBytes, interrupted, otherEvents, events68010, events68000}
 use Rattle.unfaulted.specs.Lists.{told-append, length-writes, clocks-small}
 use Rattle.unfaulted.specs.Accesses.{flush-closed}
 use Rattle.unfaulted.specs.Pushes.{writeAll, writes-closed, joined, lower-to}
@@ -95,3 +95,61 @@ check-closed b c e s l n v q a to at x y ps hs k m h w u f =
     ∙ ap (λ (z : World). tried (serviced (ended (jumpVector raised z v))) true) (second-none b p (e + length hs) s′ (told e l hs) (pcOf c) (getSr c) v (level-master c i q (lastValue ps) ∙ m))
     ∙ ap (λ (z : World). tried (serviced (ended z)) true) (jump-after raised b d e s l n v q a to at x y ps hs (lastValue ps) g w u ∙ rw (level-fetches c i))
     ∙ ap (λ (z : World). tried z true) (end-step b (jumped (prefetchEnabled c) p v to x y) (e + length (hs ++ jumpEvents (prefetchEnabled c) a to at x y)) s′ (told e l (hs ++ jumpEvents (prefetchEnabled c) a to at x y)))
+
+-- ---- kinds other than 1 and 2: the acknowledge, then the clocks and format 0
+
+other-step : (b : Bus) (d : Cpu) (e : ℕ) (s l : List ℕ) (pc sr level : ℕ) → eqb (kindOf d) 1 ≡ false → eqb (kindOf d) 2 ≡ false
+    → firstFrame (closed b d e s l) pc sr level ≡ restOther pc sr (acknowledgeLevel (closed b d e s l) level)
+unfolding firstFrame pushInterruptOther closed
+other-step b d e s l pc sr level h k = rw (h, k)
+
+other-rest : (pc sr v : ℕ) (w : World) → restOther pc sr (reply w true v) ≡ reply (pushFrame raised w (shortFrame sr pc (offsetWord v))) true v
+unfolding restOther
+other-rest pc sr v w = refl
+
+-- a frame after one event
+stacked-more : (b : Bus) (d : Cpu) (e : ℕ) (s l : List ℕ) (q : ℕ) (ps : List Piece) (z : Event) → stacked b d (e + 1) s (noteLog e l (z .code) (z .place) (z .value)) q ps ≡ closed b (framed d q (lastValue ps)) (e + length (z ∷ (clockEvents (clocksOf d) ++ writesOf q ps))) (laid s (q - b .base) ps) (told e l (z ∷ (clockEvents (clocksOf d) ++ writesOf q ps)))
+unfolding stacked told
+stacked-more b d e s l q ps z =
+    let n : e + 1 + length (clockEvents (clocksOf d) ++ writesOf q ps) ≡ e + suc (length (clockEvents (clocksOf d) ++ writesOf q ps)) = omega arith in
+    rw n
+
+first-other : (b : Bus) (d : Cpu) (e : ℕ) (s l : List ℕ) (pc sr level q v : ℕ) → eqb (kindOf d) 1 ≡ false → eqb (kindOf d) 2 ≡ false → iackVector (responseOf b level) level ≡ v
+    → 15 < length (d .regs .dar) → isFaulted d ≡ false → a7Of d ≡ q + 8 → Room b (kindOf d) (length s) q 8 → e + 10 < 2 ^ 32
+    → firstFrame (closed b d e s l) pc sr level
+    ≡ reply (closed b (framed d q (lastValue (shortPieces sr pc (offsetWord v)))) (e + length (event 6 level (responseOf b level) ∷ (clockEvents (clocksOf d) ++ writesOf q (shortPieces sr pc (offsetWord v)))))
+    (laid s (q - b .base) (shortPieces sr pc (offsetWord v))) (told e l (event 6 level (responseOf b level) ∷ (clockEvents (clocksOf d) ++ writesOf q (shortPieces sr pc (offsetWord v)))))) true v
+first-other b d e s l pc sr level q v h k i g j a r u =
+    let l′ : List ℕ = noteLog e l 6 level (responseOf b level) in
+    other-step b d e s l pc sr level h k
+    ∙ ap (λ (z : Attempt). restOther pc sr z) (acknowledge-closed b d e s l level (omega arith) ∙ ap (λ (z : ℕ). reply (closed b d (e + 1) s l′) true z) i)
+    ∙ other-rest pc sr v (closed b d (e + 1) s l′)
+    ∙ ap (λ (z : World). reply z true v)
+    (short-stacked raised b d (e + 1) s l′ q g j (omega arith) sr pc (offsetWord v) a r ∙ stacked-more b d e s l q (shortPieces sr pc (offsetWord v)) (event 6 level (responseOf b level)))
+
+-- the events of a head and of a frame are few
+head-few : (k q : ℕ) (ps : List Piece) → length (clockEvents k ++ writesOf q ps) ≤ 1 + length ps
+head-few k q ps =
+    let few : length (clockEvents k) ≤ 1 = clocks-small k in
+    rw (length-append (clockEvents k) (writesOf q ps), length-writes q ps) (omega arith)
+
+short-three : (sr pc format : ℕ) → length (shortPieces sr pc format) ≡ 3
+unfolding shortPieces
+short-three sr pc format = refl
+
+-- an interrupt on a kind other than 1 and 2
+pub interrupt-other : (b : Bus) (c : Cpu) (e : ℕ) (s l : List ℕ) (v q a to at x y : ℕ) → eqb (kindOf c) 1 ≡ false → eqb (kindOf c) 2 ≡ false → takesInterrupt c ≡ true → mIsSet c ≡ false
+    → iackVector (responseOf b (pendingLevel c)) (pendingLevel c) ≡ v → Entering b (enterSupervisor c) s 8 v q a to at x y → e + 20 < 2 ^ 32
+    → checkAndService (closed b c e s l)
+    ≡ tried (interrupted b c (pendingLevel c) e s l q (shortPieces (getSr c) (pcOf c) (offsetWord v)) (otherEvents b c q (shortPieces (getSr c) (pcOf c) (offsetWord v)) (prefetchEnabled c) a to at x y) (prefetchEnabled c) v to x y) true
+unfolding otherEvents
+interrupt-other b c e s l v q a to at x y h k m n i g u =
+    let j : ℕ = pendingLevel c in
+    let d : Cpu = enterLevel c j in
+    let ps : List Piece = shortPieces (getSr c) (pcOf c) (offsetWord v) in
+    let hs : List Event = event 6 j (responseOf b j) ∷ (clockEvents (clocksOf c) ++ writesOf q ps) in
+    let few : length (clockEvents (clocksOf c) ++ writesOf q ps) ≤ 1 + length ps = head-few (clocksOf c) q ps in
+    let three : length ps ≡ 3 = short-three (getSr c) (pcOf c) (offsetWord v) in
+    let f : Entering b d s 8 v q a to at x y = alike-entering b (enterSupervisor c) d s 8 v q a to at x y (level-alike c j) g in
+    check-closed b c e s l 8 v q a to at x y ps hs m n g (short-within (getSr c) (pcOf c) (offsetWord v)) (omega arith)
+    (rw (level-clocks c j) at (first-other b d e s l (pcOf c) (getSr c) j q v (rw (level-kind c j) h) (rw (level-kind c j) k) i (f .registers) (f .running) (f .stack) (f .room) (omega arith)))
