@@ -7,6 +7,7 @@ use mathlib.Core.List.{List, [], _∷_, _++_}
 use native.Mathlib.Omega.{arith}
 use lib.Dec.{eqb, ltb}
 use lib.ListN.{length, getD, set, length-append}
+use lib.Seq.{getD-set-same}
 use Rattle.types.specs.Kinds.{pick}
 use Rattle.cpu.specs.declared.Cpu.{Cpu}
 use Rattle.cpu.specs.Fields.{kindOf, pcOf, vbrOf, a7Of, isFaulted, setWdata, setA7, lowerA7}
@@ -153,3 +154,115 @@ interrupt-other b c e s l v q a to at x y h k m n i g u =
     let f : Entering b d s 8 v q a to at x y = alike-entering b (enterSupervisor c) d s 8 v q a to at x y (level-alike c j) g in
     check-closed b c e s l 8 v q a to at x y ps hs m n g (short-within (getSr c) (pcOf c) (offsetWord v)) (omega arith)
     (rw (level-clocks c j) at (first-other b d e s l (pcOf c) (getSr c) j q v (rw (level-kind c j) h) (rw (level-kind c j) k) i (f .registers) (f .running) (f .stack) (f .room) (omega arith)))
+
+-- ---- clocks and the acknowledge
+
+sync-step : (b : Bus) (d : Cpu) (e : ℕ) (s l : List ℕ) (n level : ℕ) → syncedAcknowledge (closed b d e s l) n level ≡ acknowledgeLevel (flush (closed b (internalCycles d n) e s l)) level
+unfolding syncedAcknowledge closed putCpu
+sync-step b d e s l n level = refl
+
+clocks-set : (d : Cpu) (k : ℕ) → clocksOf (setClocks d k) ≡ k
+unfolding clocksOf setClocks
+clocks-set d k = refl
+
+clocks-twice : (d : Cpu) (k : ℕ) → setClocks (setClocks d k) 0 ≡ setClocks d 0
+unfolding setClocks
+clocks-twice d k = refl
+
+note-told : (e : ℕ) (l : List ℕ) (z : Event) → noteLog e l (z .code) (z .place) (z .value) ≡ told e l (z ∷ [])
+unfolding told
+note-told e l z = refl
+
+-- n clocks more are told, and the level is acknowledged
+sync-closed : (b : Bus) (d : Cpu) (e : ℕ) (s l : List ℕ) (n level v : ℕ) → iackVector (responseOf b level) level ≡ v → e + 2 < 2 ^ 32
+    → syncedAcknowledge (closed b d e s l) n level
+    ≡ reply (closed b (setClocks d 0) (e + length (clockEvents (clocksAfter d n) ++ (event 6 level (responseOf b level) ∷ []))) s (told e l (clockEvents (clocksAfter d n) ++ (event 6 level (responseOf b level) ∷ [])))) true v
+sync-closed b d e s l n level v i u =
+    let k : ℕ = clocksAfter d n in
+    let ce : List Event = clockEvents k in
+    let few : length ce ≤ 1 = clocks-small k in
+    let z : Event = event 6 level (responseOf b level) in
+    sync-step b d e s l n level
+    ∙ ap (λ (m : Cpu). acknowledgeLevel (flush (closed b m e s l)) level) (cycles-after d n)
+    ∙ ap (λ (w : World). acknowledgeLevel w level) (flush-closed b (setClocks d k) e s l (omega arith) ∙ rw (clocks-set d k, clocks-twice d k))
+    ∙ acknowledge-closed b (setClocks d 0) (e + length ce) s (told e l ce) level (omega arith)
+    ∙ ap (λ (j : ℕ). reply (closed b (setClocks d 0) (e + length ce + 1) s (noteLog (e + length ce) (told e l ce) 6 level (responseOf b level))) true j) i
+    ∙ ap (λ (w : World). reply w true v)
+    (ap (λ (m : List ℕ). closed b (setClocks d 0) (e + length ce + 1) s m) (note-told (e + length ce) (told e l ce) z) ∙ joined b (setClocks d 0) e s l ce (z ∷ []))
+
+-- ---- kind 2
+
+four-writes : (w : World) (q sr pc format : ℕ) → q + 8 ≤ 2 ^ 32 → writes68010 w q pc sr format ≡ writeAll raised w q (fourPieces sr pc format)
+unfolding writes68010 writeAll fourPieces
+four-writes w q sr pc format h =
+    let x : (q + 4) % 2 ^ 32 ≡ q + 4 = omega arith in
+    let y : (q + 2) % 2 ^ 32 ≡ q + 2 = omega arith in
+    let u : (q + 6) % 2 ^ 32 ≡ q + 6 = omega arith in
+    let z : q + 0 ≡ q = omega arith in
+    rw (x, y, u, z)
+
+four-within : (sr pc format : ℕ) → Within 8 (fourPieces sr pc format)
+unfolding Within fourPieces
+four-within sr pc format = (refl, omega arith, (refl, omega arith, (refl, omega arith, (refl, omega arith, tt))))
+
+four-four : (sr pc format : ℕ) → length (fourPieces sr pc format) ≡ 4
+unfolding fourPieces
+four-four sr pc format = refl
+
+rest-step : (b : Bus) (d : Cpu) (e : ℕ) (s l : List ℕ) (pc sr v : ℕ) → rest68010 pc sr (reply (closed b d e s l) true v) ≡ reply (writes68010 (closed b (lowerA7 d 8) e s l) (a7Of (lowerA7 d 8)) pc sr (offsetWord v)) true v
+unfolding rest68010 closed putCpu
+rest-step b d e s l pc sr v = refl
+
+-- a frame where no clock waits
+calm-stacked : (b : Bus) (d : Cpu) (e : ℕ) (s l : List ℕ) (q : ℕ) (ps : List Piece) → stacked b (setClocks d 0) e s l q ps ≡ closed b (framed d q (lastValue ps)) (e + length (writesOf q ps)) (laid s (q - b .base) ps) (told e l (writesOf q ps))
+unfolding stacked setClocks clocksOf clockEvents
+calm-stacked b d e s l q ps = refl
+
+module _ (d : Cpu) where
+  calm-running : isFaulted (setClocks d 0) ≡ isFaulted d
+  unfolding isFaulted setClocks
+  calm-running = refl
+
+  calm-kind : kindOf (setClocks d 0) ≡ kindOf d
+  unfolding kindOf setClocks
+  calm-kind = refl
+
+  calm-a7 : (k : ℕ) → a7Of (setClocks d k) ≡ a7Of d
+  unfolding a7Of setClocks
+  calm-a7 k = refl
+
+  a7-at : (q : ℕ) → 15 < length (d .regs .dar) → a7Of (setA7 d q) ≡ q
+  unfolding a7Of setA7
+  a7-at q h = getD-set-same (d .regs .dar) 15 q 0 h
+
+  calm-registers : (k : ℕ) → 15 < length (d .regs .dar) → 15 < length (setClocks d k .regs .dar)
+  unfolding setClocks
+  calm-registers k h = h
+
+kind2-step : (b : Bus) (d : Cpu) (e : ℕ) (s l : List ℕ) (pc sr level : ℕ) → eqb (kindOf d) 1 ≡ false → eqb (kindOf d) 2 ≡ true
+    → firstFrame (closed b d e s l) pc sr level ≡ rest68010 pc sr (syncedAcknowledge (closed b d e s l) 12 level)
+unfolding firstFrame pushInterrupt68010 closed
+kind2-step b d e s l pc sr level h k = rw (h, k)
+
+laid-four : (b : Bus) (c : Cpu) (e : ℕ) (s l : List ℕ) (q sr pc format : ℕ) → isFaulted c ≡ false → Room b (kindOf c) (length s) q 8 → e + 5 < 2 ^ 32
+    → writeAll raised (closed b (setA7 c q) e s l) q (fourPieces sr pc format) ≡ stacked b c e s l q (fourPieces sr pc format)
+unfolding fourPieces
+laid-four b c e s l q sr pc format h r u =
+    writes-stacked raised b c e s l q 8 (wordAt 4 (pc % 0x10000)) (wordAt 0 sr ∷ wordAt 2 (pc / 0x10000) ∷ wordAt 6 format ∷ []) h r (four-within sr pc format) (omega arith)
+
+-- the four words after the acknowledge
+four-stacked : (b : Bus) (d : Cpu) (e : ℕ) (s l : List ℕ) (pc sr v q : ℕ) → 15 < length (d .regs .dar) → isFaulted d ≡ false → a7Of d ≡ q + 8 → Room b (kindOf d) (length s) q 8 → e + 8 < 2 ^ 32
+    → rest68010 pc sr (reply (closed b (setClocks d 0) e s l) true v)
+    ≡ reply (closed b (framed d q (lastValue (fourPieces sr pc (offsetWord v)))) (e + length (writesOf q (fourPieces sr pc (offsetWord v)))) (laid s (q - b .base) (fourPieces sr pc (offsetWord v))) (told e l (writesOf q (fourPieces sr pc (offsetWord v))))) true v
+four-stacked b d e s l pc sr v q g h a r u =
+    let c : Cpu = setClocks d 0 in
+    let top : q + 8 ≤ 2 ^ 32 = r .top in
+    let format : ℕ = offsetWord v in
+    let z : lowerA7 c 8 ≡ setA7 c q = lower-to c q 8 (calm-a7 d 0 ∙ a) (omega arith) (omega arith) in
+    rest-step b c e s l pc sr v
+    ∙ ap (λ (m : Cpu). reply (writes68010 (closed b m e s l) (a7Of m) pc sr format) true v) z
+    ∙ ap (λ (p : ℕ). reply (writes68010 (closed b (setA7 c q) e s l) p pc sr format) true v) (a7-at c q (calm-registers d 0 g))
+    ∙ ap (λ (w : World). reply w true v)
+    (four-writes (closed b (setA7 c q) e s l) q sr pc format top
+    ∙ laid-four b c e s l q sr pc format (calm-running d ∙ h) (rw (calm-kind d) r) (omega arith)
+    ∙ calm-stacked b d e s l q (fourPieces sr pc format))
