@@ -266,3 +266,41 @@ four-stacked b d e s l pc sr v q g h a r u =
     (four-writes (closed b (setA7 c q) e s l) q sr pc format top
     ∙ laid-four b c e s l q sr pc format (calm-running d ∙ h) (rw (calm-kind d) r) (omega arith)
     ∙ calm-stacked b d e s l q (fourPieces sr pc format))
+
+level-after : (c : Cpu) (level n : ℕ) → clocksAfter (enterLevel c level) n ≡ clocksAfter c n
+unfolding enterLevel setIntMask enterSupervisor clearTrace setSFlag restoreSp putS backupSp clocksAfter clocksOf prefetchEnabled
+level-after c level n = refl
+
+ack-few : (k : ℕ) (z : Event) → length (clockEvents k ++ (z ∷ [])) ≤ 2
+ack-few k z = let few : length (clockEvents k) ≤ 1 = clocks-small k in rw (length-append (clockEvents k) (z ∷ [])) (omega arith)
+
+first-68010 : (b : Bus) (d : Cpu) (e : ℕ) (s l : List ℕ) (pc sr level q v : ℕ) → eqb (kindOf d) 1 ≡ false → eqb (kindOf d) 2 ≡ true → iackVector (responseOf b level) level ≡ v
+    → 15 < length (d .regs .dar) → isFaulted d ≡ false → a7Of d ≡ q + 8 → Room b (kindOf d) (length s) q 8 → e + 12 < 2 ^ 32
+    → firstFrame (closed b d e s l) pc sr level
+    ≡ reply (closed b (framed d q (lastValue (fourPieces sr pc (offsetWord v)))) (e + length ((clockEvents (clocksAfter d 12) ++ (event 6 level (responseOf b level) ∷ [])) ++ writesOf q (fourPieces sr pc (offsetWord v))))
+    (laid s (q - b .base) (fourPieces sr pc (offsetWord v))) (told e l ((clockEvents (clocksAfter d 12) ++ (event 6 level (responseOf b level) ∷ [])) ++ writesOf q (fourPieces sr pc (offsetWord v))))) true v
+first-68010 b d e s l pc sr level q v h k i g j a r u =
+    let ps : List Piece = fourPieces sr pc (offsetWord v) in
+    let hs : List Event = clockEvents (clocksAfter d 12) ++ (event 6 level (responseOf b level) ∷ []) in
+    let few : length hs ≤ 2 = ack-few (clocksAfter d 12) (event 6 level (responseOf b level)) in
+    kind2-step b d e s l pc sr level h k
+    ∙ ap (λ (z : Attempt). rest68010 pc sr z) (sync-closed b d e s l 12 level v i (omega arith))
+    ∙ four-stacked b d (e + length hs) s (told e l hs) pc sr v q g j a r (omega arith)
+    ∙ ap (λ (w : World). reply w true v) (joined b (framed d q (lastValue ps)) e (laid s (q - b .base) ps) l hs (writesOf q ps))
+
+-- an interrupt on kind 2
+pub interrupt-68010 : (b : Bus) (c : Cpu) (e : ℕ) (s l : List ℕ) (v q a to at x y : ℕ) → eqb (kindOf c) 1 ≡ false → eqb (kindOf c) 2 ≡ true → takesInterrupt c ≡ true → mIsSet c ≡ false
+    → iackVector (responseOf b (pendingLevel c)) (pendingLevel c) ≡ v → Entering b (enterSupervisor c) s 8 v q a to at x y → e + 20 < 2 ^ 32
+    → checkAndService (closed b c e s l)
+    ≡ tried (interrupted b c (pendingLevel c) e s l q (fourPieces (getSr c) (pcOf c) (offsetWord v)) (events68010 b c q (fourPieces (getSr c) (pcOf c) (offsetWord v)) (prefetchEnabled c) a to at x y) (prefetchEnabled c) v to x y) true
+unfolding events68010
+interrupt-68010 b c e s l v q a to at x y h k m n i g u =
+    let j : ℕ = pendingLevel c in
+    let d : Cpu = enterLevel c j in
+    let ps : List Piece = fourPieces (getSr c) (pcOf c) (offsetWord v) in
+    let hs : List Event = clockEvents (clocksAfter c 12) ++ (event 6 j (responseOf b j) ∷ []) in
+    let few : length hs ≤ 2 = ack-few (clocksAfter c 12) (event 6 j (responseOf b j)) in
+    let many : length (hs ++ writesOf q ps) ≡ length hs + 4 = length-append hs (writesOf q ps) ∙ ap (λ (z : ℕ). length hs + z) (length-writes q ps ∙ four-four (getSr c) (pcOf c) (offsetWord v)) in
+    let f : Entering b d s 8 v q a to at x y = alike-entering b (enterSupervisor c) d s 8 v q a to at x y (level-alike c j) g in
+    check-closed b c e s l 8 v q a to at x y ps (hs ++ writesOf q ps) m n g (four-within (getSr c) (pcOf c) (offsetWord v)) (omega arith)
+    (rw (level-after c j 12) at (first-68010 b d e s l (pcOf c) (getSr c) j q v (rw (level-kind c j) h) (rw (level-kind c j) k) i (f .registers) (f .running) (f .stack) (f .room) (omega arith)))
