@@ -304,3 +304,106 @@ interrupt-68010 b c e s l v q a to at x y h k m n i g u =
     let f : Entering b d s 8 v q a to at x y = alike-entering b (enterSupervisor c) d s 8 v q a to at x y (level-alike c j) g in
     check-closed b c e s l 8 v q a to at x y ps (hs ++ writesOf q ps) m n g (four-within (getSr c) (pcOf c) (offsetWord v)) (omega arith)
     (rw (level-after c j 12) at (first-68010 b d e s l (pcOf c) (getSr c) j q v (rw (level-kind c j) h) (rw (level-kind c j) k) i (f .registers) (f .running) (f .stack) (f .room) (omega arith)))
+
+-- ---- kind 1
+
+kind1-step : (b : Bus) (d : Cpu) (e : ℕ) (s l : List ℕ) (pc sr level : ℕ) → eqb (kindOf d) 1 ≡ true
+    → firstFrame (closed b d e s l) pc sr level ≡ from68000 (closed b (lowerA7 (internalCycles d 6) 6) e s l) (a7Of (lowerA7 (internalCycles d 6) 6)) pc sr level
+unfolding firstFrame pushInterrupt68000 closed putCpu
+kind1-step b d e s l pc sr level h = rw h
+
+module _ (d : Cpu) (q m : ℕ) where
+  framed-calm : setClocks (framed d q m) 0 ≡ framed d q m
+  unfolding setWdata setA7 setClocks
+  framed-calm = refl
+
+  -- between its words no clock waits, so that 4 are told where there is a queue
+  framed-four : clocksAfter (framed d q m) 4 ≡ pick (prefetchEnabled d) 4 0
+  unfolding clocksAfter clocksOf prefetchEnabled setWdata setA7 setClocks
+  framed-four = refl
+
+  framed-running : isFaulted (framed d q m) ≡ isFaulted d
+  unfolding isFaulted setWdata setA7 setClocks
+  framed-running = refl
+
+  framed-kind : kindOf (framed d q m) ≡ kindOf d
+  unfolding kindOf setWdata setA7 setClocks
+  framed-kind = refl
+
+  framed-over : (u v : ℕ) → setWdata (setWdata (framed d q m) u) v ≡ framed d q v
+  unfolding setWdata setA7 setClocks
+  framed-over u v = refl
+
+low-within : (v : ℕ) → Within 6 (wordAt 4 v ∷ [])
+unfolding Within
+low-within v = (refl, omega arith, tt)
+
+high-within : (u v : ℕ) → Within 6 (wordAt 0 u ∷ wordAt 2 v ∷ [])
+unfolding Within
+high-within u v = (refl, omega arith, (refl, omega arith, tt))
+
+low-stacked : (b : Bus) (d : Cpu) (k e : ℕ) (s l : List ℕ) (q v : ℕ)
+    → stacked b (setClocks d k) e s l q (wordAt 4 v ∷ []) ≡ closed b (framed d q v) (e + length (clockEvents k ++ (event 3 (q + 4) v ∷ []))) (laid s (q - b .base) (wordAt 4 v ∷ [])) (told e l (clockEvents k ++ (event 3 (q + 4) v ∷ [])))
+unfolding stacked setClocks clocksOf lastValue writesOf
+low-stacked b d k e s l q v = refl
+
+one-write : (w : World) (q : ℕ) (x : Piece) → writeAt raised w (q + x .offset) (x .long) (x .value) ≡ writeAll raised w q (x ∷ [])
+unfolding writeAll
+one-write w q x = refl
+
+-- PC low, after the clocks
+low-closed : (b : Bus) (d : Cpu) (k e : ℕ) (s l : List ℕ) (q v : ℕ) → isFaulted (setClocks d k) ≡ false → Room b (kindOf (setClocks d k)) (length s) q 6 → e + 2 < 2 ^ 32
+    → writeAt raised (closed b (setA7 (setClocks d k) q) e s l) ((q + 4) % 2 ^ 32) false v
+    ≡ closed b (framed d q v) (e + length (clockEvents k ++ (event 3 (q + 4) v ∷ []))) (laid s (q - b .base) (wordAt 4 v ∷ [])) (told e l (clockEvents k ++ (event 3 (q + 4) v ∷ [])))
+low-closed b d k e s l q v h r u =
+    let top : q + 6 ≤ 2 ^ 32 = r .top in
+    let z : (q + 4) % 2 ^ 32 ≡ q + 4 = omega arith in
+    ap (λ (p : ℕ). writeAt raised (closed b (setA7 (setClocks d k) q) e s l) p false v) z
+    ∙ one-write (closed b (setA7 (setClocks d k) q) e s l) q (wordAt 4 v)
+    ∙ writes-stacked raised b (setClocks d k) e s l q 6 (wordAt 4 v) [] h r (low-within v) (omega arith)
+    ∙ low-stacked b d k e s l q v
+
+rest1-step : (b : Bus) (c : Cpu) (e : ℕ) (s l : List ℕ) (sp pc sr v : ℕ)
+    → rest68000 sp pc sr (reply (closed b c e s l) true v) ≡ reply (writeAt raised (writeAt raised (closed b (internalCycles c 4) e s l) sp false sr) ((sp + 2) % 2 ^ 32) false (pc / 0x10000)) true v
+unfolding rest68000 closed putCpu
+rest1-step b c e s l sp pc sr v = refl
+
+two-writes : (w : World) (q u v : ℕ) → q + 6 ≤ 2 ^ 32 → writeAt raised (writeAt raised w q false u) ((q + 2) % 2 ^ 32) false v ≡ writeAll raised w q (wordAt 0 u ∷ wordAt 2 v ∷ [])
+unfolding writeAll
+two-writes w q u v h =
+    let y : (q + 2) % 2 ^ 32 ≡ q + 2 = omega arith in
+    let z : q + 0 ≡ q = omega arith in
+    rw (y, z)
+
+two-last : (c : Cpu) (u v : ℕ) → lastOf c (wordAt 0 u ∷ wordAt 2 v ∷ []) ≡ setWdata (setWdata c u) v
+unfolding lastOf
+two-last c u v = refl
+
+two-events : (q u v : ℕ) → writesOf q (wordAt 0 u ∷ wordAt 2 v ∷ []) ≡ event 3 q u ∷ event 3 (q + 2) v ∷ []
+unfolding writesOf
+two-events q u v = let z : q + 0 ≡ q = omega arith in rw z
+
+running : (c : Cpu) (k : ℕ) → isFaulted (setClocks c k) ≡ isFaulted c
+unfolding isFaulted setClocks
+running c k = refl
+
+kind : (c : Cpu) (k : ℕ) → kindOf (setClocks c k) ≡ kindOf c
+unfolding kindOf setClocks
+kind c k = refl
+
+-- the status and PC high, after 4 clocks
+high-closed : (b : Bus) (d : Cpu) (e : ℕ) (s l : List ℕ) (q m sr pc v : ℕ) → isFaulted d ≡ false → Room b (kindOf d) (length s) q 6 → e + 4 < 2 ^ 32
+    → rest68000 q pc sr (reply (closed b (framed d q m) e s l) true v)
+    ≡ reply (closed b (framed d q (pc / 0x10000)) (e + length (clockEvents (pick (prefetchEnabled d) 4 0) ++ (event 3 q sr ∷ event 3 (q + 2) (pc / 0x10000) ∷ []))) (laid s (q - b .base) (wordAt 0 sr ∷ wordAt 2 (pc / 0x10000) ∷ []))
+    (told e l (clockEvents (pick (prefetchEnabled d) 4 0) ++ (event 3 q sr ∷ event 3 (q + 2) (pc / 0x10000) ∷ [])))) true v
+high-closed b d e s l q m sr pc v h r u =
+    let k : ℕ = pick (prefetchEnabled d) 4 0 in
+    let c : Cpu = framed d q m in
+    let hi : ℕ = pc / 0x10000 in
+    let z : internalCycles c 4 ≡ setClocks c k = cycles-after c 4 ∙ ap (λ (i : ℕ). setClocks c i) (framed-four d q m) in
+    rest1-step b c e s l q pc sr v
+    ∙ ap (λ (i : Cpu). reply (writeAt raised (writeAt raised (closed b i e s l) q false sr) ((q + 2) % 2 ^ 32) false hi) true v) z
+    ∙ ap (λ (w : World). reply w true v)
+    (two-writes (closed b (setClocks c k) e s l) q sr hi (r .top)
+    ∙ writes-closed (wordAt 0 sr) (wordAt 2 hi ∷ []) raised b (setClocks c k) e s l q 6 (running c k ∙ framed-running d q m ∙ h) (rw (kind c k, framed-kind d q m) r) (high-within sr hi) (omega arith)
+    ∙ rw (clocks-set c k, clocks-twice c k, framed-calm d q m, two-last c sr hi, framed-over d q m sr hi, two-events q sr hi))
