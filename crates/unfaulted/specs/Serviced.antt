@@ -25,7 +25,7 @@ use Rattle.access.specs.Access.{raised, writeAt, pushFrame, jumpVector}
 use Rattle.formats.specs.Formats.{offsetWord, shortFrame}
 use Rattle.interrupts.specs.Interrupts.{vectorFrom, acknowledgeLevel, syncedAcknowledge, rest68000, from68000, pushInterrupt68000, writes68010, rest68010, pushInterrupt68010, restOther, pushInterruptOther, firstFrame, secondFrame, ended, dispatched, serviceInterrupt, serviced, checkAndService}
 use Rattle.unfaulted.specs.Closed.{closed, event, told, Piece, wordAt, longAt, laid, writesOf, lastOf, lastValue, clockEvents, stacked, shortPieces, threePieces, fourPieces, Room, Within, Landing, Entering, jumped, jumpEvents, clocksAfter, shortBytes, interrupted, otherEvents, events68010, events68000}
-use Rattle.unfaulted.specs.Lists.{told-append, length-writes, clocks-small}
+use Rattle.unfaulted.specs.Lists.{told-append, length-writes, clocks-small, laid-length}
 use Rattle.unfaulted.specs.Accesses.{flush-closed}
 use Rattle.unfaulted.specs.Pushes.{writeAll, writes-closed, joined, lower-to}
 use Rattle.unfaulted.specs.Stacks.{short-stacked, writes-stacked, three-within, jump-after, framed}
@@ -407,3 +407,81 @@ high-closed b d e s l q m sr pc v h r u =
     (two-writes (closed b (setClocks c k) e s l) q sr hi (r .top)
     ∙ writes-closed (wordAt 0 sr) (wordAt 2 hi ∷ []) raised b (setClocks c k) e s l q 6 (running c k ∙ framed-running d q m ∙ h) (rw (kind c k, framed-kind d q m) r) (high-within sr hi) (omega arith)
     ∙ rw (clocks-set c k, clocks-twice c k, framed-calm d q m, two-last c sr hi, framed-over d q m sr hi, two-events q sr hi))
+
+from-step : (w : World) (sp pc sr level : ℕ) → from68000 w sp pc sr level ≡ rest68000 sp pc sr (syncedAcknowledge (writeAt raised w ((sp + 4) % 2 ^ 32) false (pc % 0x10000)) 4 level)
+unfolding from68000
+from-step w sp pc sr level = refl
+
+three-laid : (s : List ℕ) (p sr pc : ℕ) → laid (laid s p (wordAt 4 (pc % 0x10000) ∷ [])) p (wordAt 0 sr ∷ wordAt 2 (pc / 0x10000) ∷ []) ≡ laid s p (threePieces sr pc)
+unfolding laid threePieces
+three-laid s p sr pc = refl
+
+three-last : (sr pc : ℕ) → lastValue (threePieces sr pc) ≡ pc / 0x10000
+unfolding lastValue threePieces
+three-last sr pc = refl
+
+-- the events of the frame on kind 1
+head68000 : Bus → ℕ → ℕ → ℕ → ℕ → ℕ → ℕ → List Event
+head68000 b i j level q sr pc =
+    ((clockEvents i ++ (event 3 (q + 4) (pc % 0x10000) ∷ [])) ++ (clockEvents j ++ (event 6 level (responseOf b level) ∷ []))) ++ (clockEvents j ++ (event 3 q sr ∷ event 3 (q + 2) (pc / 0x10000) ∷ []))
+
+first-68000 : (b : Bus) (d : Cpu) (e : ℕ) (s l : List ℕ) (pc sr level q v : ℕ) → eqb (kindOf d) 1 ≡ true → iackVector (responseOf b level) level ≡ v
+    → 15 < length (d .regs .dar) → isFaulted d ≡ false → a7Of d ≡ q + 6 → Room b (kindOf d) (length s) q 6 → e + 12 < 2 ^ 32
+    → firstFrame (closed b d e s l) pc sr level
+    ≡ reply (closed b (framed d q (lastValue (threePieces sr pc))) (e + length (head68000 b (clocksAfter d 6) (pick (prefetchEnabled d) 4 0) level q sr pc)) (laid s (q - b .base) (threePieces sr pc))
+    (told e l (head68000 b (clocksAfter d 6) (pick (prefetchEnabled d) 4 0) level q sr pc))) true v
+unfolding head68000
+first-68000 b d e s l pc sr level q v h i g j a r u =
+    let k : ℕ = clocksAfter d 6 in
+    let f : ℕ = pick (prefetchEnabled d) 4 0 in
+    let top : q + 6 ≤ 2 ^ 32 = r .top in
+    let p : ℕ = q - b .base in
+    let lo : ℕ = pc % 0x10000 in
+    let hi : ℕ = pc / 0x10000 in
+    let c : Cpu = setClocks d k in
+    let y : lowerA7 (internalCycles d 6) 6 ≡ setA7 c q = ap (λ (m : Cpu). lowerA7 m 6) (cycles-after d 6) ∙ lower-to c q 6 (calm-a7 d k ∙ a) (omega arith) (omega arith) in
+    let xs : List Event = clockEvents k ++ (event 3 (q + 4) lo ∷ []) in
+    let ys : List Event = clockEvents f ++ (event 6 level (responseOf b level) ∷ []) in
+    let zs : List Event = clockEvents f ++ (event 3 q sr ∷ event 3 (q + 2) hi ∷ []) in
+    let few : length xs ≤ 2 = ack-few k (event 3 (q + 4) lo) in
+    let many : length ys ≤ 2 = ack-few f (event 6 level (responseOf b level)) in
+    let all : length (xs ++ ys) ≡ length xs + length ys = length-append xs ys in
+    let s′ : List ℕ = laid s p (wordAt 4 lo ∷ []) in
+    kind1-step b d e s l pc sr level h
+    ∙ ap (λ (m : Cpu). from68000 (closed b m e s l) (a7Of m) pc sr level) y
+    ∙ ap (λ (m : ℕ). from68000 (closed b (setA7 c q) e s l) m pc sr level) (a7-at c q (calm-registers d k g))
+    ∙ from-step (closed b (setA7 c q) e s l) q pc sr level
+    ∙ ap (λ (w : World). rest68000 q pc sr (syncedAcknowledge w 4 level)) (low-closed b d k e s l q lo (running d k ∙ j) (rw (kind d k) r) (omega arith))
+    ∙ ap (λ (z : Attempt). rest68000 q pc sr z)
+    ((rw (framed-four d q lo, framed-calm d q lo) at (sync-closed b (framed d q lo) (e + length xs) s′ (told e l xs) 4 level v i (omega arith)))
+    ∙ ap (λ (w : World). reply w true v) (joined b (framed d q lo) e s′ l xs ys))
+    ∙ high-closed b d (e + length (xs ++ ys)) s′ (told e l (xs ++ ys)) q lo sr pc v j (rw (laid-length (wordAt 4 lo ∷ []) s p) r) (omega arith)
+    ∙ ap (λ (w : World). reply w true v) (joined b (framed d q hi) e (laid s′ p (wordAt 0 sr ∷ wordAt 2 hi ∷ [])) l (xs ++ ys) zs)
+    ∙ rw (three-laid s p sr pc, three-last sr pc)
+
+head-small : (b : Bus) (i j level q sr pc : ℕ) → length (head68000 b i j level q sr pc) ≤ 7
+unfolding head68000
+head-small b i j level q sr pc =
+    let xs : List Event = clockEvents i ++ (event 3 (q + 4) (pc % 0x10000) ∷ []) in
+    let ys : List Event = clockEvents j ++ (event 6 level (responseOf b level) ∷ []) in
+    let ws : List Event = event 3 q sr ∷ event 3 (q + 2) (pc / 0x10000) ∷ [] in
+    let a : length xs ≤ 2 = ack-few i (event 3 (q + 4) (pc % 0x10000)) in
+    let c : length ys ≤ 2 = ack-few j (event 6 level (responseOf b level)) in
+    let d : length (clockEvents j) ≤ 1 = clocks-small j in
+    rw (length-append (xs ++ ys) (clockEvents j ++ ws), length-append xs ys, length-append (clockEvents j) ws) (omega arith)
+
+-- an interrupt on kind 1
+pub interrupt-68000 : (b : Bus) (c : Cpu) (e : ℕ) (s l : List ℕ) (v q a to at x y : ℕ) → eqb (kindOf c) 1 ≡ true → takesInterrupt c ≡ true → mIsSet c ≡ false
+    → iackVector (responseOf b (pendingLevel c)) (pendingLevel c) ≡ v → Entering b (enterSupervisor c) s 6 v q a to at x y → e + 20 < 2 ^ 32
+    → checkAndService (closed b c e s l)
+    ≡ tried (interrupted b c (pendingLevel c) e s l q (threePieces (getSr c) (pcOf c)) (events68000 b c q (getSr c) (pcOf c) (prefetchEnabled c) a to at x y) (prefetchEnabled c) v to x y) true
+unfolding events68000 head68000
+interrupt-68000 b c e s l v q a to at x y h m n i g u =
+    let j : ℕ = pendingLevel c in
+    let d : Cpu = enterLevel c j in
+    let ps : List Piece = threePieces (getSr c) (pcOf c) in
+    let hs : List Event = head68000 b (clocksAfter c 6) (pick (prefetchEnabled c) 4 0) j q (getSr c) (pcOf c) in
+    let few : length hs ≤ 7 = head-small b (clocksAfter c 6) (pick (prefetchEnabled c) 4 0) j q (getSr c) (pcOf c) in
+    let f : Entering b d s 6 v q a to at x y = alike-entering b (enterSupervisor c) d s 6 v q a to at x y (level-alike c j) g in
+    check-closed b c e s l 6 v q a to at x y ps hs m n g (three-within (getSr c) (pcOf c)) (omega arith)
+    (rw (level-after c j 6, level-fetches c j) at (first-68000 b d e s l (pcOf c) (getSr c) j q v (rw (level-kind c j) h) i (f .registers) (f .running) (f .stack) (f .room) (omega arith)))
