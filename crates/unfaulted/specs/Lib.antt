@@ -6,3 +6,4 @@ pub mod Jumps
 pub mod Stacks
 pub mod Entries
 pub mod Serviced
+pub mod Written
