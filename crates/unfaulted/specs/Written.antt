@@ -7,10 +7,15 @@ use native.Mathlib.Omega.{arith}
 use lib.Dec.{ltb}
 use lib.ListN.{length, length-append}
 use Rattle.types.specs.Kinds.{pick}
+use Rattle.cpu.specs.declared.Cpu.{Cpu}
+use Rattle.cpu.specs.Clocks.{clocksOf}
+use Rattle.pending.specs.Interrupts.{pendingLevel}
+use Rattle.memory.specs.declared.Bus.{Bus}
+use Rattle.memory.specs.World.{responseOf}
 use Rattle.memory.specs.Log.{noteLog}
 use Rattle.memory.specs.Bytes.{putWord, putLong}
 use Rattle.memory.specs.LogLaws.{Event}
-use Rattle.unfaulted.specs.Closed.{event, told, Piece, laid, writesOf, clockEvents, shortPieces, longPieces, disabledPieces, threePieces, fourPieces, jumpEvents, entryEvents}
+use Rattle.unfaulted.specs.Closed.{event, told, Piece, laid, writesOf, clockEvents, shortPieces, longPieces, disabledPieces, threePieces, fourPieces, jumpEvents, entryEvents, clocksAfter, otherEvents, events68010, events68000}
 use Rattle.unfaulted.specs.Lists.{told-append, length-writes}
 
 -- ---- the bytes
@@ -140,3 +145,40 @@ module _ (e : ℕ) (l : List ℕ) (k q : ℕ) (ps : List Piece) (f : Bool) (a to
   unfolding entryEvents
   entry-count =
       rw (length-append (clockEvents k ++ writesOf q ps) (jumpEvents f a to at x y), length-append (clockEvents k) (writesOf q ps), length-writes q ps, clocks-count k, jump-count f a to at x y)
+
+one : (n : ℕ) (l : List ℕ) (z : Event) → told n l (z ∷ []) ≡ noteLog n l (z .code) (z .place) (z .value)
+unfolding told
+one n l z = refl
+
+-- an interrupt on a kind other than 1 and 2: the acknowledge, then as an entry
+module _ (b : Bus) (c : Cpu) (e : ℕ) (l : List ℕ) (q : ℕ) (ps : List Piece) (f : Bool) (a to at x y : ℕ) where
+  pub other-log : told e l (otherEvents b c q ps f a to at x y)
+      ≡ told (e + 1) (noteLog e l 6 (pendingLevel c) (responseOf b (pendingLevel c))) (entryEvents (clocksOf c) q ps f a to at x y)
+  unfolding told otherEvents entryEvents
+  other-log = refl
+
+  pub other-count : length (otherEvents b c q ps f a to at x y) ≡ 1 + length (entryEvents (clocksOf c) q ps f a to at x y)
+  unfolding otherEvents entryEvents
+  other-count = omega arith
+
+  -- on kind 2: clocks, the acknowledge, frame, jump
+  pub log68010 : (n m : ℕ) → n ≡ e + length (clockEvents (clocksAfter c 12)) → m ≡ n + 1 + length ps
+      → told e l (events68010 b c q ps f a to at x y)
+      ≡ told m (told (n + 1) (noteLog n (told e l (clockEvents (clocksAfter c 12))) 6 (pendingLevel c) (responseOf b (pendingLevel c))) (writesOf q ps)) (jumpEvents f a to at x y)
+  unfolding events68010
+  log68010 n m h g =
+      let ce : List Event = clockEvents (clocksAfter c 12) in
+      let ack : List Event = event 6 (pendingLevel c) (responseOf b (pendingLevel c)) ∷ [] in
+      let ws : List Event = writesOf q ps in
+      let u : e + (length ce + 1) ≡ n + 1 = omega arith in
+      let z : e + (length ce + 1 + length ps) ≡ m = omega arith in
+      told-append ((ce ++ ack) ++ ws) (jumpEvents f a to at x y) e l
+      ∙ rw (length-append (ce ++ ack) ws, length-append ce ack, length-writes q ps, z, told-append (ce ++ ack) ws e l, length-append ce ack, u, told-append ce ack e l, ← h)
+      (ap (λ (i : List ℕ). told m (told (n + 1) i ws) (jumpEvents f a to at x y)) (one n (told e l ce) (event 6 (pendingLevel c) (responseOf b (pendingLevel c)))))
+
+  pub count68010 : length (events68010 b c q ps f a to at x y) ≡ pick (ltb 0 (clocksAfter c 12)) 1 0 + 1 + length ps + pick f 5 2
+  unfolding events68010
+  count68010 =
+      let ce : List Event = clockEvents (clocksAfter c 12) in
+      let ack : List Event = event 6 (pendingLevel c) (responseOf b (pendingLevel c)) ∷ [] in
+      rw (length-append ((ce ++ ack) ++ writesOf q ps) (jumpEvents f a to at x y), length-append (ce ++ ack) (writesOf q ps), length-append ce ack, length-writes q ps, clocks-count (clocksAfter c 12), jump-count f a to at x y)
