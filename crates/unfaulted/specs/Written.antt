@@ -182,3 +182,61 @@ module _ (b : Bus) (c : Cpu) (e : ℕ) (l : List ℕ) (q : ℕ) (ps : List Piece
       let ce : List Event = clockEvents (clocksAfter c 12) in
       let ack : List Event = event 6 (pendingLevel c) (responseOf b (pendingLevel c)) ∷ [] in
       rw (length-append ((ce ++ ack) ++ writesOf q ps) (jumpEvents f a to at x y), length-append (ce ++ ack) (writesOf q ps), length-append ce ack, length-writes q ps, clocks-count (clocksAfter c 12), jump-count f a to at x y)
+
+-- four runs of events
+four-runs : (e : ℕ) (l : List ℕ) (xs ys zs cs js : List Event) (n : ℕ) → n ≡ e + length xs
+    → told e l ((((xs ++ ys) ++ zs) ++ cs) ++ js) ≡ told (n + length ys + length zs + length cs) (told (n + length ys + length zs) (told (n + length ys) (told n (told e l xs) ys) zs) cs) js
+four-runs e l xs ys zs cs js n h =
+    let u : e + (length xs + length ys) ≡ n + length ys = omega arith in
+    let v : e + (length xs + length ys + length zs) ≡ n + length ys + length zs = omega arith in
+    let w : e + (length xs + length ys + length zs + length cs) ≡ n + length ys + length zs + length cs = omega arith in
+    told-append (((xs ++ ys) ++ zs) ++ cs) js e l
+    ∙ rw (told-append ((xs ++ ys) ++ zs) cs e l, told-append (xs ++ ys) zs e l, told-append xs ys e l, length-append ((xs ++ ys) ++ zs) cs, length-append (xs ++ ys) zs, length-append xs ys, u, v, w, ← h)
+
+-- an interrupt on kind 1, without and with a queue
+module _ (b : Bus) (c : Cpu) (e : ℕ) (l : List ℕ) (q sr pc a to at x y n : ℕ) (h : n ≡ e + length (clockEvents (clocksAfter c 6))) where
+  pub log68000-off : told e l (events68000 b c q sr pc false a to at x y)
+      ≡ told (n + 4)
+      (noteLog (n + 3) (noteLog (n + 2) (noteLog (n + 1) (noteLog n (told e l (clockEvents (clocksAfter c 6))) 3 (q + 4) (pc % 0x10000)) 6 (pendingLevel c) (responseOf b (pendingLevel c))) 3 q sr) 3 (q + 2) (pc / 0x10000))
+      (jumpEvents false a to at x y)
+  unfolding told events68000 clockEvents
+  log68000-off =
+      let i : ℕ = pendingLevel c in
+      let u : n + 1 + 1 ≡ n + 2 = omega arith in
+      let v : n + 2 + 1 ≡ n + 3 = omega arith in
+      let w : n + 2 + 2 ≡ n + 4 = omega arith in
+      four-runs e l (clockEvents (clocksAfter c 6)) (event 3 (q + 4) (pc % 0x10000) ∷ []) (event 6 i (responseOf b i) ∷ []) (event 3 q sr ∷ event 3 (q + 2) (pc / 0x10000) ∷ []) (jumpEvents false a to at x y) n h
+      ∙ rw (u, v, w)
+
+  pub log68000-on : told e l (events68000 b c q sr pc true a to at x y)
+      ≡ told (n + 6)
+      (noteLog (n + 5) (noteLog (n + 4) (noteLog (n + 3) (noteLog (n + 2) (noteLog (n + 1) (noteLog n (told e l (clockEvents (clocksAfter c 6))) 3 (q + 4) (pc % 0x10000)) 5 0 4) 6 (pendingLevel c) (responseOf b (pendingLevel c))) 5 0 4) 3 q sr) 3 (q + 2) (pc / 0x10000))
+      (jumpEvents true a to at x y)
+  unfolding told events68000 clockEvents
+  log68000-on =
+      let i : ℕ = pendingLevel c in
+      let u : n + 1 + 1 ≡ n + 2 = omega arith in
+      let v : n + 1 + 2 ≡ n + 3 = omega arith in
+      let w : n + 3 + 1 ≡ n + 4 = omega arith in
+      let z : n + 4 + 1 ≡ n + 5 = omega arith in
+      let k : n + 3 + 3 ≡ n + 6 = omega arith in
+      four-runs e l (clockEvents (clocksAfter c 6)) (event 3 (q + 4) (pc % 0x10000) ∷ []) (event 5 0 4 ∷ event 6 i (responseOf b i) ∷ []) (event 5 0 4 ∷ event 3 q sr ∷ event 3 (q + 2) (pc / 0x10000) ∷ []) (jumpEvents true a to at x y) n h
+      ∙ rw (u, v, w, z, k)
+
+pub count68000 : (b : Bus) (c : Cpu) (q sr pc : ℕ) (f : Bool) (a to at x y : ℕ) → length (events68000 b c q sr pc f a to at x y) ≡ pick (ltb 0 (clocksAfter c 6)) 1 0 + pick f 11 6
+unfolding events68000 clockEvents
+count68000 b c q sr pc f a to at x y = go f
+  where
+    i : ℕ
+    i = pendingLevel c
+
+    five : (xs ys zs cs js : List Event) → length ((((xs ++ ys) ++ zs) ++ cs) ++ js) ≡ length xs + length ys + length zs + length cs + length js
+    five xs ys zs cs js = rw (length-append (((xs ++ ys) ++ zs) ++ cs) js, length-append ((xs ++ ys) ++ zs) cs, length-append (xs ++ ys) zs, length-append xs ys)
+
+    go : (f : Bool) → length (events68000 b c q sr pc f a to at x y) ≡ pick (ltb 0 (clocksAfter c 6)) 1 0 + pick f 11 6
+    go true =
+        five (clockEvents (clocksAfter c 6)) (event 3 (q + 4) (pc % 0x10000) ∷ []) (event 5 0 4 ∷ event 6 i (responseOf b i) ∷ []) (event 5 0 4 ∷ event 3 q sr ∷ event 3 (q + 2) (pc / 0x10000) ∷ []) (jumpEvents true a to at x y)
+        ∙ rw (clocks-count (clocksAfter c 6), jump-count true a to at x y) (omega arith)
+    go false =
+        five (clockEvents (clocksAfter c 6)) (event 3 (q + 4) (pc % 0x10000) ∷ []) (event 6 i (responseOf b i) ∷ []) (event 3 q sr ∷ event 3 (q + 2) (pc / 0x10000) ∷ []) (jumpEvents false a to at x y)
+        ∙ rw (clocks-count (clocksAfter c 6), jump-count false a to at x y) (omega arith)
