@@ -208,11 +208,11 @@ take-closed b c e s l v q a to at x y h g u =
 -- ---- group 2, and frames of format 2 and 4
 
 module _ (c : Cpu) where
-  supervisor-clocks : clocksOf (enterSupervisor c) ≡ clocksOf c
+  pub supervisor-clocks : clocksOf (enterSupervisor c) ≡ clocksOf c
   unfolding enterSupervisor clearTrace setSFlag restoreSp putS backupSp clocksOf
   supervisor-clocks = refl
 
-  supervisor-fetches : prefetchEnabled (enterSupervisor c) ≡ prefetchEnabled c
+  pub supervisor-fetches : prefetchEnabled (enterSupervisor c) ≡ prefetchEnabled c
   unfolding enterSupervisor clearTrace setSFlag restoreSp putS backupSp prefetchEnabled
   supervisor-fetches = refl
 

@@ -6,4 +6,5 @@ pub mod Jumps
 pub mod Stacks
 pub mod Entries
 pub mod Serviced
+pub mod Errors
 pub mod Written
