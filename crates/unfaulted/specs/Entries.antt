@@ -17,6 +17,7 @@ use Rattle.status.specs.Status.{getSr, compose, clearTrace}
 use Rattle.status.specs.Banks.{enterSupervisor, setSFlag, restoreSp, putS, backupSp, spIndex}
 use Rattle.memory.specs.declared.Core.{Core}
 use Rattle.memory.specs.declared.Bus.{Bus}
+use Rattle.memory.specs.Runs.{Apart}
 use Rattle.memory.specs.World.{World, putCpu, cpuOf, step, withCpu}
 use Rattle.steps.specs.Steps.{stacksNext, stackedAddress, beginEntry, beginTrace}
 use Rattle.access.specs.Access.{raised, pushFrame, pushExceptionFrame68000, jumpVector}
@@ -216,14 +217,36 @@ module _ (c : Cpu) where
   unfolding enterSupervisor clearTrace setSFlag restoreSp putS backupSp prefetchEnabled
   supervisor-fetches = refl
 
-  supervisor-kind : kindOf (enterSupervisor c) ≡ kindOf c
+  pub supervisor-kind : kindOf (enterSupervisor c) ≡ kindOf c
   unfolding enterSupervisor clearTrace setSFlag restoreSp putS backupSp kindOf
   supervisor-kind = refl
+
+  pub supervisor-vbr : vbrOf (enterSupervisor c) ≡ vbrOf c
+  unfolding enterSupervisor clearTrace setSFlag restoreSp putS backupSp vbrOf
+  supervisor-vbr = refl
+
+  pub supervisor-running : isFaulted (enterSupervisor c) ≡ isFaulted c
+  unfolding enterSupervisor clearTrace setSFlag restoreSp putS backupSp isFaulted
+  supervisor-running = refl
 
   -- the registers stay 16
   pub supervisor-registers : length (enterSupervisor c .regs .dar) ≡ length (c .regs .dar)
   unfolding enterSupervisor clearTrace setSFlag restoreSp putS backupSp
   supervisor-registers = length-set (c .regs .dar) 15 _
+
+-- what an entry asks, told of the record before it; only A7 is that of the supervisor's stack
+pub entering : (b : Bus) (c : Cpu) (s : List ℕ) (n v q a to at x y : ℕ) → isFaulted c ≡ false → length (c .regs .dar) ≡ 16 → a7Of (enterSupervisor c) ≡ q + n → Room b (kindOf c) (length s) q n
+    → Landing b (kindOf c) (vbrOf c) (prefetchEnabled c) s v a to at x y → Apart q n a 4 → (prefetchEnabled c ≡ true → Apart q n at 4) → Entering b (enterSupervisor c) s n v q a to at x y
+entering b c s n v q a to at x y h m i r k d g =
+    record {
+      running = supervisor-running c ∙ h;
+      registers = rw (supervisor-registers c, m) (omega arith);
+      stack = i;
+      room = rw (supervisor-kind c) r;
+      landing = rw (supervisor-kind c, supervisor-vbr c, supervisor-fetches c) k;
+      vector-apart = d;
+      queue-apart = rw (supervisor-fetches c) g;
+    }
 
 group2-step : (b : Bus) (c : Cpu) (e : ℕ) (s l : List ℕ) (v : ℕ)
     → stackGroup2 (closed b c e s l) v ≡ pick (isPre68020 (kindOf c)) (stackShort (closed b c e s l) (pcOf c) (offsetWord v)) (pushFrame raised (closed b (enterSupervisor c) e s l) (longFrame (getSr c) (pcOf c) (formatWord 2 v) (ppcOf c)))

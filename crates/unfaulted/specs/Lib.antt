@@ -8,3 +8,4 @@ pub mod Entries
 pub mod Serviced
 pub mod Errors
 pub mod Written
+pub mod Examples
