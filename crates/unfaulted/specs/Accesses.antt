@@ -1,29 +1,27 @@
 -- Accesses that nothing refuses, one by one and in a row.
-use Prim.Native.Nat.{ℕ, zero, suc, _+_, _-_, _*_, _/_, _%_, _^_, _≤_, _<_}
-use mathlib.Core.Path.{_≡_, refl, sym, ap, _∙_}
+use Prim.Native.Nat.{ℕ, _+_, _-_, _%_, _^_, _≤_, _<_}
+use mathlib.Core.Path.{_≡_, refl, sym, ap}
 use mathlib.Core.Bool.{Bool, true, false}
-use mathlib.Core.List.{List, [], _∷_, _++_}
+use mathlib.Core.List.{List, [], _∷_}
 use native.Mathlib.Omega.{arith}
 use borrow.Author.Tests.{ltb-false, le-ltb, le-leb, ne-eqb}
-use lib.Dec.{eqb, ltb, leb}
-use lib.ListN.{length, length-append}
-use Rattle.types.specs.Kinds.{pick, isPre68020, maskAddress}
+use lib.Dec.{eqb, ltb}
+use lib.ListN.{length}
+use Rattle.types.specs.Kinds.{pick, maskAddress}
 use Rattle.cpu.specs.declared.Cpu.{Cpu}
 use Rattle.cpu.specs.Fields.{kindOf, addressOf, isFaulted, checksAlignment, setWdata}
 use Rattle.cpu.specs.Clocks.{hasClocks, clocksOf, setClocks}
-use Rattle.memory.specs.declared.Core.{Core}
 use Rattle.memory.specs.declared.Bus.{Bus}
 use Rattle.memory.specs.Log.{noteLog, counted, withEvents}
-use Rattle.memory.specs.Bytes.{putWord, putLong, getWord, getLong}
+use Rattle.memory.specs.Bytes.{putWord, putLong, getWord}
 use Rattle.memory.specs.Served.{servedOf, inStore, clearOf, windowsInUse, placeOf}
-use Rattle.memory.specs.World.{World, world, Attempt, reply, noted, stored, withCpu, putCpu, widthOf, served, written, fetched, readValue, rawRead, tryRead, flush, rawWrite, tryWrite, cpuOf}
-use Rattle.memory.specs.Runs.{Apart}
-use Rattle.memory.specs.ByteLaws.{put, get, put-length, read-other}
-use Rattle.memory.specs.LogLaws.{Event, flush-none}
+use Rattle.memory.specs.World.{World, reply, noted, stored, putCpu, widthOf, served, written, fetched, readValue, rawRead, tryRead, flush, rawWrite, tryWrite}
+use Rattle.memory.specs.ByteLaws.{put, get}
+use Rattle.memory.specs.LogLaws.{flush-none}
 use Rattle.memory.specs.AccessLaws.{writeCode, readCode, kept}
 use Rattle.steps.specs.Steps.{refusesOdd}
 use Rattle.access.specs.Access.{Raise, readOr, checkedRead, readAt, prefetchRead, wrote, checkedWrite, writeAt}
-use Rattle.unfaulted.specs.Closed.{closed, event, told, Piece, laid, writesOf, lastOf, clockEvents, Room, Within}
+use Rattle.unfaulted.specs.Closed.{closed, event, told, clockEvents, Room}
 
 -- ---- one access
 

@@ -1,6 +1,6 @@
 -- The words in which an entry is told in full where nothing is refused and nothing faults: which events are logged, which bytes are laid
 -- into the store, and what must be known of the numbers before.
-use Prim.Native.Nat.{ℕ, zero, suc, _+_, _-_, _*_, _/_, _%_, _^_, _≤_, _<_}
+use Prim.Native.Nat.{ℕ, _+_, _-_, _*_, _/_, _%_, _^_, _≤_, _<_}
 use mathlib.Core.Path.{_≡_}
 use mathlib.Core.Bool.{Bool, true, false}
 use mathlib.Core.List.{List, [], _∷_, _++_}
@@ -10,7 +10,6 @@ use Rattle.types.specs.Kinds.{pick, isPre68020, maskAddress}
 use Rattle.cpu.specs.declared.Cpu.{Cpu}
 use Rattle.cpu.specs.Fields.{kindOf, vbrOf, a7Of, isFaulted, setA7, setWdata, setPc, startVector}
 use Rattle.cpu.specs.Clocks.{prefetchEnabled, clocksOf, setClocks, firstWord, secondWord}
-use Rattle.memory.specs.declared.Core.{Core}
 use Rattle.memory.specs.declared.Bus.{Bus}
 use Rattle.memory.specs.Log.{noteLog, withEvents}
 use Rattle.memory.specs.Bytes.{getWord, getLong}

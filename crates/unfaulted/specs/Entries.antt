@@ -1,29 +1,27 @@
 -- Whole entries where nothing is refused and nothing faults.
-use Prim.Native.Nat.{ℕ, zero, suc, _+_, _-_, _*_, _/_, _%_, _^_, _≤_, _<_}
+use Prim.Native.Nat.{ℕ, _+_, _%_, _^_, _≤_, _<_}
 use mathlib.Core.Path.{_≡_, refl, sym, ap, _∙_}
 use mathlib.Core.Bool.{Bool, true, false}
-use mathlib.Core.Logic.{_⊎_, inl, inr}
-use mathlib.Core.List.{List, [], _∷_, _++_}
+use mathlib.Core.List.{List}
 use native.Mathlib.Omega.{arith}
-use lib.Dec.{eqb, ltb}
-use lib.ListN.{length, getD, set, length-set}
-use Rattle.types.specs.Kinds.{pick, isPre68020, maskAddress}
+use lib.Dec.{eqb}
+use lib.ListN.{length, length-set}
+use Rattle.types.specs.Kinds.{pick, isPre68020}
 use Rattle.types.specs.Tables.{exceptionCycles}
 use Rattle.types.specs.Vectors.{trace, line1111}
 use Rattle.cpu.specs.declared.Cpu.{Cpu}
 use Rattle.cpu.specs.Fields.{kindOf, pcOf, ppcOf, vbrOf, a7Of, isFaulted, inException, setWdata, setA7, setPc, startVector, setException, leaveStop, rewindPc, noteFpiar}
-use Rattle.cpu.specs.Clocks.{hasClocks, clocksOf, setClocks, prefetchEnabled, internalCycles, firstWord, secondWord}
-use Rattle.status.specs.Status.{getSr, compose, clearTrace}
+use Rattle.cpu.specs.Clocks.{clocksOf, setClocks, prefetchEnabled, internalCycles, firstWord, secondWord}
+use Rattle.status.specs.Status.{getSr, clearTrace}
 use Rattle.status.specs.Banks.{enterSupervisor, setSFlag, restoreSp, putS, backupSp, spIndex}
-use Rattle.memory.specs.declared.Core.{Core}
 use Rattle.memory.specs.declared.Bus.{Bus}
 use Rattle.memory.specs.Runs.{Apart}
-use Rattle.memory.specs.World.{World, putCpu, cpuOf, step, withCpu}
+use Rattle.memory.specs.World.{World, putCpu}
 use Rattle.steps.specs.Steps.{stacksNext, stackedAddress, beginEntry, beginTrace}
 use Rattle.access.specs.Access.{raised, pushFrame, pushExceptionFrame68000, jumpVector}
 use Rattle.formats.specs.Formats.{formatWord, offsetWord, shortFrame, longFrame, disabledFrame}
-use Rattle.exceptions.specs.Exceptions.{Entry, entry, supervised, stackShort, finished, taken, takeException, stackGroup2, takeGroup2, exceptionTrace, takeRewound, stackUnimp, takeFpUnimp060, stackDisabled, takeFpDisabled060}
-use Rattle.unfaulted.specs.Closed.{closed, Piece, wordAt, longAt, lastValue, stacked, shortPieces, longPieces, disabledPieces, threePieces, Room, Within, Landing, Entering, jumped, entryEvents, arrived, clocksAfter, shortBytes, shortOf, group2Bytes, group2Of}
+use Rattle.exceptions.specs.Exceptions.{entry, stackShort, finished, taken, takeException, stackGroup2, takeGroup2, exceptionTrace, takeRewound, stackUnimp, takeFpUnimp060, stackDisabled, takeFpDisabled060}
+use Rattle.unfaulted.specs.Closed.{closed, Piece, lastValue, stacked, shortPieces, longPieces, disabledPieces, threePieces, Room, Within, Landing, Entering, jumped, arrived, clocksAfter, shortBytes, shortOf, group2Bytes, group2Of}
 use Rattle.unfaulted.specs.Stacks.{short-stacked, long-stacked, disabled-stacked, three-stacked, three-within, jump-stacked}
 
 -- ---- the record before the frame

@@ -1,9 +1,9 @@
 -- Error entries whose frames are written by guarded accesses: bus errors on all kinds but 1, 2 and 10. The other error frames are written raw
 -- and are not treated here.
-use Prim.Native.Nat.{ℕ, zero, suc, _+_, _-_, _*_, _/_, _%_, _^_, _≤_, _<_}
+use Prim.Native.Nat.{ℕ, zero, suc, _+_, _%_, _^_, _<_}
 use mathlib.Core.Path.{_≡_, refl, sym, ap, _∙_}
 use mathlib.Core.Bool.{Bool, true, false}
-use mathlib.Core.List.{List, [], _∷_, _++_}
+use mathlib.Core.List.{List}
 use native.Mathlib.Omega.{arith}
 use borrow.Author.Tests.{eqb-true}
 use lib.Dec.{eqb}
@@ -13,10 +13,8 @@ use Rattle.types.specs.Vectors.{busErrorVector}
 use Rattle.cpu.specs.declared.Cpu.{Cpu}
 use Rattle.cpu.specs.Fields.{kindOf, ppcOf, irOf, vbrOf, a7Of, isFaulted, inException, causeNumberOf, clearFcOverride}
 use Rattle.cpu.specs.Clocks.{clocksOf, prefetchEnabled}
-use Rattle.memory.specs.declared.Core.{Core}
 use Rattle.memory.specs.declared.Bus.{Bus}
-use Rattle.memory.specs.World.{World, putCpu, cpuOf, step, withCpu}
-use Rattle.frames.specs.declared.Field.{Field}
+use Rattle.memory.specs.World.{World, putCpu, step}
 use Rattle.frames.specs.declared.Frame.{Frame}
 use Rattle.frames.specs.Frames.{fieldAt, busFrame, frame68000, frame8, frame4, frame7, frame11, writeData}
 use Rattle.frames.specs.Codes.{faultCode, faultWord, ssw020, ssw040, wb3s, fslw060}

@@ -1,13 +1,12 @@
 -- Worlds that meet the premises, and what an entry leaves there.
-use Prim.Native.Nat.{ℕ, _+_, _-_, _*_, _/_, _%_, _^_, _≤_, _<_}
-use mathlib.Core.Path.{_≡_, refl, ap, _∙_}
-use mathlib.Core.Bool.{Bool, true, false}
-use mathlib.Core.Logic.{_⊎_, inl, inr}
-use mathlib.Core.List.{List, [], _∷_, _++_}
+use Prim.Native.Nat.{ℕ, _+_, _-_, _%_, _≤_, _<_}
+use mathlib.Core.Path.{_≡_, refl}
+use mathlib.Core.Logic.{inr}
+use mathlib.Core.List.{List, [], _∷_}
 use native.Mathlib.Omega.{arith}
-use lib.Dec.{eqb, ltb, lit≤, lit<}
-use lib.ListN.{length, getD, set, replicate}
-use Rattle.types.specs.Kinds.{pick, is060, isPrefetchKind, maskAddress}
+use lib.Dec.{lit≤, lit<}
+use lib.ListN.{replicate}
+use Rattle.types.specs.Kinds.{is060, isPrefetchKind, maskAddress}
 use Rattle.types.specs.Tables.{exceptionCycles}
 use Rattle.cpu.specs.declared.Cpu.{Cpu}
 use Rattle.cpu.specs.Fields.{kindOf, pcOf, ppcOf, vbrOf, a7Of, isFaulted, inException, setA7}
@@ -15,13 +14,12 @@ use Rattle.cpu.specs.Clocks.{prefetchEnabled, clocksOf, setClocks}
 use Rattle.cpu.specs.Fresh.{freshCpu, freshFlow, freshRegs, freshFlags, freshQueue}
 use Rattle.memory.specs.declared.Bus.{Bus}
 use Rattle.memory.specs.Bytes.{putLong, putWord, getLong, getWord}
-use Rattle.memory.specs.LogLaws.{Event}
 use Rattle.status.specs.Status.{getSr, compose, clearTrace}
 use Rattle.status.specs.Banks.{enterSupervisor, setSFlag, restoreSp, putS, backupSp, spIndex}
-use Rattle.exceptions.specs.Exceptions.{Entry, entry, takeException}
+use Rattle.exceptions.specs.Exceptions.{entry, takeException}
 use Rattle.steps.specs.Steps.{stacksNext, stackedAddress}
 use Rattle.formats.specs.Formats.{offsetWord}
-use Rattle.unfaulted.specs.Closed.{closed, event, Room, Landing, Entering, arrived, clocksAfter, entryEvents, shortBytes, shortOf, threePieces, writesOf, clockEvents, jumpEvents}
+use Rattle.unfaulted.specs.Closed.{closed, event, Room, Entering, arrived, clocksAfter, entryEvents, shortBytes, shortOf, threePieces, writesOf, clockEvents, jumpEvents}
 use Rattle.unfaulted.specs.Entries.{entering, take-closed}
 
 -- 256 bytes from 0 on, no window

@@ -1,11 +1,11 @@
 -- The jump to a vector whose reads nothing refuses.
-use Prim.Native.Nat.{ℕ, zero, suc, _+_, _-_, _*_, _/_, _%_, _^_, _≤_, _<_}
+use Prim.Native.Nat.{ℕ, _+_, _-_, _*_, _%_, _^_, _≤_, _<_}
 use mathlib.Core.Path.{_≡_, refl, sym, ap, _∙_}
 use mathlib.Core.Bool.{Bool, true, false}
-use mathlib.Core.List.{List, [], _∷_, _++_}
+use mathlib.Core.List.{List, [], _∷_}
 use native.Mathlib.Omega.{arith}
 use borrow.Author.Tests.{ne-eqb}
-use lib.Dec.{eqb, ltb}
+use lib.Dec.{ltb}
 use lib.ListN.{length}
 use Rattle.types.specs.Kinds.{pick, maskAddress}
 use Rattle.types.specs.Laws.{masked-address-parity}
@@ -13,11 +13,10 @@ use Rattle.cpu.specs.declared.Cpu.{Cpu}
 use Rattle.cpu.specs.Fields.{kindOf, pcOf, vbrOf, addressOf, isFaulted, setPc, startVector, oddPc}
 use Rattle.cpu.specs.Clocks.{hasClocks, clocksOf, setClocks, prefetchEnabled, oneFetched, internalCycles, clearPrefetch, firstWord, secondWord}
 use Rattle.cpu.specs.Laws.{clocks-kept}
-use Rattle.memory.specs.declared.Core.{Core}
 use Rattle.memory.specs.declared.Bus.{Bus}
-use Rattle.memory.specs.Log.{noteLog, counted, withEvents}
+use Rattle.memory.specs.Log.{noteLog, counted}
 use Rattle.memory.specs.Bytes.{getWord, getLong}
-use Rattle.memory.specs.World.{World, Attempt, reply, noted, putCpu, widthOf, flush, release, cpuOf, step, withCpu}
+use Rattle.memory.specs.World.{World, Attempt, reply, noted, putCpu, flush, release, cpuOf, withCpu}
 use Rattle.memory.specs.LogLaws.{Event}
 use Rattle.steps.specs.Steps.{vectorAddress}
 use Rattle.access.specs.Access.{Raise, readAt, prefetchRead, keptFirst, firstFrom, prefetchFirst, keptSecond, secondFrom, prefetchSecond, vectorRead, refill, jumpTo, jumpVector}

@@ -1,21 +1,19 @@
 -- Events and pieces in a row.
-use Prim.Native.Nat.{ℕ, zero, suc, _+_, _-_, _*_, _/_, _%_, _^_, _≤_, _<_}
-use mathlib.Core.Path.{_≡_, refl, sym, ap, _∙_}
+use Prim.Native.Nat.{ℕ, suc, _+_, _≤_}
+use mathlib.Core.Path.{_≡_, refl, ap, _∙_}
 use mathlib.Core.Bool.{Bool, true, false}
-use mathlib.Core.Logic.{_⊎_, inl, inr}
+use mathlib.Core.Logic.{inl, inr}
 use mathlib.Core.List.{List, [], _∷_, _++_}
 use native.Mathlib.Omega.{arith}
 use lib.Dec.{ltb}
-use lib.ListN.{length, length-append}
+use lib.ListN.{length}
 use Rattle.types.specs.Kinds.{pick}
-use Rattle.cpu.specs.declared.Cpu.{Cpu}
 use Rattle.memory.specs.Log.{noteLog}
-use Rattle.memory.specs.Bytes.{putWord, putLong, getWord, getLong}
 use Rattle.memory.specs.World.{widthOf}
 use Rattle.memory.specs.Runs.{Apart}
 use Rattle.memory.specs.ByteLaws.{put, get, put-length, read-other}
 use Rattle.memory.specs.LogLaws.{Event}
-use Rattle.memory.specs.AccessLaws.{writeCode, kept}
+use Rattle.memory.specs.AccessLaws.{kept}
 use Rattle.unfaulted.specs.Closed.{event, told, Piece, laid, writesOf, clockEvents, Within}
 
 -- ---- events

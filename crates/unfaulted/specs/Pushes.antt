@@ -1,29 +1,26 @@
 -- Frames whose writes nothing refuses: A7 at the start of the frame, its pieces in the store, its events in the log.
-use Prim.Native.Nat.{ℕ, zero, suc, _+_, _-_, _*_, _/_, _%_, _^_, _≤_, _<_}
+use Prim.Native.Nat.{ℕ, zero, suc, _+_, _-_, _%_, _^_, _≤_, _<_}
 use mathlib.Core.Path.{_≡_, refl, sym, ap, _∙_}
 use mathlib.Core.Bool.{Bool, true, false}
 use mathlib.Core.List.{List, [], _∷_, _++_}
 use native.Mathlib.Omega.{arith}
-use lib.Dec.{eqb, ltb}
-use lib.ListN.{length, getD, set, length-append, length-set}
+use lib.ListN.{length, length-append}
 use lib.Seq.{getD-set-same, set-getD, set-set}
-use Rattle.types.specs.Kinds.{pick, maskAddress}
 use Rattle.cpu.specs.declared.Cpu.{Cpu}
 use Rattle.cpu.specs.Fields.{kindOf, a7Of, isFaulted, setWdata, setA7, lowerA7, minus32}
 use Rattle.cpu.specs.Clocks.{hasClocks, clocksOf, setClocks}
-use Rattle.memory.specs.declared.Core.{Core}
 use Rattle.memory.specs.declared.Bus.{Bus}
 use Rattle.memory.specs.Log.{noteLog}
-use Rattle.memory.specs.World.{World, putCpu, widthOf, cpuOf, step, withCpu}
+use Rattle.memory.specs.World.{World, putCpu, widthOf}
 use Rattle.memory.specs.ByteLaws.{put, put-length}
 use Rattle.memory.specs.LogLaws.{Event}
 use Rattle.memory.specs.AccessLaws.{writeCode, kept}
 use Rattle.frames.specs.declared.Field.{Field}
 use Rattle.frames.specs.declared.Frame.{Frame}
 use Rattle.frames.specs.Frames.{fieldAt, isCounted, isRaw}
-use Rattle.access.specs.Access.{Raise, writeAt, stackField, pushField, pushFields, pushFrame}
-use Rattle.unfaulted.specs.Closed.{closed, event, told, Piece, laid, writesOf, lastOf, clockEvents, Room, Within}
-use Rattle.unfaulted.specs.Lists.{told-append, length-writes, clocks-small, laid-length}
+use Rattle.access.specs.Access.{Raise, writeAt, stackField, pushField, pushFields}
+use Rattle.unfaulted.specs.Closed.{closed, told, Piece, laid, writesOf, lastOf, clockEvents, Room, Within}
+use Rattle.unfaulted.specs.Lists.{told-append, length-writes, clocks-small}
 use Rattle.unfaulted.specs.Accesses.{write-closed, write-flush, calm-has, still-running}
 
 -- ---- writes in a row

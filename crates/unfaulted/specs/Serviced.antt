@@ -1,31 +1,29 @@
 -- The interrupt where nothing is refused, nothing faults and M is clear: kinds other than 1 and 2, kind 2, kind 1.
-use Prim.Native.Nat.{ℕ, zero, suc, _+_, _-_, _*_, _/_, _%_, _^_, _≤_, _<_}
-use mathlib.Core.Path.{_≡_, refl, sym, ap, _∙_}
-use mathlib.Core.Bool.{Bool, true, false}
-use mathlib.Core.Logic.{_⊎_, inl, inr}
+use Prim.Native.Nat.{ℕ, suc, _+_, _-_, _/_, _%_, _^_, _≤_, _<_}
+use mathlib.Core.Path.{_≡_, refl, ap, _∙_}
+use mathlib.Core.Bool.{true, false}
 use mathlib.Core.List.{List, [], _∷_, _++_}
 use native.Mathlib.Omega.{arith}
-use lib.Dec.{eqb, ltb}
-use lib.ListN.{length, getD, set, length-append}
+use lib.Dec.{eqb}
+use lib.ListN.{length, length-append}
 use lib.Seq.{getD-set-same}
 use Rattle.types.specs.Kinds.{pick}
 use Rattle.cpu.specs.declared.Cpu.{Cpu}
 use Rattle.cpu.specs.Fields.{kindOf, pcOf, vbrOf, a7Of, isFaulted, setWdata, setA7, lowerA7}
-use Rattle.cpu.specs.Clocks.{hasClocks, clocksOf, setClocks, prefetchEnabled, internalCycles}
+use Rattle.cpu.specs.Clocks.{clocksOf, setClocks, prefetchEnabled, internalCycles}
 use Rattle.status.specs.Status.{getSr, mIsSet, clearTrace, setIntMask}
-use Rattle.status.specs.Banks.{enterSupervisor, setSFlag, restoreSp, putS, backupSp, spIndex}
+use Rattle.status.specs.Banks.{enterSupervisor, setSFlag, restoreSp, putS, backupSp}
 use Rattle.pending.specs.Interrupts.{pendingLevel, takesInterrupt, clearLevel}
-use Rattle.memory.specs.declared.Core.{Core}
 use Rattle.memory.specs.declared.Bus.{Bus}
-use Rattle.memory.specs.Log.{noteLog, counted, withEvents}
-use Rattle.memory.specs.World.{World, Attempt, reply, tried, noted, putCpu, cpuOf, step, withCpu, flush, responseOf, acknowledged}
+use Rattle.memory.specs.Log.{noteLog, counted}
+use Rattle.memory.specs.World.{World, Attempt, reply, tried, noted, putCpu, flush, responseOf, acknowledged}
 use Rattle.memory.specs.LogLaws.{Event}
 use Rattle.steps.specs.Steps.{iackVector, enterLevel, closeInterrupt}
 use Rattle.access.specs.Access.{raised, writeAt, pushFrame, jumpVector}
 use Rattle.formats.specs.Formats.{offsetWord, shortFrame}
 use Rattle.interrupts.specs.Interrupts.{vectorFrom, acknowledgeLevel, syncedAcknowledge, rest68000, from68000, pushInterrupt68000, writes68010, rest68010, pushInterrupt68010, restOther, pushInterruptOther, firstFrame, secondFrame, ended, dispatched, serviceInterrupt, serviced, checkAndService}
-use Rattle.unfaulted.specs.Closed.{closed, event, told, Piece, wordAt, longAt, laid, writesOf, lastOf, lastValue, clockEvents, stacked, shortPieces, threePieces, fourPieces, Room, Within, Landing, Entering, jumped, jumpEvents, clocksAfter, shortBytes, interrupted, otherEvents, events68010, events68000}
-use Rattle.unfaulted.specs.Lists.{told-append, length-writes, clocks-small, laid-length}
+use Rattle.unfaulted.specs.Closed.{closed, event, told, Piece, wordAt, laid, writesOf, lastOf, lastValue, clockEvents, stacked, shortPieces, threePieces, fourPieces, Room, Within, Entering, jumped, jumpEvents, clocksAfter, interrupted, otherEvents, events68010, events68000}
+use Rattle.unfaulted.specs.Lists.{length-writes, clocks-small, laid-length}
 use Rattle.unfaulted.specs.Accesses.{flush-closed}
 use Rattle.unfaulted.specs.Pushes.{writeAll, writes-closed, joined, lower-to}
 use Rattle.unfaulted.specs.Stacks.{short-stacked, writes-stacked, three-within, jump-after, framed}

@@ -1,32 +1,26 @@
 -- The frames of exceptions that are no errors, in closed form, and the jump after a frame.
-use Prim.Native.Nat.{ℕ, zero, suc, _+_, _-_, _*_, _/_, _%_, _^_, _≤_, _<_}
-use mathlib.Core.Path.{_≡_, refl, sym, ap, _∙_}
+use Prim.Native.Nat.{ℕ, suc, _+_, _-_, _/_, _%_, _^_, _≤_, _<_}
+use mathlib.Core.Path.{_≡_, refl, ap, _∙_}
 use mathlib.Core.Bool.{Bool, true, false}
-use mathlib.Core.Logic.{_⊎_, inl, inr}
+use mathlib.Core.Logic.{inl, inr}
 use mathlib.Core.List.{List, [], _∷_, _++_}
 use native.Mathlib.Omega.{arith}
-use lib.Dec.{eqb, ltb, lit≤}
-use lib.ListN.{length, getD, set, replicate, length-append}
+use lib.ListN.{length, length-append}
 use lib.Seq.{getD-set-same}
-use Rattle.types.specs.Kinds.{pick, maskAddress}
 use Rattle.cpu.specs.declared.Cpu.{Cpu}
 use Rattle.cpu.specs.Fields.{kindOf, vbrOf, a7Of, isFaulted, setWdata, setA7, lowerA7}
-use Rattle.cpu.specs.Clocks.{hasClocks, clocksOf, setClocks, prefetchEnabled}
-use Rattle.memory.specs.declared.Core.{Core}
+use Rattle.cpu.specs.Clocks.{clocksOf, setClocks, prefetchEnabled}
 use Rattle.memory.specs.declared.Bus.{Bus}
-use Rattle.memory.specs.Log.{noteLog}
-use Rattle.memory.specs.Bytes.{getWord, getLong}
 use Rattle.memory.specs.Runs.{Apart}
-use Rattle.memory.specs.World.{World, putCpu, widthOf, cpuOf, step, withCpu}
+use Rattle.memory.specs.World.{World, putCpu}
 use Rattle.memory.specs.LogLaws.{Event}
-use Rattle.frames.specs.declared.Field.{Field}
 use Rattle.frames.specs.declared.Frame.{Frame}
-use Rattle.frames.specs.Frames.{fieldAt, word, long}
-use Rattle.access.specs.Access.{Raise, writeAt, pushFields, pushFrame, shortWrites, pushExceptionFrame68000, jumpVector}
+use Rattle.frames.specs.Frames.{fieldAt}
+use Rattle.access.specs.Access.{Raise, pushFields, pushFrame, shortWrites, pushExceptionFrame68000, jumpVector}
 use Rattle.formats.specs.Formats.{shortFrame, longFrame, disabledFrame}
-use Rattle.unfaulted.specs.Closed.{closed, event, told, Piece, wordAt, longAt, laid, writesOf, lastOf, lastValue, clockEvents, stacked, shortPieces, longPieces, disabledPieces, threePieces, fourPieces, Room, Within, Landing, Entering, jumped, jumpEvents, entryEvents, arrived}
-use Rattle.unfaulted.specs.Lists.{told-append, length-writes, clocks-small, laid-length, laid-other}
-use Rattle.unfaulted.specs.Pushes.{writeAll, writes-closed, frame-closed, joined, offsetOf, piecesOf, Guarded, lower-to, length-pieces}
+use Rattle.unfaulted.specs.Closed.{closed, told, Piece, wordAt, longAt, laid, writesOf, lastOf, lastValue, clockEvents, stacked, shortPieces, longPieces, disabledPieces, threePieces, Room, Within, Landing, Entering, jumped, jumpEvents, entryEvents, arrived}
+use Rattle.unfaulted.specs.Lists.{length-writes, clocks-small, laid-length, laid-other}
+use Rattle.unfaulted.specs.Pushes.{writeAll, writes-closed, frame-closed, joined, offsetOf, piecesOf, Guarded, lower-to}
 use Rattle.unfaulted.specs.Jumps.{jump-closed}
 
 over : (c : Cpu) (v u : ℕ) → setWdata (setWdata c v) u ≡ setWdata c u
