@@ -63,7 +63,7 @@ joined b c e s l xs ys =
     let z : e + length xs + length ys ≡ e + (length xs + length ys) = omega arith in
     rw (told-append xs ys e l, length-append xs ys, z)
 
-calm-kind : (c : Cpu) (n : ℕ) → kindOf (setClocks c n) ≡ kindOf c
+pub calm-kind : (c : Cpu) (n : ℕ) → kindOf (setClocks c n) ≡ kindOf c
 unfolding kindOf setClocks
 calm-kind c n = refl
 
@@ -123,7 +123,7 @@ pub lower-to : (c : Cpu) (a d : ℕ) → a7Of c ≡ a + d → d < 2 ^ 32 → a <
 unfolding lowerA7 minus32
 lower-to c a d h k l = let z : (a + d + (2 ^ 32 - d % 2 ^ 32)) % 2 ^ 32 ≡ a = omega arith in rw (h, z)
 
-a7-set : (c : Cpu) (a : ℕ) → 15 < length (c .regs .dar) → a7Of (setA7 c a) ≡ a
+pub a7-set : (c : Cpu) (a : ℕ) → 15 < length (c .regs .dar) → a7Of (setA7 c a) ≡ a
 unfolding a7Of setA7
 a7-set c a h = getD-set-same (c .regs .dar) 15 a 0 h
 
@@ -137,7 +137,7 @@ unfolding setA7 a7Of
 a7-own c a e = rw (← e) (rw (set-getD (c .regs .dar) 15 0))
 
 module _ (c : Cpu) (a : ℕ) where
-  a7-running : isFaulted (setA7 c a) ≡ isFaulted c
+  pub a7-running : isFaulted (setA7 c a) ≡ isFaulted c
   unfolding isFaulted setA7
   a7-running = refl
 
@@ -145,7 +145,7 @@ module _ (c : Cpu) (a : ℕ) where
   unfolding hasClocks setA7
   a7-clocks = refl
 
-  a7-kind : kindOf (setA7 c a) ≡ kindOf c
+  pub a7-kind : kindOf (setA7 c a) ≡ kindOf c
   unfolding kindOf setA7
   a7-kind = refl
 

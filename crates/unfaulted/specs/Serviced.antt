@@ -6,7 +6,6 @@ use mathlib.Core.List.{List, [], _∷_, _++_}
 use native.Mathlib.Omega.{arith}
 use lib.Dec.{eqb}
 use lib.ListN.{length, length-append}
-use lib.Seq.{getD-set-same}
 use Rattle.types.specs.Kinds.{pick}
 use Rattle.cpu.specs.declared.Cpu.{Cpu}
 use Rattle.cpu.specs.Fields.{kindOf, pcOf, vbrOf, a7Of, isFaulted, setWdata, setA7, lowerA7}
@@ -24,9 +23,9 @@ use Rattle.formats.specs.Formats.{offsetWord, shortFrame}
 use Rattle.interrupts.specs.Interrupts.{vectorFrom, acknowledgeLevel, syncedAcknowledge, rest68000, from68000, pushInterrupt68000, writes68010, rest68010, pushInterrupt68010, restOther, pushInterruptOther, firstFrame, secondFrame, ended, dispatched, serviceInterrupt, serviced, checkAndService}
 use Rattle.unfaulted.specs.Closed.{closed, event, told, Piece, wordAt, laid, writesOf, lastOf, lastValue, clockEvents, stacked, shortPieces, threePieces, fourPieces, Room, Within, Entering, jumped, jumpEvents, clocksAfter, interrupted, otherEvents, events68010, events68000}
 use Rattle.unfaulted.specs.Lists.{length-writes, clocks-small, laid-length}
-use Rattle.unfaulted.specs.Accesses.{flush-closed}
-use Rattle.unfaulted.specs.Pushes.{writeAll, writes-closed, joined, lower-to}
-use Rattle.unfaulted.specs.Stacks.{short-stacked, writes-stacked, three-within, jump-after, framed}
+use Rattle.unfaulted.specs.Accesses.{still-running, flush-closed}
+use Rattle.unfaulted.specs.Pushes.{writeAll, writes-closed, joined, lower-to, calm-kind, a7-set}
+use Rattle.unfaulted.specs.Stacks.{short-stacked, writes-stacked, three-within, jump-after, framed, framed-running, framed-kind}
 use Rattle.unfaulted.specs.Entries.{Alike, alike-entering, cycles-after, short-within}
 
 module _ (c : Cpu) (level : ℕ) where
@@ -217,21 +216,9 @@ unfolding stacked setClocks clocksOf clockEvents
 calm-stacked b d e s l q ps = refl
 
 module _ (d : Cpu) where
-  calm-running : isFaulted (setClocks d 0) ≡ isFaulted d
-  unfolding isFaulted setClocks
-  calm-running = refl
-
-  calm-kind : kindOf (setClocks d 0) ≡ kindOf d
-  unfolding kindOf setClocks
-  calm-kind = refl
-
   calm-a7 : (k : ℕ) → a7Of (setClocks d k) ≡ a7Of d
   unfolding a7Of setClocks
   calm-a7 k = refl
-
-  a7-at : (q : ℕ) → 15 < length (d .regs .dar) → a7Of (setA7 d q) ≡ q
-  unfolding a7Of setA7
-  a7-at q h = getD-set-same (d .regs .dar) 15 q 0 h
 
   calm-registers : (k : ℕ) → 15 < length (d .regs .dar) → 15 < length (setClocks d k .regs .dar)
   unfolding setClocks
@@ -259,10 +246,10 @@ four-stacked b d e s l pc sr v q g h a r u =
     let z : lowerA7 c 8 ≡ setA7 c q = lower-to c q 8 (calm-a7 d 0 ∙ a) (omega arith) (omega arith) in
     rest-step b c e s l pc sr v
     ∙ ap (λ (m : Cpu). reply (writes68010 (closed b m e s l) (a7Of m) pc sr format) true v) z
-    ∙ ap (λ (p : ℕ). reply (writes68010 (closed b (setA7 c q) e s l) p pc sr format) true v) (a7-at c q (calm-registers d 0 g))
+    ∙ ap (λ (p : ℕ). reply (writes68010 (closed b (setA7 c q) e s l) p pc sr format) true v) (a7-set c q (calm-registers d 0 g))
     ∙ ap (λ (w : World). reply w true v)
     (four-writes (closed b (setA7 c q) e s l) q sr pc format top
-    ∙ laid-four b c e s l q sr pc format (calm-running d ∙ h) (rw (calm-kind d) r) (omega arith)
+    ∙ laid-four b c e s l q sr pc format (still-running d 0 ∙ h) (rw (calm-kind d 0) r) (omega arith)
     ∙ calm-stacked b d e s l q (fourPieces sr pc format))
 
 level-after : (c : Cpu) (level n : ℕ) → clocksAfter (enterLevel c level) n ≡ clocksAfter c n
@@ -320,14 +307,6 @@ module _ (d : Cpu) (q m : ℕ) where
   unfolding clocksAfter clocksOf prefetchEnabled setWdata setA7 setClocks
   framed-four = refl
 
-  framed-running : isFaulted (framed d q m) ≡ isFaulted d
-  unfolding isFaulted setWdata setA7 setClocks
-  framed-running = refl
-
-  framed-kind : kindOf (framed d q m) ≡ kindOf d
-  unfolding kindOf setWdata setA7 setClocks
-  framed-kind = refl
-
   framed-over : (u v : ℕ) → setWdata (setWdata (framed d q m) u) v ≡ framed d q v
   unfolding setWdata setA7 setClocks
   framed-over u v = refl
@@ -381,14 +360,6 @@ two-events : (q u v : ℕ) → writesOf q (wordAt 0 u ∷ wordAt 2 v ∷ []) ≡
 unfolding writesOf
 two-events q u v = let z : q + 0 ≡ q = omega arith in rw z
 
-running : (c : Cpu) (k : ℕ) → isFaulted (setClocks c k) ≡ isFaulted c
-unfolding isFaulted setClocks
-running c k = refl
-
-kind : (c : Cpu) (k : ℕ) → kindOf (setClocks c k) ≡ kindOf c
-unfolding kindOf setClocks
-kind c k = refl
-
 -- the status and PC high, after 4 clocks
 high-closed : (b : Bus) (d : Cpu) (e : ℕ) (s l : List ℕ) (q m sr pc v : ℕ) → isFaulted d ≡ false → Room b (kindOf d) (length s) q 6 → e + 4 < 2 ^ 32
     → rest68000 q pc sr (reply (closed b (framed d q m) e s l) true v)
@@ -403,7 +374,7 @@ high-closed b d e s l q m sr pc v h r u =
     ∙ ap (λ (i : Cpu). reply (writeAt raised (writeAt raised (closed b i e s l) q false sr) ((q + 2) % 2 ^ 32) false hi) true v) z
     ∙ ap (λ (w : World). reply w true v)
     (two-writes (closed b (setClocks c k) e s l) q sr hi (r .top)
-    ∙ writes-closed (wordAt 0 sr) (wordAt 2 hi ∷ []) raised b (setClocks c k) e s l q 6 (running c k ∙ framed-running d q m ∙ h) (rw (kind c k, framed-kind d q m) r) (high-within sr hi) (omega arith)
+    ∙ writes-closed (wordAt 0 sr) (wordAt 2 hi ∷ []) raised b (setClocks c k) e s l q 6 (still-running c k ∙ framed-running d q m ∙ h) (rw (calm-kind c k, framed-kind d q m) r) (high-within sr hi) (omega arith)
     ∙ rw (clocks-set c k, clocks-twice c k, framed-calm d q m, two-last c sr hi, framed-over d q m sr hi, two-events q sr hi))
 
 from-step : (w : World) (sp pc sr level : ℕ) → from68000 w sp pc sr level ≡ rest68000 sp pc sr (syncedAcknowledge (writeAt raised w ((sp + 4) % 2 ^ 32) false (pc % 0x10000)) 4 level)
@@ -447,9 +418,9 @@ first-68000 b d e s l pc sr level q v h i g j a r u =
     let s′ : List ℕ = laid s p (wordAt 4 lo ∷ []) in
     kind1-step b d e s l pc sr level h
     ∙ ap (λ (m : Cpu). from68000 (closed b m e s l) (a7Of m) pc sr level) y
-    ∙ ap (λ (m : ℕ). from68000 (closed b (setA7 c q) e s l) m pc sr level) (a7-at c q (calm-registers d k g))
+    ∙ ap (λ (m : ℕ). from68000 (closed b (setA7 c q) e s l) m pc sr level) (a7-set c q (calm-registers d k g))
     ∙ from-step (closed b (setA7 c q) e s l) q pc sr level
-    ∙ ap (λ (w : World). rest68000 q pc sr (syncedAcknowledge w 4 level)) (low-closed b d k e s l q lo (running d k ∙ j) (rw (kind d k) r) (omega arith))
+    ∙ ap (λ (w : World). rest68000 q pc sr (syncedAcknowledge w 4 level)) (low-closed b d k e s l q lo (still-running d k ∙ j) (rw (calm-kind d k) r) (omega arith))
     ∙ ap (λ (z : Attempt). rest68000 q pc sr z)
     ((rw (framed-four d q lo, framed-calm d q lo) at (sync-closed b (framed d q lo) (e + length xs) s′ (told e l xs) 4 level v i (omega arith)))
     ∙ ap (λ (w : World). reply w true v) (joined b (framed d q lo) e s′ l xs ys))

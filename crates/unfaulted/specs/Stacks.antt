@@ -6,7 +6,6 @@ use mathlib.Core.Logic.{inl, inr}
 use mathlib.Core.List.{List, [], _∷_, _++_}
 use native.Mathlib.Omega.{arith}
 use lib.ListN.{length, length-append}
-use lib.Seq.{getD-set-same}
 use Rattle.cpu.specs.declared.Cpu.{Cpu}
 use Rattle.cpu.specs.Fields.{kindOf, vbrOf, a7Of, isFaulted, setWdata, setA7, lowerA7}
 use Rattle.cpu.specs.Clocks.{clocksOf, setClocks, prefetchEnabled}
@@ -20,7 +19,7 @@ use Rattle.access.specs.Access.{Raise, pushFields, pushFrame, shortWrites, push
 use Rattle.formats.specs.Formats.{shortFrame, longFrame, disabledFrame}
 use Rattle.unfaulted.specs.Closed.{closed, told, Piece, wordAt, longAt, laid, writesOf, lastOf, lastValue, clockEvents, stacked, shortPieces, longPieces, disabledPieces, threePieces, Room, Within, Landing, Entering, jumped, jumpEvents, entryEvents, arrived}
 use Rattle.unfaulted.specs.Lists.{length-writes, clocks-small, laid-length, laid-other}
-use Rattle.unfaulted.specs.Pushes.{writeAll, writes-closed, frame-closed, joined, offsetOf, piecesOf, Guarded, lower-to}
+use Rattle.unfaulted.specs.Pushes.{writeAll, writes-closed, frame-closed, joined, offsetOf, piecesOf, Guarded, lower-to, a7-set, a7-running, a7-kind}
 use Rattle.unfaulted.specs.Jumps.{jump-closed}
 
 over : (c : Cpu) (v u : ℕ) → setWdata (setWdata c v) u ≡ setWdata c u
@@ -82,14 +81,6 @@ unfolding Within threePieces
 three-within sr pc = (refl, omega arith, (refl, omega arith, (refl, omega arith, tt)))
 
 module _ (c : Cpu) (q : ℕ) where
-  at-running : isFaulted (setA7 c q) ≡ isFaulted c
-  unfolding isFaulted setA7
-  at-running = refl
-
-  at-kind : kindOf (setA7 c q) ≡ kindOf c
-  unfolding kindOf setA7
-  at-kind = refl
-
   at-clocks : clocksOf (setA7 c q) ≡ clocksOf c
   unfolding clocksOf setA7
   at-clocks = refl
@@ -98,16 +89,12 @@ module _ (c : Cpu) (q : ℕ) where
   unfolding setClocks setA7
   at-calm = refl
 
-  a7-at : 15 < length (c .regs .dar) → a7Of (setA7 c q) ≡ q
-  unfolding a7Of setA7
-  a7-at h = getD-set-same (c .regs .dar) 15 q 0 h
-
 -- pieces written one by one at A7: the frame is there
 pub writes-stacked : (t : Raise) (b : Bus) (c : Cpu) (e : ℕ) (s l : List ℕ) (q n : ℕ) (x : Piece) (xs : List Piece) → isFaulted c ≡ false → Room b (kindOf c) (length s) q n → Within n (x ∷ xs)
     → e + 1 + length (x ∷ xs) < 2 ^ 32 → writeAll t (closed b (setA7 c q) e s l) q (x ∷ xs) ≡ stacked b c e s l q (x ∷ xs)
 unfolding stacked
 writes-stacked t b c e s l q n x xs h r w u =
-    writes-closed x xs t b (setA7 c q) e s l q n (at-running c q ∙ h) (rw (at-kind c q) r) w u
+    writes-closed x xs t b (setA7 c q) e s l q n (a7-running c q ∙ h) (rw (a7-kind c q) r) w u
     ∙ rw (at-clocks c q, last-kept (setClocks (setA7 c q) 0) x xs, at-calm c q)
 
 -- the 68000's 6 bytes
@@ -119,7 +106,7 @@ three-stacked t b c e s l q sr pc g h u a r =
     let z : lowerA7 c 6 ≡ setA7 c q = lower-to c q 6 a (omega arith) (omega arith) in
     lower-step t b c e s l pc sr
     ∙ ap (λ (m : Cpu). shortWrites t (closed b m e s l) (a7Of m) pc sr) z
-    ∙ ap (λ (p : ℕ). shortWrites t (closed b (setA7 c q) e s l) p pc sr) (a7-at c q g)
+    ∙ ap (λ (p : ℕ). shortWrites t (closed b (setA7 c q) e s l) p pc sr) (a7-set c q g)
     ∙ three-writes t (closed b (setA7 c q) e s l) q sr pc top
     ∙ writes-stacked t b c e s l q 6 (wordAt 4 (pc % 0x10000)) (wordAt 0 sr ∷ wordAt 2 (pc / 0x10000) ∷ []) h r (three-within sr pc) (omega arith)
 
@@ -153,7 +140,7 @@ module _ (c : Cpu) (q m : ℕ) where
   abbrev pub framed : Cpu
   framed = setWdata (setA7 (setClocks c 0) q) m
 
-  framed-running : isFaulted framed ≡ isFaulted c
+  pub framed-running : isFaulted framed ≡ isFaulted c
   unfolding isFaulted setWdata setA7 setClocks
   framed-running = refl
 
@@ -161,7 +148,7 @@ module _ (c : Cpu) (q m : ℕ) where
   unfolding clocksOf setWdata setA7 setClocks
   framed-clocks = refl
 
-  framed-kind : kindOf framed ≡ kindOf c
+  pub framed-kind : kindOf framed ≡ kindOf c
   unfolding kindOf setWdata setA7 setClocks
   framed-kind = refl
 
