@@ -12,6 +12,7 @@ use unwind::returns::Row;
 use unwind::returns::Walked;
 ghost use mathlib.Core.Path.{_≡_};
 ghost use Rattle.unwind.specs.Returns.{walk};
+ghost use Rattle.lent.specs.Attempts.{Tried, calmedBy, patchedBy};
 ghost use Rattle.lent.specs.Lent.{left, recordAfter, lentCall, servedReturn, lentReturn, lentWalk, lentFresh, lentSr, setSr, servedStatus, lentSetSr};
 
 mod raise; // a lent record as the core has it
@@ -107,6 +108,20 @@ pub struct Served {
     pub core: LentCore,
 }
 
+// What a fast entry leaves of the record.
+pub struct Patch {
+    pub a7: u32,
+    pub pc: u32,
+}
+
+// What an attempt hands back: whether it did the call, in one of two ways, and then what the call says and the patch of the record.
+pub struct Attempted {
+    pub said: Said,
+    pub calm: bool,
+    pub fast: bool,
+    pub patch: Patch,
+}
+
 pub struct ServedReturn {
     pub said: SaidReturn,
     pub core: LentCore,
@@ -142,6 +157,47 @@ pub fn serve(c: LentCore, call: RawCall, store: &mut [u8], log: &mut [u32]) -> S
         },
         core: d,
     }
+}
+
+// The call by a fast way: it does all but the patch, or it leaves store and log alone and says so.
+pub fn attempt(c: LentCore, call: RawCall, store: &mut [u8], log: &mut [u32]) -> Attempted
+    ensures { λ r. ⌜ Tried c call (now (store .entry)) (now (log .entry)) r (now (store .exit)) (now (log .exit)) ⌝ }
+{
+    let s = Said {
+        refused: 0,
+        answer: 0,
+        events: 0,
+    };
+    let p = Patch { a7: 0, pc: 0 };
+    Attempted {
+        said: s,
+        calm: false,
+        fast: false,
+        patch: p,
+    }
+}
+
+// The lent record after an attempt that was calm.
+pub fn calmed(d: LentCore, x: Attempted) -> LentCore
+    ensures { λ r. ⌜ r ≡ calmedBy d x ⌝ }
+{
+    let m = raise::core(d);
+    let q = x.patch;
+    let c = cpu::fields::set_pc(m.cpu, q.pc);
+    let n = memory::with_cpu(m, c);
+    lower::core(n)
+}
+
+// The lent record after an attempt that was fast.
+pub fn patched(d: LentCore, x: Attempted) -> LentCore
+    ensures { λ r. ⌜ r ≡ patchedBy d x ⌝ }
+{
+    let m = raise::core(d);
+    let q = x.patch;
+    let c = cpu::fields::set_a7(m.cpu, q.a7);
+    let e = cpu::fields::set_pc(c, q.pc);
+    let n = memory::with_cpu(m, e);
+    lower::core(n)
 }
 
 // The return on a lent record by value.
@@ -209,7 +265,17 @@ pub extern "C" fn m68k_call(
     ensures { λ r. ⌜ left (now (core .exit)) (now (store .exit)) (now (log .exit)) r ≡ lentCall (now (core .entry)) (now (store .entry)) (now (log .entry)) call ⌝ }
 {
     let c = *core;
-    let done = serve(c, call, store, log);
+    let x = attempt(c, call, store, log);
+    let d = *core;
+    if x.calm {
+        *core = calmed(d, x);
+        return x.said;
+    }
+    if x.fast {
+        *core = patched(d, x);
+        return x.said;
+    }
+    let done = serve(d, call, store, log);
     *core = done.core;
     done.said
 }
