@@ -10,8 +10,9 @@ use Rattle.boundary.specs.declared.RawCall.{RawCall}
 use Rattle.lent.specs.declared.LentCore.{LentCore}
 use Rattle.lent.specs.declared.Patch.{Patch}
 use Rattle.lent.specs.declared.Attempted.{Attempted}
+use Rattle.lent.specs.declared.AttemptedReturn.{AttemptedReturn}
 use Rattle.lent.specs.Records.{raised, lowered}
-use Rattle.lent.specs.Lent.{left, lentCall}
+use Rattle.lent.specs.Lent.{left, lentCall, servedReturn, lentReturn}
 
 -- the record of the core with a patch
 unfoldable pub calmOf : Core → Patch → Core
@@ -33,3 +34,10 @@ pub record Tried (c : LentCore) (call : RawCall) (s l : List ℕ) (x : Attempted
   pub fast : x .fast ≡ true → left (patchedBy c x) s′ l′ (x .said) ≡ lentCall c s l call
   pub store : x .calm ≡ false → x .fast ≡ false → s′ ≡ s
   pub log : x .calm ≡ false → x .fast ≡ false → l′ ≡ l
+
+-- the same of a return
+unfoldable pub restoredBy : LentCore → AttemptedReturn → LentCore
+restoredBy c x = lowered (calmOf (raised c) (x .patch))
+
+pub record TriedReturn (c : LentCore) (s : List ℕ) (x : AttemptedReturn) : Type 0 where
+  pub ok : x .ok ≡ true → servedReturn (restoredBy c x) (x .said) ≡ lentReturn c s

@@ -12,7 +12,7 @@ use unwind::returns::Row;
 use unwind::returns::Walked;
 ghost use mathlib.Core.Path.{_≡_};
 ghost use Rattle.unwind.specs.Returns.{walk};
-ghost use Rattle.lent.specs.Attempts.{Tried, calmedBy, patchedBy};
+ghost use Rattle.lent.specs.Attempts.{Tried, calmedBy, patchedBy, TriedReturn, restoredBy};
 ghost use Rattle.lent.specs.Lent.{left, recordAfter, lentCall, servedReturn, lentReturn, lentWalk, lentFresh, lentSr, setSr, servedStatus, lentSetSr};
 
 mod raise; // a lent record as the core has it
@@ -127,6 +127,13 @@ pub struct ServedReturn {
     pub core: LentCore,
 }
 
+// The same of a return, in one way.
+pub struct AttemptedReturn {
+    pub said: SaidReturn,
+    pub ok: bool,
+    pub patch: Patch,
+}
+
 pub struct ServedStatus {
     pub status: u32,
     pub cpu: LentCpu,
@@ -217,6 +224,36 @@ pub fn serve_return(c: LentCore, store: &[u8]) -> ServedReturn
     }
 }
 
+// The return by a fast way, or no return.
+pub fn attempt_return(c: LentCore, store: &[u8]) -> AttemptedReturn
+    ensures { λ r. ⌜ TriedReturn c (now (store .entry)) r ⌝ }
+{
+    let w = Row {
+        format: 0,
+        status: 0,
+        address: 0,
+        offset: 0,
+    };
+    let s = SaidReturn { refused: 0, row: w };
+    let p = Patch { a7: 0, pc: 0 };
+    AttemptedReturn {
+        said: s,
+        ok: false,
+        patch: p,
+    }
+}
+
+// The lent record after it.
+pub fn restored(d: LentCore, x: AttemptedReturn) -> LentCore
+    ensures { λ r. ⌜ r ≡ restoredBy d x ⌝ }
+{
+    let m = raise::core(d);
+    let q = x.patch;
+    let c = cpu::fields::set_pc(m.cpu, q.pc);
+    let n = memory::with_cpu(m, c);
+    lower::core(n)
+}
+
 // The walk on a lent record by value.
 pub fn serve_walk(c: LentCore, n: u32, store: &[u8], rows: &mut [u32]) -> Walked
     ensures { λ r. ⌜ walk (r .refused) (r .count) (now (rows .exit)) ≡ lentWalk c (now (store .entry)) n (now (rows .entry)) ⌝ }
@@ -286,7 +323,13 @@ pub extern "C" fn m68k_return(core: &mut LentCore, store: &[u8]) -> SaidReturn
     ensures { λ r. ⌜ servedReturn (now (core .exit)) r ≡ lentReturn (now (core .entry)) (now (store .entry)) ⌝ }
 {
     let c = *core;
-    let done = serve_return(c, store);
+    let x = attempt_return(c, store);
+    let d = *core;
+    if x.ok {
+        *core = restored(d, x);
+        return x.said;
+    }
+    let done = serve_return(d, store);
     *core = done.core;
     done.said
 }
