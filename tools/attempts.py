@@ -253,7 +253,7 @@ class Attempts(Walk):
         step += "".join(f"forget ! {self.place(i)} refl $ " for i in reversed(range(self.locals)) if i in live)
         for i in range(self.locals):
             step += c.move(f"_{i}", f"dead{i}") + c.turn("free1 ! $ ", 2)
-        yield step + f"free0 ! $ keep ! ({listed(str(c.index(x)) for x, _ in self.held_at_exit())}) $ by ! (exits ({answer}) ({record}) {given})"
+        yield step + f"free0 ! $ keep ! ({listed(str(c.index(x)) for x, _ in self.held_at_exit())}) $ by ! (exits ({answer}) ({record}){given})"
 
     # the walk
 
@@ -392,7 +392,7 @@ class Attempts(Walk):
             zs = self.names(self.zn)
             ensured = f"subst (λ (u : {R.antt}). Says ({answer}) u{zs}) (sym k) (e .{quote(self.flags[k])} (holds {self.flag_of(k)} held))"
             live = {0, new, *self.flag_held(k)}
-            yield from self.leaves(answer, "u", new_is, f"{zs[1:]} ({ensured}){self.lengths()} (tried-answer r w is)", True, live)
+            yield from self.leaves(answer, "u", new_is, f"{zs} ({ensured}){self.lengths()} (tried-answer r w is)", True, live)
         code = f"arm{sub(k)} (anyQ (afterSeq 𝓤 H (Wp 𝓤 H C Λ (E {ls}) pieces.t-{self.tested(k + 1) + 1} (atReturn 𝓤 H (E {ls}) Post)) (atReturn 𝓤 H (E {ls}) Post)))"
         names = f" r w is g{self.names(self.zn)} e{self.lengths()} held"
         return self.lemma(f"fast{sub(k)}", f"the arm of `{self.flags[k]}`", self.premises() + f" → T {self.flag_of(k)}", names, facts, code, steps)
@@ -413,7 +413,7 @@ class Attempts(Walk):
             record, answer = f"r′ .{quote(self.kept)}", f"r′ .{quote(self.answer)}"
             yield self.loads(self.A, self.answer) + f" (from ! (stop !)) (init ! {self.place(0)} refl ({self.A.typed} ({answer}) _ (answer-is r′ w′ is′) .0)) $"
             live = {0, self.done, *self.flag_held(self.arms - 1), *(i for pair in self.lent_last for i in pair)}
-            given = " ".join([*self.last_lists("zs′"), "e′"]) + "".join(f" same{sub(j)}′" for j in range(self.s))
+            given = self.names([*self.last_lists("zs′"), "e′"]) + "".join(f" same{sub(j)}′" for j in range(self.s))
             yield from self.leaves(answer, record, "record-is r′ w′ is′", f"{given} (answer-is r′ w′ is′)", False, live)
         given = f" (r : {self.Q.antt}) (g : Is {self.R.row} h (machine ∷ [])){bound(self.zn, 'List ℕ')} → Went r{self.names(self.zn)}{self.room()}" + "".join(f" → {self.flag_of(i)[1:-1]} ≡ false" for i in range(self.arms))
         names = f" r g{self.names(self.zn)} e{self.names(self.rooms + known)}"
