@@ -1,8 +1,15 @@
 #!/usr/bin/env python3
-"""The proofs of functions over a lent record, crates/lent/src/lib.rt, for generate.py. Two forms, read off the source:
+"""The proofs of functions over a lent record, crates/lent/src/lib.rt, for generate.py. Three forms, read off the source:
 
     fn f(r: &mut R, NUMBERS.., STORES.., BUFFERS..) -> A { let c = *r; let done = core(c, ..); *r = done.FIELD; done.FIELD }
     fn f(r: &R, NUMBERS.., STORES.., BUFFERS..) -> A     { let c = *r; core(c, ..) }
+    fn f(r: &mut R, NUMBERS.., STORES.., BUFFERS..) -> A {
+        let c = *r; let x = attempt(c, ..); let d = *r;
+        if x.FLAG { *r = patch(d, x); return x.FIELD; }          // one such arm or more
+        let done = core(d, ..); *r = done.FIELD; done.FIELD
+    }
+
+The first two are written here, the third by attempts.py, whose head says what `attempt` and `patch` have to ensure.
 
 The lent record comes first, then what goes by value (structs and unsigned numbers), then slices lent to be read, then slices lent to be
 written; `core` takes the same list with the record by value. The contract of f has to be that of `core` with the record before and after in

@@ -1,7 +1,8 @@
 // The C boundary: the calls over a record that a host lends and that is updated in place, exported for programs in other languages. The lent
 // records have numbers where those of `cpu` have bools, so that every value of every field has a meaning: a flag byte is set if it is not 0.
-// A function over a lent record copies it whole, calls a function by value and stores the record that comes back. It uses `boundary`,
-// `unwind`, `memory`, `status` and `cpu`; programs in other languages use what it exports.
+// A function over a lent record copies it whole, calls a function by value and stores the record that comes back; a call and a return are
+// attempted by fast ways first, and then the record is patched. It uses `boundary`, `unwind`, `memory`, `status` and `cpu`; programs in other
+// languages use what it exports.
 use boundary::RawCall;
 use cpu::Cpu;
 use cpu::Flags;
