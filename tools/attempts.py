@@ -22,8 +22,8 @@ import re
 from lent import CLAUSES, WIDTHS, Context, Kind, Walk, fields_of, listed, nest, product, size, sub
 from ways import quote
 
-ARM = r"if x\.(\w+) \{\s*\*(\w+) = (\w+)\(d, x\);\s*return x\.(\w+);\s*\}\s*"
-ARMS = re.sub(r"\((?=\\w)", "(?:", ARM)
+ARM = r"if x\.(\w+) \{\s*\*(\w+) = ([\w:]+)\(d, x\);\s*return x\.(\w+);\s*\}\s*"
+ARMS = re.sub(r"\((?=\\w|\[)", "(?:", ARM)
 
 
 def bound(names, kind):
@@ -34,7 +34,7 @@ def bound(names, kind):
 class Attempts(Walk):
     """Such a function, its parts, and the text of its proof."""
 
-    FORM = re.compile(rf"\s*let c = \*(\w+);\s*let x = (\w+)\(([^;]*)\);\s*let d = \*\1;\s*((?:{ARMS})+)let done = (\w+)\(([^;]*)\);\s*\*\1 = done\.(\w+);\s*done\.(\w+)\s*")
+    FORM = re.compile(rf"\s*let c = \*(\w+);\s*let x = ([\w:]+)\(([^;]*)\);\s*let d = \*\1;\s*((?:{ARMS})+)let done = ([\w:]+)\(([^;]*)\);\s*\*\1 = done\.(\w+);\s*done\.(\w+)\s*")
     STAYS, GOES = "stay-slice", "goes-slice"     # a slice that is written is there again at the end
 
     def read_body(self, record, attempt, tried, arms, core, given, kept, answer):
@@ -42,7 +42,7 @@ class Attempts(Walk):
         self.core, self.attempt = self.callee(core, "d", given), self.callee(attempt, "c", tried)
         found = re.findall(ARM, arms)
         assert {(r, a) for _, r, _, a in found} == {(record, answer)}, f"{self.f.name}: each arm stores the record and returns the field `{answer}`"
-        self.flags, self.patches = [x[0] for x in found], [self.known[x[2]] for x in found]
+        self.flags, self.patches = [x[0] for x in found], [self.function(x[2]) for x in found]
         self.arms = len(found)
         self.Q = Kind(self.attempt.result)
         fields = fields_of(self.crate, self.Q.type)

@@ -172,10 +172,10 @@ class Walk:
     """A function over a lent record, its parts, and the text of its proof."""
 
     STAYS, GOES = "gave-slice", "goes-gave-slice"     # a slice that is written is given to the core for good
-    FORM = re.compile(r"\s*let c = \*(\w+);\s*(?:let done = (\w+)\((.*?)\);\s*\*\1 = done\.(\w+);\s*done\.(\w+)|(\w+)\((.*?)\))\s*")
+    FORM = re.compile(r"\s*let c = \*(\w+);\s*(?:let done = ([\w:]+)\((.*?)\);\s*\*\1 = done\.(\w+);\s*done\.(\w+)|([\w:]+)\((.*?)\))\s*")
 
     def __init__(self, crate, f, body):
-        self.crate, self.f, self.known = crate, f, {f.path: f for f in read_functions(crate)}
+        self.crate, self.f = crate, f
         self.read_body(*body.groups())
         self.read_params()
         self.name_parts()
@@ -186,9 +186,15 @@ class Walk:
         self.callees = [("core", self.core)]
 
     def callee(self, name, record, given):
-        """A function of the crate that is called with the record in that local, then with the parameters of f."""
+        """A function that is called with the record in that local, then with the parameters of f."""
         assert given.split(", ") == [record, *(p for p, _ in self.f.params[1:])], f"{self.f.name} calls {name} with other parameters than its own"
-        return self.known[name]
+        return self.function(name)
+
+    def function(self, name):
+        """A function by the name that the code has for it: `f`, `module::f`, or with another crate in front."""
+        *path, last = name.split("::")
+        crate = path.pop(0) if path and path[0] in deps(self.crate) else self.crate
+        return {f.path: f for f in read_functions(crate)}["/".join([*path, last])]
 
     def read_params(self):
         name, ((first, kind), *rest) = self.f.name, self.f.params
@@ -603,7 +609,7 @@ module _ {HEAD} (W : Given 𝓤 H A) (at-mem : Memory → SProp 𝓤) (run : Rou
         gone = self.each(goes.format(n, self.R.row), lambda k: f"goes-none 𝓤 H A W {n} (λ _. {k.row}) yes (λ κs x f. refl)", lambda i, e: f"goes-none-slice 𝓤 H A W {n} ({1 + i} ∷ []) tt (plain (λ _. {e})) yes", lambda j, e: f"{self.GOES} 𝓤 H A W {n} {j} tt (plain (λ _. {e}))")
         triples = [" → ".join(f"Triple 𝓤 ({calls} #{x}) ({x.capitalize()} 𝓤 H A mem run)" for x, _ in self.callees) for calls in ("C", "𝓣 .C")]
         known, spec = " ".join(self.knowns()), f"{dash(self.f.name)}-spec"
-        cited = "\n    ".join(f"(cited 𝓤 H ({x.capitalize()} 𝓤 H (𝓖 .A) (𝓜 .mem) (𝓡 .run)) 𝓜 𝓡 code.env #{x} {x}-def.routine code.calls-{dash(self.crate)}·{dash(g.path.replace('/', '·'))} ({x}-thm.met 𝓤 H 𝓜 𝓖 𝓡))" for x, g in self.callees)
+        cited = "\n    ".join(f"(cited 𝓤 H ({x.capitalize()} 𝓤 H (𝓖 .A) (𝓜 .mem) (𝓡 .run)) 𝓜 𝓡 code.env #{x} {x}-def.routine code.calls-{dash(g.crate)}·{dash(g.path.replace('/', '·'))} ({x}-thm.met 𝓤 H 𝓜 𝓖 𝓡))" for x, g in self.callees)
         return f"""
 module _ {HEAD} (W : Given 𝓤 H A) (mem : Memory → SProp 𝓤) (run : Routine → Fun 𝓤) where
   walks : (C : Calls 𝓤 H) (Λ : Loops 𝓤 H) → FmC 𝓤 H (W .laws) C → {triples[0]} → Walks 𝓤 H A f.ended stayed (WpFn 𝓤 H C Λ code.function) (f.clauses 𝓤 H A mem run)
@@ -649,15 +655,15 @@ unfolding code.routine tablesOf
                 types.append(k.type)
         named = [t for t in types if re.search(rf"(?<![·\w]){t}(?![·\w])", body)]
         out += uses(self.crate, [*self.cites(), *named])
+        proofs = lambda home: f"Rattle.{home}" + ("·proofs" if home == self.crate else "") + ".proofs."  # noqa: E731
         for t in types:
             home, module = kinds[t]
-            path = f"Rattle.{home}" + ("·proofs" if home == self.crate else "") + f".proofs.{module}{t}"
+            path = f"{proofs(home)}{module}{t}"
             out += f"use {path} as {t}·\nuse {path}.Laws as {t}·′\n"
-        own = f"Rattle.{self.crate}.proofs."
         for x, g in self.callees:
-            path = own + g.path.replace("/", ".")
+            path = proofs(g.crate) + g.path.replace("/", ".")
             out += f"use {path} as {x}\nuse {path}.Symbol as {x}-def\nuse {path}.Symbol.{{name as #{x}}}\nuse {path}.Met as {x}-thm\n"
-        f = own + self.f.name
+        f = proofs(self.crate) + self.f.name
         return out + f"use {f}.Key.{{name as #f}}\nuse {f} as f\nuse {f}.Statement as stated\nuse {f}.Code as code\n" + (f"use {f}.Code.Mir as pieces\n" if self.writes else "")
 
     def cites(self):
