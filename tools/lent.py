@@ -148,11 +148,21 @@ class Context(list):
         return self.move(a) + self.turn(step, 1, first, second)
 
 
+def source(crate, module):
+    with open(os.path.join(ROOT, "crates", crate, "src", (module or "lib") + ".rt"), encoding="utf-8") as file:
+        return file.read()
+
+
 def fields_of(crate, name):
     """The fields of a struct and their types."""
     home, module = structs(deps(crate))[name]
-    with open(os.path.join(ROOT, "crates", home, "src", (module.rstrip(".") or "lib") + ".rt"), encoding="utf-8") as file:
-        return re.findall(r"pub (\w+): (\w+)", re.search(rf"pub struct {name} \{{(.*?)\}}", file.read(), re.S)[1])
+    return re.findall(r"pub (\w+): (\w+)", re.search(rf"pub struct {name} \{{(.*?)\}}", source(home, module.rstrip(".")), re.S)[1])
+
+
+def ghosts(f):
+    """The project's definitions that the file of a function brings in for its contracts: name -> (crate, module)."""
+    lines = re.findall(r"^ghost use Rattle·(\w+?)(?:·specs)?\.specs\.([\w.]+)\.\{(.*)\};", source(f.crate, f.module), re.M)
+    return {name: (home, module) for home, module, names in lines for name in names.split(", ")}
 
 
 def size(crate, t):
@@ -654,7 +664,7 @@ unfolding code.routine tablesOf
             if k.type not in WIDTHS and k.type not in types:
                 types.append(k.type)
         named = [t for t in types if re.search(rf"(?<![·\w]){t}(?![·\w])", body)]
-        out += uses(self.crate, [*self.cites(), *named])
+        out += self.definitions(named)
         proofs = lambda home: f"Rattle.{home}" + ("·proofs" if home == self.crate else "") + ".proofs."  # noqa: E731
         for t in types:
             home, module = kinds[t]
@@ -665,6 +675,16 @@ unfolding code.routine tablesOf
             out += f"use {path} as {x}\nuse {path}.Symbol as {x}-def\nuse {path}.Symbol.{{name as #{x}}}\nuse {path}.Met as {x}-thm\n"
         f = proofs(self.crate) + self.f.name
         return out + f"use {f}.Key.{{name as #f}}\nuse {f} as f\nuse {f}.Statement as stated\nuse {f}.Code as code\n" + (f"use {f}.Code.Mir as pieces\n" if self.writes else "")
+
+    def definitions(self, types):
+        """The imports of those types, and of the definitions that the contracts name: from where the files of the functions have them."""
+        found = {m: set(names.split(", ")) for m, names in re.findall(r"use (\S+)\.\{(.*)\}", uses(self.crate, types))}
+        words = set(re.findall(r"[\w′']+", " ".join(self.cites())))
+        for f in (self.f, *(g for _, g in self.callees)):
+            for name, (home, module) in ghosts(f).items():
+                if name in words:
+                    found.setdefault(f"Rattle.{home}" + ("·specs" if home == self.crate else "") + f".specs.{module}", set()).add(name)
+        return "".join(f"use {m}.{{{', '.join(sorted(names))}}}\n" for m, names in sorted(found.items()))
 
     def cites(self):
         """The statements in the text that name definitions."""
