@@ -47,8 +47,9 @@ class Attempts(Walk):
         self.Q = Kind(self.attempt.result)
         fields = fields_of(self.crate, self.Q.type)
         assert fields[:1 + self.arms] == [(answer, self.f.result), *((x, "bool") for x in self.flags)], f"{self.Q.type} has the answer, then the flags in the order of the arms"
-        self.labels = [f"patch{sub(k)}" for k in range(self.arms)]
-        self.callees = [("attempt", self.attempt), *zip(self.labels, self.patches), ("core", self.core)]
+        names = [x[2] for x in found]
+        self.labels = [f"patch{sub(names.index(x))}" for x in names]     # arms with the same patch share its label
+        self.callees = [("attempt", self.attempt), *dict(zip(self.labels, self.patches)).items(), ("core", self.core)]
 
     def name_parts(self):
         super().name_parts()
@@ -114,8 +115,8 @@ class Attempts(Walk):
 """ + values
         for label in ("attempt", "core"):
             out += self.binds_outside(label)
-        for k in range(self.arms):
-            out += self.binds_patch(k)
+        for label in dict.fromkeys(self.labels):
+            out += self.binds_patch(label)
         return out + f"""
   -- the contract, and what the callees with slices ensure
   abbrev Says : {self.A.antt} → {self.R.antt} → {lists}Type 0
@@ -158,8 +159,8 @@ class Attempts(Walk):
   goes-{label}{nd} = qed W ({held}) ∵ join ! $ frame ! $ done !
 """
 
-    def binds_patch(self, k):
-        label, kind = self.labels[k], self.labels[k].capitalize()
+    def binds_patch(self, label):
+        kind = label.capitalize()
         values = f"(machine ∷ [], ({self.Q.value('r')} ∷ [], tt))"
         held = f"‵ ftrue ∷ ‵ (owns ({self.R.row} ∷ {self.Q.row} ∷ []) (h, (r, tt)) {values}) ∷ []"
         return f"""
@@ -508,7 +509,7 @@ class Attempts(Walk):
 
     def text(self):
         body = self.statement() + self.section() + self.exits() + self.walk() + self.meets()
-        patches = ", ".join(f"`{f.name}`" for f in self.patches)
+        patches = ", ".join(dict.fromkeys(f"`{f.name}`" for f in self.patches))
         return f"""-- `{self.crate}::{self.f.name}` meets its contract: a walk of its code. The record's borrow is opened and the record copied whole; `{self.attempt.name}` is
 -- called with the slices lent to it; where it did the work the record is patched ({patches}), else `{self.core.name}` is called with
 -- the slices lent again; the borrow is closed. Of the functions that it calls the proof knows the contracts alone.
