@@ -1,2 +1,3 @@
 pub mod Bits
 pub mod Ways
+pub mod Again

@@ -1,3 +1,4 @@
 pub mod Records
 pub mod Lent
 pub mod Laws
+pub mod Attempts

@@ -1,7 +1,8 @@
 // The C boundary: the calls over a record that a host lends and that is updated in place, exported for programs in other languages. The lent
 // records have numbers where those of `cpu` have bools, so that every value of every field has a meaning: a flag byte is set if it is not 0.
-// A function over a lent record copies it whole, calls a function by value and stores the record that comes back. It uses `boundary`,
-// `unwind`, `memory`, `status` and `cpu`; programs in other languages use what it exports.
+// A function over a lent record copies it whole, calls a function by value and stores the record that comes back; a call and a return are
+// attempted by fast ways first, and then the record is patched. It uses `boundary`, `unwind`, `memory`, `status` and `cpu`; programs in other
+// languages use what it exports.
 use boundary::RawCall;
 use cpu::Cpu;
 use cpu::Flags;
@@ -12,6 +13,7 @@ use unwind::returns::Row;
 use unwind::returns::Walked;
 ghost use mathlib.Core.Path.{_≡_};
 ghost use Rattle.unwind.specs.Returns.{walk};
+ghost use Rattle.lent.specs.Attempts.{Tried, calmedBy, patchedBy, TriedReturn, restoredBy};
 ghost use Rattle.lent.specs.Lent.{left, recordAfter, lentCall, servedReturn, lentReturn, lentWalk, lentFresh, lentSr, setSr, servedStatus, lentSetSr};
 
 mod raise; // a lent record as the core has it
@@ -107,9 +109,30 @@ pub struct Served {
     pub core: LentCore,
 }
 
+// What a fast entry leaves of the record.
+pub struct Patch {
+    pub a7: u32,
+    pub pc: u32,
+}
+
+// What an attempt hands back: whether it did the call, in one of two ways, and then what the call says and the patch of the record.
+pub struct Attempted {
+    pub said: Said,
+    pub calm: bool,
+    pub fast: bool,
+    pub patch: Patch,
+}
+
 pub struct ServedReturn {
     pub said: SaidReturn,
     pub core: LentCore,
+}
+
+// The same of a return, in one way.
+pub struct AttemptedReturn {
+    pub said: SaidReturn,
+    pub ok: bool,
+    pub patch: Patch,
 }
 
 pub struct ServedStatus {
@@ -144,6 +167,47 @@ pub fn serve(c: LentCore, call: RawCall, store: &mut [u8], log: &mut [u32]) -> S
     }
 }
 
+// The call by a fast way: it does all but the patch, or it leaves store and log alone and says so.
+pub fn attempt(c: LentCore, call: RawCall, store: &mut [u8], log: &mut [u32]) -> Attempted
+    ensures { λ r. ⌜ Tried c call (now (store .entry)) (now (log .entry)) r (now (store .exit)) (now (log .exit)) ⌝ }
+{
+    let s = Said {
+        refused: 0,
+        answer: 0,
+        events: 0,
+    };
+    let p = Patch { a7: 0, pc: 0 };
+    Attempted {
+        said: s,
+        calm: false,
+        fast: false,
+        patch: p,
+    }
+}
+
+// The lent record after an attempt that was calm.
+pub fn calmed(d: LentCore, x: Attempted) -> LentCore
+    ensures { λ r. ⌜ r ≡ calmedBy d x ⌝ }
+{
+    let m = raise::core(d);
+    let q = x.patch;
+    let c = cpu::fields::set_pc(m.cpu, q.pc);
+    let n = memory::with_cpu(m, c);
+    lower::core(n)
+}
+
+// The lent record after an attempt that was fast.
+pub fn patched(d: LentCore, x: Attempted) -> LentCore
+    ensures { λ r. ⌜ r ≡ patchedBy d x ⌝ }
+{
+    let m = raise::core(d);
+    let q = x.patch;
+    let c = cpu::fields::set_a7(m.cpu, q.a7);
+    let e = cpu::fields::set_pc(c, q.pc);
+    let n = memory::with_cpu(m, e);
+    lower::core(n)
+}
+
 // The return on a lent record by value.
 pub fn serve_return(c: LentCore, store: &[u8]) -> ServedReturn
     ensures { λ r. ⌜ servedReturn (r .core) (r .said) ≡ lentReturn c (now (store .entry)) ⌝ }
@@ -159,6 +223,36 @@ pub fn serve_return(c: LentCore, store: &[u8]) -> ServedReturn
         },
         core: d,
     }
+}
+
+// The return by a fast way, or no return.
+pub fn attempt_return(c: LentCore, store: &[u8]) -> AttemptedReturn
+    ensures { λ r. ⌜ TriedReturn c (now (store .entry)) r ⌝ }
+{
+    let w = Row {
+        format: 0,
+        status: 0,
+        address: 0,
+        offset: 0,
+    };
+    let s = SaidReturn { refused: 0, row: w };
+    let p = Patch { a7: 0, pc: 0 };
+    AttemptedReturn {
+        said: s,
+        ok: false,
+        patch: p,
+    }
+}
+
+// The lent record after it.
+pub fn restored(d: LentCore, x: AttemptedReturn) -> LentCore
+    ensures { λ r. ⌜ r ≡ restoredBy d x ⌝ }
+{
+    let m = raise::core(d);
+    let q = x.patch;
+    let c = cpu::fields::set_pc(m.cpu, q.pc);
+    let n = memory::with_cpu(m, c);
+    lower::core(n)
 }
 
 // The walk on a lent record by value.
@@ -209,7 +303,17 @@ pub extern "C" fn m68k_call(
     ensures { λ r. ⌜ left (now (core .exit)) (now (store .exit)) (now (log .exit)) r ≡ lentCall (now (core .entry)) (now (store .entry)) (now (log .entry)) call ⌝ }
 {
     let c = *core;
-    let done = serve(c, call, store, log);
+    let x = attempt(c, call, store, log);
+    let d = *core;
+    if x.calm {
+        *core = calmed(d, x);
+        return x.said;
+    }
+    if x.fast {
+        *core = patched(d, x);
+        return x.said;
+    }
+    let done = serve(d, call, store, log);
     *core = done.core;
     done.said
 }
@@ -220,7 +324,13 @@ pub extern "C" fn m68k_return(core: &mut LentCore, store: &[u8]) -> SaidReturn
     ensures { λ r. ⌜ servedReturn (now (core .exit)) r ≡ lentReturn (now (core .entry)) (now (store .entry)) ⌝ }
 {
     let c = *core;
-    let done = serve_return(c, store);
+    let x = attempt_return(c, store);
+    let d = *core;
+    if x.ok {
+        *core = restored(d, x);
+        return x.said;
+    }
+    let done = serve_return(d, store);
     *core = done.core;
     done.said
 }
