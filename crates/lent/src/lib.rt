@@ -304,15 +304,17 @@ pub extern "C" fn m68k_call(
 {
     let c = *core;
     let x = attempt(c, call, store, log);
-    let d = *core;
     if x.calm {
+        let d = *core;
         *core = calmed(d, x);
         return x.said;
     }
     if x.fast {
+        let d = *core;
         *core = patched(d, x);
         return x.said;
     }
+    let d = *core;
     let done = serve(d, call, store, log);
     *core = done.core;
     done.said
@@ -325,11 +327,12 @@ pub extern "C" fn m68k_return(core: &mut LentCore, store: &[u8]) -> SaidReturn
 {
     let c = *core;
     let x = attempt_return(c, store);
-    let d = *core;
     if x.ok {
+        let d = *core;
         *core = restored(d, x);
         return x.said;
     }
+    let d = *core;
     let done = serve_return(d, store);
     *core = done.core;
     done.said
