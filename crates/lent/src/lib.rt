@@ -1,8 +1,8 @@
 // The C boundary: the calls over a record that a host lends and that is updated in place, exported for programs in other languages. The lent
 // records have numbers where those of `cpu` have bools, so that every value of every field has a meaning: a flag byte is set if it is not 0.
 // A function over a lent record copies it whole, calls a function by value and stores the record that comes back; a call and a return are
-// attempted by fast ways first, and then the record is patched. It uses `boundary`, `unwind`, `memory`, `status` and `cpu`; programs in other
-// languages use what it exports.
+// attempted by fast ways first, and then the record is patched or left. It uses `boundary`, `unwind`, `memory`, `status` and `cpu`; programs
+// in other languages use what it exports.
 use boundary::RawCall;
 use cpu::Cpu;
 use cpu::Flags;
@@ -115,9 +115,11 @@ pub struct Patch {
     pub pc: u32,
 }
 
-// What an attempt hands back: whether it did the call, in one of two ways, and then what the call says and the patch of the record.
+// What an attempt hands back: whether it did the call, in one of three ways, and then what the call says and the patch of the record. An idle
+// call leaves the record as it came.
 pub struct Attempted {
     pub said: Said,
+    pub idle: bool,
     pub calm: bool,
     pub fast: bool,
     pub patch: Patch,
@@ -179,6 +181,7 @@ pub fn attempt(c: LentCore, call: RawCall, store: &mut [u8], log: &mut [u32]) ->
     let p = Patch { a7: 0, pc: 0 };
     Attempted {
         said: s,
+        idle: false,
         calm: false,
         fast: false,
         patch: p,
@@ -304,6 +307,9 @@ pub extern "C" fn m68k_call(
 {
     let c = *core;
     let x = attempt(c, call, store, log);
+    if x.idle {
+        return x.said;
+    }
     if x.calm {
         let d = *core;
         *core = calmed(d, x);

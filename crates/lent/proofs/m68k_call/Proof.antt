@@ -1,6 +1,6 @@
 -- Written by tools/generate.py from tools/manifest.txt: not edited by hand.
 -- `lent::m68k_call` meets its contract: a walk of its code. The record's borrow is opened and the record copied whole; `attempt` is
--- called with the slices lent to it; where it did the work the record is patched (`calmed`, `patched`), else `serve` is called with
+-- called with the slices lent to it; where it did the work the record is patched (`calmed`, `patched`) or left, else `serve` is called with
 -- the slices lent again; the borrow is closed. Of the functions that it calls the proof knows the contracts alone.
 use mathlib.Core.Path.{_≡_, refl, sym, ap, subst}
 use mathlib.Core.Bool.{false}
@@ -116,10 +116,13 @@ record-is r w is = LL.owed Served·.the-type Served·′.the-laws r (w ∷ []) i
 
 -- the code of the arms
 abbrev arm₀ : Text.Body
-arm₀ = Text.seq (Text.assign (Text.place 7 []) (Text.rvOpd (Text.copy (Text.place 1 (Text.deref LentCore·′.mir ∷ []))))) (Text.seq (Text.call #patch₀ (Text.copy (Text.place 7 []) ∷ Text.copy (Text.place 6 []) ∷ []) (Text.place 16 [])) (Text.seq (Text.assign (Text.place 1 (Text.deref LentCore·′.mir ∷ [])) (Text.rvOpd (Text.copy (Text.place 16 [])))) (Text.seq (Text.assign (Text.place 0 []) (Text.rvOpd (Text.copy (Text.place 6 (Text.field 0 ∷ []))))) Text.return)))
+arm₀ = Text.seq (Text.assign (Text.place 0 []) (Text.rvOpd (Text.copy (Text.place 6 (Text.field 0 ∷ []))))) Text.return
 
 abbrev arm₁ : Text.Body
-arm₁ = Text.seq (Text.assign (Text.place 8 []) (Text.rvOpd (Text.copy (Text.place 1 (Text.deref LentCore·′.mir ∷ []))))) (Text.seq (Text.call #patch₁ (Text.copy (Text.place 8 []) ∷ Text.copy (Text.place 6 []) ∷ []) (Text.place 17 [])) (Text.seq (Text.assign (Text.place 1 (Text.deref LentCore·′.mir ∷ [])) (Text.rvOpd (Text.copy (Text.place 17 [])))) (Text.seq (Text.assign (Text.place 0 []) (Text.rvOpd (Text.copy (Text.place 6 (Text.field 0 ∷ []))))) Text.return)))
+arm₁ = Text.seq (Text.assign (Text.place 7 []) (Text.rvOpd (Text.copy (Text.place 1 (Text.deref LentCore·′.mir ∷ []))))) (Text.seq (Text.call #patch₀ (Text.copy (Text.place 7 []) ∷ Text.copy (Text.place 6 []) ∷ []) (Text.place 16 [])) (Text.seq (Text.assign (Text.place 1 (Text.deref LentCore·′.mir ∷ [])) (Text.rvOpd (Text.copy (Text.place 16 [])))) (Text.seq (Text.assign (Text.place 0 []) (Text.rvOpd (Text.copy (Text.place 6 (Text.field 0 ∷ []))))) Text.return)))
+
+abbrev arm₂ : Text.Body
+arm₂ = Text.seq (Text.assign (Text.place 8 []) (Text.rvOpd (Text.copy (Text.place 1 (Text.deref LentCore·′.mir ∷ []))))) (Text.seq (Text.call #patch₁ (Text.copy (Text.place 8 []) ∷ Text.copy (Text.place 6 []) ∷ []) (Text.place 17 [])) (Text.seq (Text.assign (Text.place 1 (Text.deref LentCore·′.mir ∷ [])) (Text.rvOpd (Text.copy (Text.place 17 [])))) (Text.seq (Text.assign (Text.place 0 []) (Text.rvOpd (Text.copy (Text.place 6 (Text.field 0 ∷ []))))) Text.return)))
 
 module _ {M : Type 1} (𝓤 : URA M) (H : Heap 𝓤) (A : Atoms 𝓤) (W : Given 𝓤 H A) (at-mem : Memory → SProp 𝓤) (run : Routine → Fun 𝓤) (κ₀ κ₁ κ₂ : Lft) (q₀ q₁ q₂ : Share) (b o : ℕ) (γ : GName) (h : LentCore) (p₀ : RawCall) (x₀ : RefT (List ℕ)) (x₁ : RefT (List ℕ)) (p₀-is : Is RawCall·.the-row p₀ (LL.val RawCall·.the-type RawCall·′.the-laws p₀ ∷ [])) where
   -- the parameters, those of the core, and the machine values of both
@@ -206,10 +209,18 @@ module _ {M : Type 1} (𝓤 : URA M) (H : Heap 𝓤) (A : Atoms 𝓤) (W : Given
     abbrev E : ℕ → ℕ → ℕ → ℕ → ℕ → ℕ → ℕ → ℕ → ℕ → ℕ → ℕ → ℕ → ℕ → ℕ → ℕ → ℕ → ℕ → ℕ → ℕ → ℕ → ℕ → ℕ → Env 𝓤 H
     E l₀ l₁ l₂ l₃ l₄ l₅ l₆ l₇ l₈ l₉ l₁₀ l₁₁ l₁₂ l₁₃ l₁₄ l₁₅ l₁₆ l₁₇ l₁₈ l₁₉ l₂₀ l₂₁ = (Said·′.mir, l₀) ∷ (tyRef (named 0) mut (pointee (LentCore·.the-row .written)), l₁) ∷ (RawCall·′.mir, l₂) ∷ (sliceTy (tyRef (named 1) mut (tyInt w8)), l₃) ∷ (sliceTy (tyRef (named 2) mut (tyInt w32)), l₄) ∷ (LentCore·′.mir, l₅) ∷ (Attempted·′.mir, l₆) ∷ (LentCore·′.mir, l₇) ∷ (LentCore·′.mir, l₈) ∷ (LentCore·′.mir, l₉) ∷ (Served·′.mir, l₁₀) ∷ (tyRef erased mut (tyInt w8), l₁₁) ∷ (sliceTy (tyRef erased mut (tyInt w8)), l₁₂) ∷ (tyRef erased mut (tyInt w32), l₁₃) ∷ (sliceTy (tyRef erased mut (tyInt w32)), l₁₄) ∷ (tyBool, l₁₅) ∷ (LentCore·′.mir, l₁₆) ∷ (LentCore·′.mir, l₁₇) ∷ (tyRef erased mut (tyInt w8), l₁₈) ∷ (sliceTy (tyRef erased mut (tyInt w8)), l₁₉) ∷ (tyRef erased mut (tyInt w32), l₂₀) ∷ (sliceTy (tyRef erased mut (tyInt w32)), l₂₁) ∷ []
 
-    -- the arm of `calm`
-    fast₀ : (l₀ l₁ l₂ l₃ l₄ l₅ l₆ l₇ l₈ l₉ l₁₀ l₁₁ l₁₂ l₁₃ l₁₄ l₁₅ l₁₆ l₁₇ l₁₈ l₁₉ l₂₀ l₂₁ : ℕ) (r : Attempted) (w : Val) (is : Is Attempted·.the-row r (w ∷ [])) (g : Is LentCore·.the-row h (machine ∷ [])) (z₀ z₁ : List ℕ) → Went r z₀ z₁ → length z₀ ≡ length (x₀ .now) → length z₁ ≡ length (x₁ .now) → T (r .calm)
-        → Sq W (‵ (MutSlice (named 2) κ₂ u32 .own (again x₁ (x₁ .name) z₁) (s x₁ ∷ [])) ∷ ‵ (flft κ₂ q₂) ∷ ‵ (MutSlice (named 1) κ₁ u8 .own (again x₀ (x₀ .name) z₀) (s x₀ ∷ [])) ∷ ‵ (flft κ₁ q₁) ∷ ‵ (cellAt fullShare (LentCore·.the-row .mir) (machine ∷ []) b o) ∷ ‵ (fobor κ₀ q₀ (Body (mem LentCore·.the-row) b o γ)) ∷ ‵ (fobs γ (LentCore·.the-row .coded .code h)) ∷ ‵ (fauth γ (LentCore·.the-row .coded .code h)) ∷ ‵ (froom (sliceTy (tyRef erased mut (tyInt w32))) l₂₁ 0) ∷ ‵ (fdies (sliceTy (tyRef erased mut (tyInt w32))) l₂₁) ∷ ‵ (froom (tyRef erased mut (tyInt w32)) l₂₀ 0) ∷ ‵ (fdies (tyRef erased mut (tyInt w32)) l₂₀) ∷ ‵ (froom (sliceTy (tyRef erased mut (tyInt w8))) l₁₉ 0) ∷ ‵ (fdies (sliceTy (tyRef erased mut (tyInt w8))) l₁₉) ∷ ‵ (froom (tyRef erased mut (tyInt w8)) l₁₈ 0) ∷ ‵ (fdies (tyRef erased mut (tyInt w8)) l₁₈) ∷ ‵ (froom (LentCore·′.mir) l₁₇ 0) ∷ ‵ (fdies (LentCore·′.mir) l₁₇) ∷ ‵ (froom (LentCore·′.mir) l₁₆ 0) ∷ ‵ (fdies (LentCore·′.mir) l₁₆) ∷ ‵ (fat fullShare (tyBool) l₁₅ 0 (vbool (r .calm))) ∷ ‵ (fdies (tyBool) l₁₅) ∷ ‵ (fat fullShare (sliceTy (tyRef erased mut (tyInt w32))) l₁₄ 0 (s x₁)) ∷ ‵ (fdies (sliceTy (tyRef erased mut (tyInt w32))) l₁₄) ∷ ‵ (fat fullShare (tyRef erased mut (tyInt w32)) l₁₃ 0 (vptr (x₁ .ptr .0) (x₁ .ptr .1))) ∷ ‵ (fdies (tyRef erased mut (tyInt w32)) l₁₃) ∷ ‵ (fat fullShare (sliceTy (tyRef erased mut (tyInt w8))) l₁₂ 0 (s x₀)) ∷ ‵ (fdies (sliceTy (tyRef erased mut (tyInt w8))) l₁₂) ∷ ‵ (fat fullShare (tyRef erased mut (tyInt w8)) l₁₁ 0 (vptr (x₀ .ptr .0) (x₀ .ptr .1))) ∷ ‵ (fdies (tyRef erased mut (tyInt w8)) l₁₁) ∷ ‵ (froom (Served·′.mir) l₁₀ 0) ∷ ‵ (fdies (Served·′.mir) l₁₀) ∷ ‵ (froom (LentCore·′.mir) l₉ 0) ∷ ‵ (fdies (LentCore·′.mir) l₉) ∷ ‵ (froom (LentCore·′.mir) l₈ 0) ∷ ‵ (fdies (LentCore·′.mir) l₈) ∷ ‵ (froom (LentCore·′.mir) l₇ 0) ∷ ‵ (fdies (LentCore·′.mir) l₇) ∷ ‵ (fat fullShare (Attempted·′.mir) l₆ 0 (LL.val Attempted·.the-type Attempted·′.the-laws r)) ∷ ‵ (fdies (Attempted·′.mir) l₆) ∷ ‵ (fat fullShare (LentCore·′.mir) l₅ 0 (machine)) ∷ ‵ (fdies (LentCore·′.mir) l₅) ∷ ‵ (fat fullShare (sliceTy (tyRef (named 2) mut (tyInt w32))) l₄ 0 (s x₁)) ∷ ‵ (fdies (sliceTy (tyRef (named 2) mut (tyInt w32))) l₄) ∷ ‵ (fat fullShare (sliceTy (tyRef (named 1) mut (tyInt w8))) l₃ 0 (s x₀)) ∷ ‵ (fdies (sliceTy (tyRef (named 1) mut (tyInt w8))) l₃) ∷ ‵ (fat fullShare (RawCall·′.mir) l₂ 0 (LL.val RawCall·.the-type RawCall·′.the-laws p₀)) ∷ ‵ (fdies (RawCall·′.mir) l₂) ∷ ‵ (fat fullShare (tyRef (named 0) mut (pointee (LentCore·.the-row .written))) l₁ 0 (vptr b o)) ∷ ‵ (fdies (tyRef (named 0) mut (pointee (LentCore·.the-row .written))) l₁) ∷ ‵ (froom (Said·′.mir) l₀ 0) ∷ ‵ (fdies (Said·′.mir) l₀) ∷ []) (runs C Λ (E l₀ l₁ l₂ l₃ l₄ l₅ l₆ l₇ l₈ l₉ l₁₀ l₁₁ l₁₂ l₁₃ l₁₄ l₁₅ l₁₆ l₁₇ l₁₈ l₁₉ l₂₀ l₂₁) arm₀ (anyQ (afterSeq 𝓤 H (Wp 𝓤 H C Λ (E l₀ l₁ l₂ l₃ l₄ l₅ l₆ l₇ l₈ l₉ l₁₀ l₁₁ l₁₂ l₁₃ l₁₄ l₁₅ l₁₆ l₁₇ l₁₈ l₁₉ l₂₀ l₂₁) pieces.t-9 (atReturn 𝓤 H (E l₀ l₁ l₂ l₃ l₄ l₅ l₆ l₇ l₈ l₉ l₁₀ l₁₁ l₁₂ l₁₃ l₁₄ l₁₅ l₁₆ l₁₇ l₁₈ l₁₉ l₂₀ l₂₁) Post)) (atReturn 𝓤 H (E l₀ l₁ l₂ l₃ l₄ l₅ l₆ l₇ l₈ l₉ l₁₀ l₁₁ l₁₂ l₁₃ l₁₄ l₁₅ l₁₆ l₁₇ l₁₈ l₁₉ l₂₀ l₂₁) Post))))
+    -- the arm of `idle`
+    fast₀ : (l₀ l₁ l₂ l₃ l₄ l₅ l₆ l₇ l₈ l₉ l₁₀ l₁₁ l₁₂ l₁₃ l₁₄ l₁₅ l₁₆ l₁₇ l₁₈ l₁₉ l₂₀ l₂₁ : ℕ) (r : Attempted) (w : Val) (is : Is Attempted·.the-row r (w ∷ [])) (g : Is LentCore·.the-row h (machine ∷ [])) (z₀ z₁ : List ℕ) → Went r z₀ z₁ → length z₀ ≡ length (x₀ .now) → length z₁ ≡ length (x₁ .now) → T (r .idle)
+        → Sq W (‵ (MutSlice (named 2) κ₂ u32 .own (again x₁ (x₁ .name) z₁) (s x₁ ∷ [])) ∷ ‵ (flft κ₂ q₂) ∷ ‵ (MutSlice (named 1) κ₁ u8 .own (again x₀ (x₀ .name) z₀) (s x₀ ∷ [])) ∷ ‵ (flft κ₁ q₁) ∷ ‵ (cellAt fullShare (LentCore·.the-row .mir) (machine ∷ []) b o) ∷ ‵ (fobor κ₀ q₀ (Body (mem LentCore·.the-row) b o γ)) ∷ ‵ (fobs γ (LentCore·.the-row .coded .code h)) ∷ ‵ (fauth γ (LentCore·.the-row .coded .code h)) ∷ ‵ (froom (sliceTy (tyRef erased mut (tyInt w32))) l₂₁ 0) ∷ ‵ (fdies (sliceTy (tyRef erased mut (tyInt w32))) l₂₁) ∷ ‵ (froom (tyRef erased mut (tyInt w32)) l₂₀ 0) ∷ ‵ (fdies (tyRef erased mut (tyInt w32)) l₂₀) ∷ ‵ (froom (sliceTy (tyRef erased mut (tyInt w8))) l₁₉ 0) ∷ ‵ (fdies (sliceTy (tyRef erased mut (tyInt w8))) l₁₉) ∷ ‵ (froom (tyRef erased mut (tyInt w8)) l₁₈ 0) ∷ ‵ (fdies (tyRef erased mut (tyInt w8)) l₁₈) ∷ ‵ (froom (LentCore·′.mir) l₁₇ 0) ∷ ‵ (fdies (LentCore·′.mir) l₁₇) ∷ ‵ (froom (LentCore·′.mir) l₁₆ 0) ∷ ‵ (fdies (LentCore·′.mir) l₁₆) ∷ ‵ (fat fullShare (tyBool) l₁₅ 0 (vbool (r .idle))) ∷ ‵ (fdies (tyBool) l₁₅) ∷ ‵ (fat fullShare (sliceTy (tyRef erased mut (tyInt w32))) l₁₄ 0 (s x₁)) ∷ ‵ (fdies (sliceTy (tyRef erased mut (tyInt w32))) l₁₄) ∷ ‵ (fat fullShare (tyRef erased mut (tyInt w32)) l₁₃ 0 (vptr (x₁ .ptr .0) (x₁ .ptr .1))) ∷ ‵ (fdies (tyRef erased mut (tyInt w32)) l₁₃) ∷ ‵ (fat fullShare (sliceTy (tyRef erased mut (tyInt w8))) l₁₂ 0 (s x₀)) ∷ ‵ (fdies (sliceTy (tyRef erased mut (tyInt w8))) l₁₂) ∷ ‵ (fat fullShare (tyRef erased mut (tyInt w8)) l₁₁ 0 (vptr (x₀ .ptr .0) (x₀ .ptr .1))) ∷ ‵ (fdies (tyRef erased mut (tyInt w8)) l₁₁) ∷ ‵ (froom (Served·′.mir) l₁₀ 0) ∷ ‵ (fdies (Served·′.mir) l₁₀) ∷ ‵ (froom (LentCore·′.mir) l₉ 0) ∷ ‵ (fdies (LentCore·′.mir) l₉) ∷ ‵ (froom (LentCore·′.mir) l₈ 0) ∷ ‵ (fdies (LentCore·′.mir) l₈) ∷ ‵ (froom (LentCore·′.mir) l₇ 0) ∷ ‵ (fdies (LentCore·′.mir) l₇) ∷ ‵ (fat fullShare (Attempted·′.mir) l₆ 0 (LL.val Attempted·.the-type Attempted·′.the-laws r)) ∷ ‵ (fdies (Attempted·′.mir) l₆) ∷ ‵ (fat fullShare (LentCore·′.mir) l₅ 0 (machine)) ∷ ‵ (fdies (LentCore·′.mir) l₅) ∷ ‵ (fat fullShare (sliceTy (tyRef (named 2) mut (tyInt w32))) l₄ 0 (s x₁)) ∷ ‵ (fdies (sliceTy (tyRef (named 2) mut (tyInt w32))) l₄) ∷ ‵ (fat fullShare (sliceTy (tyRef (named 1) mut (tyInt w8))) l₃ 0 (s x₀)) ∷ ‵ (fdies (sliceTy (tyRef (named 1) mut (tyInt w8))) l₃) ∷ ‵ (fat fullShare (RawCall·′.mir) l₂ 0 (LL.val RawCall·.the-type RawCall·′.the-laws p₀)) ∷ ‵ (fdies (RawCall·′.mir) l₂) ∷ ‵ (fat fullShare (tyRef (named 0) mut (pointee (LentCore·.the-row .written))) l₁ 0 (vptr b o)) ∷ ‵ (fdies (tyRef (named 0) mut (pointee (LentCore·.the-row .written))) l₁) ∷ ‵ (froom (Said·′.mir) l₀ 0) ∷ ‵ (fdies (Said·′.mir) l₀) ∷ []) (runs C Λ (E l₀ l₁ l₂ l₃ l₄ l₅ l₆ l₇ l₈ l₉ l₁₀ l₁₁ l₁₂ l₁₃ l₁₄ l₁₅ l₁₆ l₁₇ l₁₈ l₁₉ l₂₀ l₂₁) arm₀ (anyQ (afterSeq 𝓤 H (Wp 𝓤 H C Λ (E l₀ l₁ l₂ l₃ l₄ l₅ l₆ l₇ l₈ l₉ l₁₀ l₁₁ l₁₂ l₁₃ l₁₄ l₁₅ l₁₆ l₁₇ l₁₈ l₁₉ l₂₀ l₂₁) pieces.t-9 (atReturn 𝓤 H (E l₀ l₁ l₂ l₃ l₄ l₅ l₆ l₇ l₈ l₉ l₁₀ l₁₁ l₁₂ l₁₃ l₁₄ l₁₅ l₁₆ l₁₇ l₁₈ l₁₉ l₂₀ l₂₁) Post)) (atReturn 𝓤 H (E l₀ l₁ l₂ l₃ l₄ l₅ l₆ l₇ l₈ l₉ l₁₀ l₁₁ l₁₂ l₁₃ l₁₄ l₁₅ l₁₆ l₁₇ l₁₈ l₁₉ l₂₀ l₂₁) Post))))
     fast₀ l₀ l₁ l₂ l₃ l₄ l₅ l₆ l₇ l₈ l₉ l₁₀ l₁₁ l₁₂ l₁₃ l₁₄ l₁₅ l₁₆ l₁₇ l₁₈ l₁₉ l₂₀ l₂₁ r w is g z₀ z₁ e same₀ same₁ held =
+        assigns ! (of-opd ! (load ! (from ! (fld ! {τ = Said·′.mir} {d = 0} refl (stop !))) (look-in ! 38 (sub ! 0 {τ = Said·′.mir} {d = 0} refl (whole !))))) (from ! (stop !)) (init ! 50 refl (LL.lawful Said·.the-type Said·′.the-laws 𝓤 H A W .typed (r .said) _ (tried-answer r w is) .0)) $
+        owned ! LentCore·.the-row (Is LentCore·.the-row) (LL.makes LentCore·.the-type LentCore·′.the-plain 𝓤 H A) (h) _ (g) $ move ! (5 ∷ 0 ∷ 6 ∷ 7 ∷ 8 ∷ []) $ closes ! tt LentCore·.the-row (h) (LL.val LentCore·.the-type LentCore·′.the-laws (h) ∷ []) b o $
+        returns-within ! Post refl (look ! 49 refl) $ forget ! 19 refl $ forget ! 21 refl $ forget ! 23 refl $ forget ! 25 refl $ forget ! 27 refl $ forget ! 37 refl $ forget ! 39 refl $ forget ! 41 refl $ forget ! 43 refl $ forget ! 45 refl $ forget ! 47 refl $ forget ! 49 refl $ move ! (49 ∷ 50 ∷ []) $ free1 ! $ move ! (47 ∷ 48 ∷ []) $ free1 ! $ move ! (45 ∷ 46 ∷ []) $ free1 ! $ move ! (43 ∷ 44 ∷ []) $ free1 ! $ move ! (41 ∷ 42 ∷ []) $ free1 ! $ move ! (39 ∷ 40 ∷ []) $ free1 ! $ move ! (37 ∷ 38 ∷ []) $ free1 ! $ move ! (35 ∷ 36 ∷ []) $ free1 ! $ move ! (33 ∷ 34 ∷ []) $ free1 ! $ move ! (31 ∷ 32 ∷ []) $ free1 ! $ move ! (29 ∷ 30 ∷ []) $ free1 ! $ move ! (27 ∷ 28 ∷ []) $ free1 ! $ move ! (25 ∷ 26 ∷ []) $ free1 ! $ move ! (23 ∷ 24 ∷ []) $ free1 ! $ move ! (21 ∷ 22 ∷ []) $ free1 ! $ move ! (19 ∷ 20 ∷ []) $ free1 ! $ move ! (17 ∷ 18 ∷ []) $ free1 ! $ move ! (15 ∷ 16 ∷ []) $ free1 ! $ move ! (13 ∷ 14 ∷ []) $ free1 ! $ move ! (11 ∷ 12 ∷ []) $ free1 ! $ move ! (9 ∷ 10 ∷ []) $ free1 ! $ move ! (7 ∷ 8 ∷ []) $ free1 ! $ free0 ! $ keep ! (0 ∷ 1 ∷ 2 ∷ 6 ∷ 4 ∷ 5 ∷ 3 ∷ []) $ by ! (exits (r .said) (h) z₀ z₁ (e .idle (holds (r .idle) held)) same₀ same₁ (tried-answer r w is))
+
+    -- the arm of `calm`
+    fast₁ : (l₀ l₁ l₂ l₃ l₄ l₅ l₆ l₇ l₈ l₉ l₁₀ l₁₁ l₁₂ l₁₃ l₁₄ l₁₅ l₁₆ l₁₇ l₁₈ l₁₉ l₂₀ l₂₁ : ℕ) (r : Attempted) (w : Val) (is : Is Attempted·.the-row r (w ∷ [])) (g : Is LentCore·.the-row h (machine ∷ [])) (z₀ z₁ : List ℕ) → Went r z₀ z₁ → length z₀ ≡ length (x₀ .now) → length z₁ ≡ length (x₁ .now) → T (r .calm)
+        → Sq W (‵ (MutSlice (named 2) κ₂ u32 .own (again x₁ (x₁ .name) z₁) (s x₁ ∷ [])) ∷ ‵ (flft κ₂ q₂) ∷ ‵ (MutSlice (named 1) κ₁ u8 .own (again x₀ (x₀ .name) z₀) (s x₀ ∷ [])) ∷ ‵ (flft κ₁ q₁) ∷ ‵ (cellAt fullShare (LentCore·.the-row .mir) (machine ∷ []) b o) ∷ ‵ (fobor κ₀ q₀ (Body (mem LentCore·.the-row) b o γ)) ∷ ‵ (fobs γ (LentCore·.the-row .coded .code h)) ∷ ‵ (fauth γ (LentCore·.the-row .coded .code h)) ∷ ‵ (froom (sliceTy (tyRef erased mut (tyInt w32))) l₂₁ 0) ∷ ‵ (fdies (sliceTy (tyRef erased mut (tyInt w32))) l₂₁) ∷ ‵ (froom (tyRef erased mut (tyInt w32)) l₂₀ 0) ∷ ‵ (fdies (tyRef erased mut (tyInt w32)) l₂₀) ∷ ‵ (froom (sliceTy (tyRef erased mut (tyInt w8))) l₁₉ 0) ∷ ‵ (fdies (sliceTy (tyRef erased mut (tyInt w8))) l₁₉) ∷ ‵ (froom (tyRef erased mut (tyInt w8)) l₁₈ 0) ∷ ‵ (fdies (tyRef erased mut (tyInt w8)) l₁₈) ∷ ‵ (froom (LentCore·′.mir) l₁₇ 0) ∷ ‵ (fdies (LentCore·′.mir) l₁₇) ∷ ‵ (froom (LentCore·′.mir) l₁₆ 0) ∷ ‵ (fdies (LentCore·′.mir) l₁₆) ∷ ‵ (fat fullShare (tyBool) l₁₅ 0 (vbool (r .calm))) ∷ ‵ (fdies (tyBool) l₁₅) ∷ ‵ (fat fullShare (sliceTy (tyRef erased mut (tyInt w32))) l₁₄ 0 (s x₁)) ∷ ‵ (fdies (sliceTy (tyRef erased mut (tyInt w32))) l₁₄) ∷ ‵ (fat fullShare (tyRef erased mut (tyInt w32)) l₁₃ 0 (vptr (x₁ .ptr .0) (x₁ .ptr .1))) ∷ ‵ (fdies (tyRef erased mut (tyInt w32)) l₁₃) ∷ ‵ (fat fullShare (sliceTy (tyRef erased mut (tyInt w8))) l₁₂ 0 (s x₀)) ∷ ‵ (fdies (sliceTy (tyRef erased mut (tyInt w8))) l₁₂) ∷ ‵ (fat fullShare (tyRef erased mut (tyInt w8)) l₁₁ 0 (vptr (x₀ .ptr .0) (x₀ .ptr .1))) ∷ ‵ (fdies (tyRef erased mut (tyInt w8)) l₁₁) ∷ ‵ (froom (Served·′.mir) l₁₀ 0) ∷ ‵ (fdies (Served·′.mir) l₁₀) ∷ ‵ (froom (LentCore·′.mir) l₉ 0) ∷ ‵ (fdies (LentCore·′.mir) l₉) ∷ ‵ (froom (LentCore·′.mir) l₈ 0) ∷ ‵ (fdies (LentCore·′.mir) l₈) ∷ ‵ (froom (LentCore·′.mir) l₇ 0) ∷ ‵ (fdies (LentCore·′.mir) l₇) ∷ ‵ (fat fullShare (Attempted·′.mir) l₆ 0 (LL.val Attempted·.the-type Attempted·′.the-laws r)) ∷ ‵ (fdies (Attempted·′.mir) l₆) ∷ ‵ (fat fullShare (LentCore·′.mir) l₅ 0 (machine)) ∷ ‵ (fdies (LentCore·′.mir) l₅) ∷ ‵ (fat fullShare (sliceTy (tyRef (named 2) mut (tyInt w32))) l₄ 0 (s x₁)) ∷ ‵ (fdies (sliceTy (tyRef (named 2) mut (tyInt w32))) l₄) ∷ ‵ (fat fullShare (sliceTy (tyRef (named 1) mut (tyInt w8))) l₃ 0 (s x₀)) ∷ ‵ (fdies (sliceTy (tyRef (named 1) mut (tyInt w8))) l₃) ∷ ‵ (fat fullShare (RawCall·′.mir) l₂ 0 (LL.val RawCall·.the-type RawCall·′.the-laws p₀)) ∷ ‵ (fdies (RawCall·′.mir) l₂) ∷ ‵ (fat fullShare (tyRef (named 0) mut (pointee (LentCore·.the-row .written))) l₁ 0 (vptr b o)) ∷ ‵ (fdies (tyRef (named 0) mut (pointee (LentCore·.the-row .written))) l₁) ∷ ‵ (froom (Said·′.mir) l₀ 0) ∷ ‵ (fdies (Said·′.mir) l₀) ∷ []) (runs C Λ (E l₀ l₁ l₂ l₃ l₄ l₅ l₆ l₇ l₈ l₉ l₁₀ l₁₁ l₁₂ l₁₃ l₁₄ l₁₅ l₁₆ l₁₇ l₁₈ l₁₉ l₂₀ l₂₁) arm₁ (anyQ (afterSeq 𝓤 H (Wp 𝓤 H C Λ (E l₀ l₁ l₂ l₃ l₄ l₅ l₆ l₇ l₈ l₉ l₁₀ l₁₁ l₁₂ l₁₃ l₁₄ l₁₅ l₁₆ l₁₇ l₁₈ l₁₉ l₂₀ l₂₁) pieces.t-11 (atReturn 𝓤 H (E l₀ l₁ l₂ l₃ l₄ l₅ l₆ l₇ l₈ l₉ l₁₀ l₁₁ l₁₂ l₁₃ l₁₄ l₁₅ l₁₆ l₁₇ l₁₈ l₁₉ l₂₀ l₂₁) Post)) (atReturn 𝓤 H (E l₀ l₁ l₂ l₃ l₄ l₅ l₆ l₇ l₈ l₉ l₁₀ l₁₁ l₁₂ l₁₃ l₁₄ l₁₅ l₁₆ l₁₇ l₁₈ l₁₉ l₂₀ l₂₁) Post))))
+    fast₁ l₀ l₁ l₂ l₃ l₄ l₅ l₆ l₇ l₈ l₉ l₁₀ l₁₁ l₁₂ l₁₃ l₁₄ l₁₅ l₁₆ l₁₇ l₁₈ l₁₉ l₂₀ l₂₁ r w is g z₀ z₁ e same₀ same₁ held =
         assigns ! (of-opd ! (load ! (from ! (hop ! (look ! 48 refl) (stop !))) (look-raw ! 4 refl))) (from ! (stop !)) (init ! 36 refl (LL.lawful LentCore·.the-type LentCore·′.the-laws 𝓤 H A W .typed h _ g .0)) $
         nothing ! $ owned ! Attempted·.the-row (Is Attempted·.the-row) (LL.makes Attempted·.the-type Attempted·′.the-plain 𝓤 H A) r _ (subst (λ (u : List Val). Is Attempted·.the-row r u) (LL.tells Attempted·.the-type Attempted·′.the-laws r (w ∷ []) is) is) $ fjoin ! $ owned ! LentCore·.the-row (Is LentCore·.the-row) (LL.makes LentCore·.the-type LentCore·′.the-plain 𝓤 H A) h _ g $ fjoin ! $ nothing ! $ use2 W (raw (Patch₀ 𝓤 H A at-mem run .pre (to-patch₀ r))) (goes-patch₀ r) $
         calls-at ! fm (Patch₀ 𝓤 H A at-mem run) known-patch₀ (to-patch₀ r) (and-then ! (load ! (from ! (stop !)) (look ! 37 refl)) (and-then ! (load ! (from ! (stop !)) (look ! 39 refl)) (no-more !))) (λ v.
@@ -223,9 +234,9 @@ module _ {M : Type 1} (𝓤 : URA M) (H : Heap 𝓤) (A : Atoms 𝓤) (W : Given
         returns-within ! Post refl (look ! 49 refl) $ forget ! 17 refl $ forget ! 19 refl $ forget ! 21 refl $ forget ! 23 refl $ forget ! 25 refl $ forget ! 27 refl $ forget ! 35 refl $ forget ! 37 refl $ forget ! 39 refl $ forget ! 41 refl $ forget ! 43 refl $ forget ! 45 refl $ forget ! 47 refl $ forget ! 49 refl $ move ! (49 ∷ 50 ∷ []) $ free1 ! $ move ! (47 ∷ 48 ∷ []) $ free1 ! $ move ! (45 ∷ 46 ∷ []) $ free1 ! $ move ! (43 ∷ 44 ∷ []) $ free1 ! $ move ! (41 ∷ 42 ∷ []) $ free1 ! $ move ! (39 ∷ 40 ∷ []) $ free1 ! $ move ! (37 ∷ 38 ∷ []) $ free1 ! $ move ! (35 ∷ 36 ∷ []) $ free1 ! $ move ! (33 ∷ 34 ∷ []) $ free1 ! $ move ! (31 ∷ 32 ∷ []) $ free1 ! $ move ! (29 ∷ 30 ∷ []) $ free1 ! $ move ! (27 ∷ 28 ∷ []) $ free1 ! $ move ! (25 ∷ 26 ∷ []) $ free1 ! $ move ! (23 ∷ 24 ∷ []) $ free1 ! $ move ! (21 ∷ 22 ∷ []) $ free1 ! $ move ! (19 ∷ 20 ∷ []) $ free1 ! $ move ! (17 ∷ 18 ∷ []) $ free1 ! $ move ! (15 ∷ 16 ∷ []) $ free1 ! $ move ! (13 ∷ 14 ∷ []) $ free1 ! $ move ! (11 ∷ 12 ∷ []) $ free1 ! $ move ! (9 ∷ 10 ∷ []) $ free1 ! $ move ! (7 ∷ 8 ∷ []) $ free1 ! $ free0 ! $ keep ! (0 ∷ 1 ∷ 2 ∷ 6 ∷ 4 ∷ 5 ∷ 3 ∷ []) $ by ! (exits (r .said) (u) z₀ z₁ (subst (λ (u : LentCore). Says (r .said) u z₀ z₁) (sym k) (e .calm (holds (r .calm) held))) same₀ same₁ (tried-answer r w is)))))))
 
     -- the arm of `fast`
-    fast₁ : (l₀ l₁ l₂ l₃ l₄ l₅ l₆ l₇ l₈ l₉ l₁₀ l₁₁ l₁₂ l₁₃ l₁₄ l₁₅ l₁₆ l₁₇ l₁₈ l₁₉ l₂₀ l₂₁ : ℕ) (r : Attempted) (w : Val) (is : Is Attempted·.the-row r (w ∷ [])) (g : Is LentCore·.the-row h (machine ∷ [])) (z₀ z₁ : List ℕ) → Went r z₀ z₁ → length z₀ ≡ length (x₀ .now) → length z₁ ≡ length (x₁ .now) → T (r .fast)
-        → Sq W (‵ (MutSlice (named 2) κ₂ u32 .own (again x₁ (x₁ .name) z₁) (s x₁ ∷ [])) ∷ ‵ (flft κ₂ q₂) ∷ ‵ (MutSlice (named 1) κ₁ u8 .own (again x₀ (x₀ .name) z₀) (s x₀ ∷ [])) ∷ ‵ (flft κ₁ q₁) ∷ ‵ (cellAt fullShare (LentCore·.the-row .mir) (machine ∷ []) b o) ∷ ‵ (fobor κ₀ q₀ (Body (mem LentCore·.the-row) b o γ)) ∷ ‵ (fobs γ (LentCore·.the-row .coded .code h)) ∷ ‵ (fauth γ (LentCore·.the-row .coded .code h)) ∷ ‵ (froom (sliceTy (tyRef erased mut (tyInt w32))) l₂₁ 0) ∷ ‵ (fdies (sliceTy (tyRef erased mut (tyInt w32))) l₂₁) ∷ ‵ (froom (tyRef erased mut (tyInt w32)) l₂₀ 0) ∷ ‵ (fdies (tyRef erased mut (tyInt w32)) l₂₀) ∷ ‵ (froom (sliceTy (tyRef erased mut (tyInt w8))) l₁₉ 0) ∷ ‵ (fdies (sliceTy (tyRef erased mut (tyInt w8))) l₁₉) ∷ ‵ (froom (tyRef erased mut (tyInt w8)) l₁₈ 0) ∷ ‵ (fdies (tyRef erased mut (tyInt w8)) l₁₈) ∷ ‵ (froom (LentCore·′.mir) l₁₇ 0) ∷ ‵ (fdies (LentCore·′.mir) l₁₇) ∷ ‵ (froom (LentCore·′.mir) l₁₆ 0) ∷ ‵ (fdies (LentCore·′.mir) l₁₆) ∷ ‵ (fat fullShare (tyBool) l₁₅ 0 (vbool (r .fast))) ∷ ‵ (fdies (tyBool) l₁₅) ∷ ‵ (fat fullShare (sliceTy (tyRef erased mut (tyInt w32))) l₁₄ 0 (s x₁)) ∷ ‵ (fdies (sliceTy (tyRef erased mut (tyInt w32))) l₁₄) ∷ ‵ (fat fullShare (tyRef erased mut (tyInt w32)) l₁₃ 0 (vptr (x₁ .ptr .0) (x₁ .ptr .1))) ∷ ‵ (fdies (tyRef erased mut (tyInt w32)) l₁₃) ∷ ‵ (fat fullShare (sliceTy (tyRef erased mut (tyInt w8))) l₁₂ 0 (s x₀)) ∷ ‵ (fdies (sliceTy (tyRef erased mut (tyInt w8))) l₁₂) ∷ ‵ (fat fullShare (tyRef erased mut (tyInt w8)) l₁₁ 0 (vptr (x₀ .ptr .0) (x₀ .ptr .1))) ∷ ‵ (fdies (tyRef erased mut (tyInt w8)) l₁₁) ∷ ‵ (froom (Served·′.mir) l₁₀ 0) ∷ ‵ (fdies (Served·′.mir) l₁₀) ∷ ‵ (froom (LentCore·′.mir) l₉ 0) ∷ ‵ (fdies (LentCore·′.mir) l₉) ∷ ‵ (froom (LentCore·′.mir) l₈ 0) ∷ ‵ (fdies (LentCore·′.mir) l₈) ∷ ‵ (froom (LentCore·′.mir) l₇ 0) ∷ ‵ (fdies (LentCore·′.mir) l₇) ∷ ‵ (fat fullShare (Attempted·′.mir) l₆ 0 (LL.val Attempted·.the-type Attempted·′.the-laws r)) ∷ ‵ (fdies (Attempted·′.mir) l₆) ∷ ‵ (fat fullShare (LentCore·′.mir) l₅ 0 (machine)) ∷ ‵ (fdies (LentCore·′.mir) l₅) ∷ ‵ (fat fullShare (sliceTy (tyRef (named 2) mut (tyInt w32))) l₄ 0 (s x₁)) ∷ ‵ (fdies (sliceTy (tyRef (named 2) mut (tyInt w32))) l₄) ∷ ‵ (fat fullShare (sliceTy (tyRef (named 1) mut (tyInt w8))) l₃ 0 (s x₀)) ∷ ‵ (fdies (sliceTy (tyRef (named 1) mut (tyInt w8))) l₃) ∷ ‵ (fat fullShare (RawCall·′.mir) l₂ 0 (LL.val RawCall·.the-type RawCall·′.the-laws p₀)) ∷ ‵ (fdies (RawCall·′.mir) l₂) ∷ ‵ (fat fullShare (tyRef (named 0) mut (pointee (LentCore·.the-row .written))) l₁ 0 (vptr b o)) ∷ ‵ (fdies (tyRef (named 0) mut (pointee (LentCore·.the-row .written))) l₁) ∷ ‵ (froom (Said·′.mir) l₀ 0) ∷ ‵ (fdies (Said·′.mir) l₀) ∷ []) (runs C Λ (E l₀ l₁ l₂ l₃ l₄ l₅ l₆ l₇ l₈ l₉ l₁₀ l₁₁ l₁₂ l₁₃ l₁₄ l₁₅ l₁₆ l₁₇ l₁₈ l₁₉ l₂₀ l₂₁) arm₁ (anyQ (afterSeq 𝓤 H (Wp 𝓤 H C Λ (E l₀ l₁ l₂ l₃ l₄ l₅ l₆ l₇ l₈ l₉ l₁₀ l₁₁ l₁₂ l₁₃ l₁₄ l₁₅ l₁₆ l₁₇ l₁₈ l₁₉ l₂₀ l₂₁) pieces.t-11 (atReturn 𝓤 H (E l₀ l₁ l₂ l₃ l₄ l₅ l₆ l₇ l₈ l₉ l₁₀ l₁₁ l₁₂ l₁₃ l₁₄ l₁₅ l₁₆ l₁₇ l₁₈ l₁₉ l₂₀ l₂₁) Post)) (atReturn 𝓤 H (E l₀ l₁ l₂ l₃ l₄ l₅ l₆ l₇ l₈ l₉ l₁₀ l₁₁ l₁₂ l₁₃ l₁₄ l₁₅ l₁₆ l₁₇ l₁₈ l₁₉ l₂₀ l₂₁) Post))))
-    fast₁ l₀ l₁ l₂ l₃ l₄ l₅ l₆ l₇ l₈ l₉ l₁₀ l₁₁ l₁₂ l₁₃ l₁₄ l₁₅ l₁₆ l₁₇ l₁₈ l₁₉ l₂₀ l₂₁ r w is g z₀ z₁ e same₀ same₁ held =
+    fast₂ : (l₀ l₁ l₂ l₃ l₄ l₅ l₆ l₇ l₈ l₉ l₁₀ l₁₁ l₁₂ l₁₃ l₁₄ l₁₅ l₁₆ l₁₇ l₁₈ l₁₉ l₂₀ l₂₁ : ℕ) (r : Attempted) (w : Val) (is : Is Attempted·.the-row r (w ∷ [])) (g : Is LentCore·.the-row h (machine ∷ [])) (z₀ z₁ : List ℕ) → Went r z₀ z₁ → length z₀ ≡ length (x₀ .now) → length z₁ ≡ length (x₁ .now) → T (r .fast)
+        → Sq W (‵ (MutSlice (named 2) κ₂ u32 .own (again x₁ (x₁ .name) z₁) (s x₁ ∷ [])) ∷ ‵ (flft κ₂ q₂) ∷ ‵ (MutSlice (named 1) κ₁ u8 .own (again x₀ (x₀ .name) z₀) (s x₀ ∷ [])) ∷ ‵ (flft κ₁ q₁) ∷ ‵ (cellAt fullShare (LentCore·.the-row .mir) (machine ∷ []) b o) ∷ ‵ (fobor κ₀ q₀ (Body (mem LentCore·.the-row) b o γ)) ∷ ‵ (fobs γ (LentCore·.the-row .coded .code h)) ∷ ‵ (fauth γ (LentCore·.the-row .coded .code h)) ∷ ‵ (froom (sliceTy (tyRef erased mut (tyInt w32))) l₂₁ 0) ∷ ‵ (fdies (sliceTy (tyRef erased mut (tyInt w32))) l₂₁) ∷ ‵ (froom (tyRef erased mut (tyInt w32)) l₂₀ 0) ∷ ‵ (fdies (tyRef erased mut (tyInt w32)) l₂₀) ∷ ‵ (froom (sliceTy (tyRef erased mut (tyInt w8))) l₁₉ 0) ∷ ‵ (fdies (sliceTy (tyRef erased mut (tyInt w8))) l₁₉) ∷ ‵ (froom (tyRef erased mut (tyInt w8)) l₁₈ 0) ∷ ‵ (fdies (tyRef erased mut (tyInt w8)) l₁₈) ∷ ‵ (froom (LentCore·′.mir) l₁₇ 0) ∷ ‵ (fdies (LentCore·′.mir) l₁₇) ∷ ‵ (froom (LentCore·′.mir) l₁₆ 0) ∷ ‵ (fdies (LentCore·′.mir) l₁₆) ∷ ‵ (fat fullShare (tyBool) l₁₅ 0 (vbool (r .fast))) ∷ ‵ (fdies (tyBool) l₁₅) ∷ ‵ (fat fullShare (sliceTy (tyRef erased mut (tyInt w32))) l₁₄ 0 (s x₁)) ∷ ‵ (fdies (sliceTy (tyRef erased mut (tyInt w32))) l₁₄) ∷ ‵ (fat fullShare (tyRef erased mut (tyInt w32)) l₁₃ 0 (vptr (x₁ .ptr .0) (x₁ .ptr .1))) ∷ ‵ (fdies (tyRef erased mut (tyInt w32)) l₁₃) ∷ ‵ (fat fullShare (sliceTy (tyRef erased mut (tyInt w8))) l₁₂ 0 (s x₀)) ∷ ‵ (fdies (sliceTy (tyRef erased mut (tyInt w8))) l₁₂) ∷ ‵ (fat fullShare (tyRef erased mut (tyInt w8)) l₁₁ 0 (vptr (x₀ .ptr .0) (x₀ .ptr .1))) ∷ ‵ (fdies (tyRef erased mut (tyInt w8)) l₁₁) ∷ ‵ (froom (Served·′.mir) l₁₀ 0) ∷ ‵ (fdies (Served·′.mir) l₁₀) ∷ ‵ (froom (LentCore·′.mir) l₉ 0) ∷ ‵ (fdies (LentCore·′.mir) l₉) ∷ ‵ (froom (LentCore·′.mir) l₈ 0) ∷ ‵ (fdies (LentCore·′.mir) l₈) ∷ ‵ (froom (LentCore·′.mir) l₇ 0) ∷ ‵ (fdies (LentCore·′.mir) l₇) ∷ ‵ (fat fullShare (Attempted·′.mir) l₆ 0 (LL.val Attempted·.the-type Attempted·′.the-laws r)) ∷ ‵ (fdies (Attempted·′.mir) l₆) ∷ ‵ (fat fullShare (LentCore·′.mir) l₅ 0 (machine)) ∷ ‵ (fdies (LentCore·′.mir) l₅) ∷ ‵ (fat fullShare (sliceTy (tyRef (named 2) mut (tyInt w32))) l₄ 0 (s x₁)) ∷ ‵ (fdies (sliceTy (tyRef (named 2) mut (tyInt w32))) l₄) ∷ ‵ (fat fullShare (sliceTy (tyRef (named 1) mut (tyInt w8))) l₃ 0 (s x₀)) ∷ ‵ (fdies (sliceTy (tyRef (named 1) mut (tyInt w8))) l₃) ∷ ‵ (fat fullShare (RawCall·′.mir) l₂ 0 (LL.val RawCall·.the-type RawCall·′.the-laws p₀)) ∷ ‵ (fdies (RawCall·′.mir) l₂) ∷ ‵ (fat fullShare (tyRef (named 0) mut (pointee (LentCore·.the-row .written))) l₁ 0 (vptr b o)) ∷ ‵ (fdies (tyRef (named 0) mut (pointee (LentCore·.the-row .written))) l₁) ∷ ‵ (froom (Said·′.mir) l₀ 0) ∷ ‵ (fdies (Said·′.mir) l₀) ∷ []) (runs C Λ (E l₀ l₁ l₂ l₃ l₄ l₅ l₆ l₇ l₈ l₉ l₁₀ l₁₁ l₁₂ l₁₃ l₁₄ l₁₅ l₁₆ l₁₇ l₁₈ l₁₉ l₂₀ l₂₁) arm₂ (anyQ (afterSeq 𝓤 H (Wp 𝓤 H C Λ (E l₀ l₁ l₂ l₃ l₄ l₅ l₆ l₇ l₈ l₉ l₁₀ l₁₁ l₁₂ l₁₃ l₁₄ l₁₅ l₁₆ l₁₇ l₁₈ l₁₉ l₂₀ l₂₁) pieces.t-13 (atReturn 𝓤 H (E l₀ l₁ l₂ l₃ l₄ l₅ l₆ l₇ l₈ l₉ l₁₀ l₁₁ l₁₂ l₁₃ l₁₄ l₁₅ l₁₆ l₁₇ l₁₈ l₁₉ l₂₀ l₂₁) Post)) (atReturn 𝓤 H (E l₀ l₁ l₂ l₃ l₄ l₅ l₆ l₇ l₈ l₉ l₁₀ l₁₁ l₁₂ l₁₃ l₁₄ l₁₅ l₁₆ l₁₇ l₁₈ l₁₉ l₂₀ l₂₁) Post))))
+    fast₂ l₀ l₁ l₂ l₃ l₄ l₅ l₆ l₇ l₈ l₉ l₁₀ l₁₁ l₁₂ l₁₃ l₁₄ l₁₅ l₁₆ l₁₇ l₁₈ l₁₉ l₂₀ l₂₁ r w is g z₀ z₁ e same₀ same₁ held =
         assigns ! (of-opd ! (load ! (from ! (hop ! (look ! 48 refl) (stop !))) (look-raw ! 4 refl))) (from ! (stop !)) (init ! 34 refl (LL.lawful LentCore·.the-type LentCore·′.the-laws 𝓤 H A W .typed h _ g .0)) $
         nothing ! $ owned ! Attempted·.the-row (Is Attempted·.the-row) (LL.makes Attempted·.the-type Attempted·′.the-plain 𝓤 H A) r _ (subst (λ (u : List Val). Is Attempted·.the-row r u) (LL.tells Attempted·.the-type Attempted·′.the-laws r (w ∷ []) is) is) $ fjoin ! $ owned ! LentCore·.the-row (Is LentCore·.the-row) (LL.makes LentCore·.the-type LentCore·′.the-plain 𝓤 H A) h _ g $ fjoin ! $ nothing ! $ use2 W (raw (Patch₁ 𝓤 H A at-mem run .pre (to-patch₁ r))) (goes-patch₁ r) $
         calls-at ! fm (Patch₁ 𝓤 H A at-mem run) known-patch₁ (to-patch₁ r) (and-then ! (load ! (from ! (stop !)) (look ! 35 refl)) (and-then ! (load ! (from ! (stop !)) (look ! 39 refl)) (no-more !))) (λ v.
@@ -239,12 +250,12 @@ module _ {M : Type 1} (𝓤 : URA M) (H : Heap 𝓤) (A : Atoms 𝓤) (W : Given
         returns-within ! Post refl (look ! 49 refl) $ forget ! 15 refl $ forget ! 19 refl $ forget ! 21 refl $ forget ! 23 refl $ forget ! 25 refl $ forget ! 27 refl $ forget ! 33 refl $ forget ! 37 refl $ forget ! 39 refl $ forget ! 41 refl $ forget ! 43 refl $ forget ! 45 refl $ forget ! 47 refl $ forget ! 49 refl $ move ! (49 ∷ 50 ∷ []) $ free1 ! $ move ! (47 ∷ 48 ∷ []) $ free1 ! $ move ! (45 ∷ 46 ∷ []) $ free1 ! $ move ! (43 ∷ 44 ∷ []) $ free1 ! $ move ! (41 ∷ 42 ∷ []) $ free1 ! $ move ! (39 ∷ 40 ∷ []) $ free1 ! $ move ! (37 ∷ 38 ∷ []) $ free1 ! $ move ! (35 ∷ 36 ∷ []) $ free1 ! $ move ! (33 ∷ 34 ∷ []) $ free1 ! $ move ! (31 ∷ 32 ∷ []) $ free1 ! $ move ! (29 ∷ 30 ∷ []) $ free1 ! $ move ! (27 ∷ 28 ∷ []) $ free1 ! $ move ! (25 ∷ 26 ∷ []) $ free1 ! $ move ! (23 ∷ 24 ∷ []) $ free1 ! $ move ! (21 ∷ 22 ∷ []) $ free1 ! $ move ! (19 ∷ 20 ∷ []) $ free1 ! $ move ! (17 ∷ 18 ∷ []) $ free1 ! $ move ! (15 ∷ 16 ∷ []) $ free1 ! $ move ! (13 ∷ 14 ∷ []) $ free1 ! $ move ! (11 ∷ 12 ∷ []) $ free1 ! $ move ! (9 ∷ 10 ∷ []) $ free1 ! $ move ! (7 ∷ 8 ∷ []) $ free1 ! $ free0 ! $ keep ! (0 ∷ 1 ∷ 2 ∷ 6 ∷ 4 ∷ 5 ∷ 3 ∷ []) $ by ! (exits (r .said) (u) z₀ z₁ (subst (λ (u : LentCore). Says (r .said) u z₀ z₁) (sym k) (e .fast (holds (r .fast) held))) same₀ same₁ (tried-answer r w is)))))))
 
     -- no flag is set
-    slow : (l₀ l₁ l₂ l₃ l₄ l₅ l₆ l₇ l₈ l₉ l₁₀ l₁₁ l₁₂ l₁₃ l₁₄ l₁₅ l₁₆ l₁₇ l₁₈ l₁₉ l₂₀ l₂₁ : ℕ) (r : Attempted) (g : Is LentCore·.the-row h (machine ∷ [])) (z₀ z₁ : List ℕ) → Went r z₀ z₁ → Room u8 (length (x₀ .now)) → Room u32 (length (x₁ .now)) → r .calm ≡ false → r .fast ≡ false
-        → Sq W (‵ (MutSlice (named 2) κ₂ u32 .own (again x₁ (x₁ .name) z₁) (s x₁ ∷ [])) ∷ ‵ (flft κ₂ q₂) ∷ ‵ (MutSlice (named 1) κ₁ u8 .own (again x₀ (x₀ .name) z₀) (s x₀ ∷ [])) ∷ ‵ (flft κ₁ q₁) ∷ ‵ (cellAt fullShare (LentCore·.the-row .mir) (machine ∷ []) b o) ∷ ‵ (fobor κ₀ q₀ (Body (mem LentCore·.the-row) b o γ)) ∷ ‵ (fobs γ (LentCore·.the-row .coded .code h)) ∷ ‵ (fauth γ (LentCore·.the-row .coded .code h)) ∷ ‵ (froom (sliceTy (tyRef erased mut (tyInt w32))) l₂₁ 0) ∷ ‵ (fdies (sliceTy (tyRef erased mut (tyInt w32))) l₂₁) ∷ ‵ (froom (tyRef erased mut (tyInt w32)) l₂₀ 0) ∷ ‵ (fdies (tyRef erased mut (tyInt w32)) l₂₀) ∷ ‵ (froom (sliceTy (tyRef erased mut (tyInt w8))) l₁₉ 0) ∷ ‵ (fdies (sliceTy (tyRef erased mut (tyInt w8))) l₁₉) ∷ ‵ (froom (tyRef erased mut (tyInt w8)) l₁₈ 0) ∷ ‵ (fdies (tyRef erased mut (tyInt w8)) l₁₈) ∷ ‵ (froom (LentCore·′.mir) l₁₇ 0) ∷ ‵ (fdies (LentCore·′.mir) l₁₇) ∷ ‵ (froom (LentCore·′.mir) l₁₆ 0) ∷ ‵ (fdies (LentCore·′.mir) l₁₆) ∷ ‵ (fat fullShare (tyBool) l₁₅ 0 (vbool (r .fast))) ∷ ‵ (fdies (tyBool) l₁₅) ∷ ‵ (fat fullShare (sliceTy (tyRef erased mut (tyInt w32))) l₁₄ 0 (s x₁)) ∷ ‵ (fdies (sliceTy (tyRef erased mut (tyInt w32))) l₁₄) ∷ ‵ (fat fullShare (tyRef erased mut (tyInt w32)) l₁₃ 0 (vptr (x₁ .ptr .0) (x₁ .ptr .1))) ∷ ‵ (fdies (tyRef erased mut (tyInt w32)) l₁₃) ∷ ‵ (fat fullShare (sliceTy (tyRef erased mut (tyInt w8))) l₁₂ 0 (s x₀)) ∷ ‵ (fdies (sliceTy (tyRef erased mut (tyInt w8))) l₁₂) ∷ ‵ (fat fullShare (tyRef erased mut (tyInt w8)) l₁₁ 0 (vptr (x₀ .ptr .0) (x₀ .ptr .1))) ∷ ‵ (fdies (tyRef erased mut (tyInt w8)) l₁₁) ∷ ‵ (froom (Served·′.mir) l₁₀ 0) ∷ ‵ (fdies (Served·′.mir) l₁₀) ∷ ‵ (froom (LentCore·′.mir) l₉ 0) ∷ ‵ (fdies (LentCore·′.mir) l₉) ∷ ‵ (froom (LentCore·′.mir) l₈ 0) ∷ ‵ (fdies (LentCore·′.mir) l₈) ∷ ‵ (froom (LentCore·′.mir) l₇ 0) ∷ ‵ (fdies (LentCore·′.mir) l₇) ∷ ‵ (fat fullShare (Attempted·′.mir) l₆ 0 (LL.val Attempted·.the-type Attempted·′.the-laws r)) ∷ ‵ (fdies (Attempted·′.mir) l₆) ∷ ‵ (fat fullShare (LentCore·′.mir) l₅ 0 (machine)) ∷ ‵ (fdies (LentCore·′.mir) l₅) ∷ ‵ (fat fullShare (sliceTy (tyRef (named 2) mut (tyInt w32))) l₄ 0 (s x₁)) ∷ ‵ (fdies (sliceTy (tyRef (named 2) mut (tyInt w32))) l₄) ∷ ‵ (fat fullShare (sliceTy (tyRef (named 1) mut (tyInt w8))) l₃ 0 (s x₀)) ∷ ‵ (fdies (sliceTy (tyRef (named 1) mut (tyInt w8))) l₃) ∷ ‵ (fat fullShare (RawCall·′.mir) l₂ 0 (LL.val RawCall·.the-type RawCall·′.the-laws p₀)) ∷ ‵ (fdies (RawCall·′.mir) l₂) ∷ ‵ (fat fullShare (tyRef (named 0) mut (pointee (LentCore·.the-row .written))) l₁ 0 (vptr b o)) ∷ ‵ (fdies (tyRef (named 0) mut (pointee (LentCore·.the-row .written))) l₁) ∷ ‵ (froom (Said·′.mir) l₀ 0) ∷ ‵ (fdies (Said·′.mir) l₀) ∷ []) (runs C Λ (E l₀ l₁ l₂ l₃ l₄ l₅ l₆ l₇ l₈ l₉ l₁₀ l₁₁ l₁₂ l₁₃ l₁₄ l₁₅ l₁₆ l₁₇ l₁₈ l₁₉ l₂₀ l₂₁) pieces.t-11 (atRet (E l₀ l₁ l₂ l₃ l₄ l₅ l₆ l₇ l₈ l₉ l₁₀ l₁₁ l₁₂ l₁₃ l₁₄ l₁₅ l₁₆ l₁₇ l₁₈ l₁₉ l₂₀ l₂₁) Post))
-    slow l₀ l₁ l₂ l₃ l₄ l₅ l₆ l₇ l₈ l₉ l₁₀ l₁₁ l₁₂ l₁₃ l₁₄ l₁₅ l₁₆ l₁₇ l₁₈ l₁₉ l₂₀ l₂₁ r g z₀ z₁ e room₀ room₁ f₀ f₁ =
+    slow : (l₀ l₁ l₂ l₃ l₄ l₅ l₆ l₇ l₈ l₉ l₁₀ l₁₁ l₁₂ l₁₃ l₁₄ l₁₅ l₁₆ l₁₇ l₁₈ l₁₉ l₂₀ l₂₁ : ℕ) (r : Attempted) (g : Is LentCore·.the-row h (machine ∷ [])) (z₀ z₁ : List ℕ) → Went r z₀ z₁ → Room u8 (length (x₀ .now)) → Room u32 (length (x₁ .now)) → r .idle ≡ false → r .calm ≡ false → r .fast ≡ false
+        → Sq W (‵ (MutSlice (named 2) κ₂ u32 .own (again x₁ (x₁ .name) z₁) (s x₁ ∷ [])) ∷ ‵ (flft κ₂ q₂) ∷ ‵ (MutSlice (named 1) κ₁ u8 .own (again x₀ (x₀ .name) z₀) (s x₀ ∷ [])) ∷ ‵ (flft κ₁ q₁) ∷ ‵ (cellAt fullShare (LentCore·.the-row .mir) (machine ∷ []) b o) ∷ ‵ (fobor κ₀ q₀ (Body (mem LentCore·.the-row) b o γ)) ∷ ‵ (fobs γ (LentCore·.the-row .coded .code h)) ∷ ‵ (fauth γ (LentCore·.the-row .coded .code h)) ∷ ‵ (froom (sliceTy (tyRef erased mut (tyInt w32))) l₂₁ 0) ∷ ‵ (fdies (sliceTy (tyRef erased mut (tyInt w32))) l₂₁) ∷ ‵ (froom (tyRef erased mut (tyInt w32)) l₂₀ 0) ∷ ‵ (fdies (tyRef erased mut (tyInt w32)) l₂₀) ∷ ‵ (froom (sliceTy (tyRef erased mut (tyInt w8))) l₁₉ 0) ∷ ‵ (fdies (sliceTy (tyRef erased mut (tyInt w8))) l₁₉) ∷ ‵ (froom (tyRef erased mut (tyInt w8)) l₁₈ 0) ∷ ‵ (fdies (tyRef erased mut (tyInt w8)) l₁₈) ∷ ‵ (froom (LentCore·′.mir) l₁₇ 0) ∷ ‵ (fdies (LentCore·′.mir) l₁₇) ∷ ‵ (froom (LentCore·′.mir) l₁₆ 0) ∷ ‵ (fdies (LentCore·′.mir) l₁₆) ∷ ‵ (fat fullShare (tyBool) l₁₅ 0 (vbool (r .fast))) ∷ ‵ (fdies (tyBool) l₁₅) ∷ ‵ (fat fullShare (sliceTy (tyRef erased mut (tyInt w32))) l₁₄ 0 (s x₁)) ∷ ‵ (fdies (sliceTy (tyRef erased mut (tyInt w32))) l₁₄) ∷ ‵ (fat fullShare (tyRef erased mut (tyInt w32)) l₁₃ 0 (vptr (x₁ .ptr .0) (x₁ .ptr .1))) ∷ ‵ (fdies (tyRef erased mut (tyInt w32)) l₁₃) ∷ ‵ (fat fullShare (sliceTy (tyRef erased mut (tyInt w8))) l₁₂ 0 (s x₀)) ∷ ‵ (fdies (sliceTy (tyRef erased mut (tyInt w8))) l₁₂) ∷ ‵ (fat fullShare (tyRef erased mut (tyInt w8)) l₁₁ 0 (vptr (x₀ .ptr .0) (x₀ .ptr .1))) ∷ ‵ (fdies (tyRef erased mut (tyInt w8)) l₁₁) ∷ ‵ (froom (Served·′.mir) l₁₀ 0) ∷ ‵ (fdies (Served·′.mir) l₁₀) ∷ ‵ (froom (LentCore·′.mir) l₉ 0) ∷ ‵ (fdies (LentCore·′.mir) l₉) ∷ ‵ (froom (LentCore·′.mir) l₈ 0) ∷ ‵ (fdies (LentCore·′.mir) l₈) ∷ ‵ (froom (LentCore·′.mir) l₇ 0) ∷ ‵ (fdies (LentCore·′.mir) l₇) ∷ ‵ (fat fullShare (Attempted·′.mir) l₆ 0 (LL.val Attempted·.the-type Attempted·′.the-laws r)) ∷ ‵ (fdies (Attempted·′.mir) l₆) ∷ ‵ (fat fullShare (LentCore·′.mir) l₅ 0 (machine)) ∷ ‵ (fdies (LentCore·′.mir) l₅) ∷ ‵ (fat fullShare (sliceTy (tyRef (named 2) mut (tyInt w32))) l₄ 0 (s x₁)) ∷ ‵ (fdies (sliceTy (tyRef (named 2) mut (tyInt w32))) l₄) ∷ ‵ (fat fullShare (sliceTy (tyRef (named 1) mut (tyInt w8))) l₃ 0 (s x₀)) ∷ ‵ (fdies (sliceTy (tyRef (named 1) mut (tyInt w8))) l₃) ∷ ‵ (fat fullShare (RawCall·′.mir) l₂ 0 (LL.val RawCall·.the-type RawCall·′.the-laws p₀)) ∷ ‵ (fdies (RawCall·′.mir) l₂) ∷ ‵ (fat fullShare (tyRef (named 0) mut (pointee (LentCore·.the-row .written))) l₁ 0 (vptr b o)) ∷ ‵ (fdies (tyRef (named 0) mut (pointee (LentCore·.the-row .written))) l₁) ∷ ‵ (froom (Said·′.mir) l₀ 0) ∷ ‵ (fdies (Said·′.mir) l₀) ∷ []) (runs C Λ (E l₀ l₁ l₂ l₃ l₄ l₅ l₆ l₇ l₈ l₉ l₁₀ l₁₁ l₁₂ l₁₃ l₁₄ l₁₅ l₁₆ l₁₇ l₁₈ l₁₉ l₂₀ l₂₁) pieces.t-13 (atRet (E l₀ l₁ l₂ l₃ l₄ l₅ l₆ l₇ l₈ l₉ l₁₀ l₁₁ l₁₂ l₁₃ l₁₄ l₁₅ l₁₆ l₁₇ l₁₈ l₁₉ l₂₀ l₂₁) Post))
+    slow l₀ l₁ l₂ l₃ l₄ l₅ l₆ l₇ l₈ l₉ l₁₀ l₁₁ l₁₂ l₁₃ l₁₄ l₁₅ l₁₆ l₁₇ l₁₈ l₁₉ l₂₀ l₂₁ r g z₀ z₁ e room₀ room₁ f₀ f₁ f₂ =
         assigns ! (of-opd ! (load ! (from ! (hop ! (look ! 48 refl) (stop !))) (look-raw ! 4 refl))) (from ! (stop !)) (init ! 32 refl (LL.lawful LentCore·.the-type LentCore·′.the-laws 𝓤 H A W .typed h _ g .0)) $
-        rewrite ! 2 (λ (l : List ℕ). ‵ (MutSlice (named 1) κ₁ u8 .own (again x₀ (x₀ .name) l) (s x₀ ∷ []))) (e .store f₀ f₁) refl $
-        rewrite ! 0 (λ (l : List ℕ). ‵ (MutSlice (named 2) κ₂ u32 .own (again x₁ (x₁ .name) l) (s x₁ ∷ []))) (e .log f₀ f₁) refl $
+        rewrite ! 2 (λ (l : List ℕ). ‵ (MutSlice (named 1) κ₁ u8 .own (again x₀ (x₀ .name) l) (s x₀ ∷ []))) (e .store f₀ f₁ f₂) refl $
+        rewrite ! 0 (λ (l : List ℕ). ‵ (MutSlice (named 2) κ₂ u32 .own (again x₁ (x₁ .name) l) (s x₁ ∷ []))) (e .log f₀ f₁ f₂) refl $
         assigns ! (addr ! (from ! (fld ! refl (hop ! (look-in ! 44 (sub ! 0 refl (whole !))) (stop !))))) (from ! (stop !)) (init ! 14 refl (tt, tt)) $
         assigns ! (agg ! (and-then ! (load ! (from ! (stop !)) (look ! 14 refl)) (and-then ! (load ! (from ! (fld ! refl (stop !))) (look-in ! 44 (sub ! 1 refl (whole !)))) (no-more !)))) (from ! (stop !)) (init ! 12 refl (tt, (tt, (record { fits = room₀ .0 }, tt)))) $
         assigns ! (addr ! (from ! (fld ! refl (hop ! (look-in ! 42 (sub ! 0 refl (whole !))) (stop !))))) (from ! (stop !)) (init ! 10 refl (tt, tt)) $
@@ -265,22 +276,31 @@ module _ {M : Type 1} (𝓤 : URA M) (H : Heap 𝓤) (A : Atoms 𝓤) (W : Given
         returns ! (look ! 49 refl) $ forget ! 7 refl $ forget ! 9 refl $ forget ! 11 refl $ forget ! 13 refl $ forget ! 19 refl $ forget ! 21 refl $ forget ! 23 refl $ forget ! 25 refl $ forget ! 27 refl $ forget ! 29 refl $ forget ! 31 refl $ forget ! 37 refl $ forget ! 39 refl $ forget ! 41 refl $ forget ! 43 refl $ forget ! 45 refl $ forget ! 47 refl $ forget ! 49 refl $ move ! (49 ∷ 50 ∷ []) $ free1 ! $ move ! (47 ∷ 48 ∷ []) $ free1 ! $ move ! (45 ∷ 46 ∷ []) $ free1 ! $ move ! (43 ∷ 44 ∷ []) $ free1 ! $ move ! (41 ∷ 42 ∷ []) $ free1 ! $ move ! (39 ∷ 40 ∷ []) $ free1 ! $ move ! (37 ∷ 38 ∷ []) $ free1 ! $ move ! (35 ∷ 36 ∷ []) $ free1 ! $ move ! (33 ∷ 34 ∷ []) $ free1 ! $ move ! (31 ∷ 32 ∷ []) $ free1 ! $ move ! (29 ∷ 30 ∷ []) $ free1 ! $ move ! (27 ∷ 28 ∷ []) $ free1 ! $ move ! (25 ∷ 26 ∷ []) $ free1 ! $ move ! (23 ∷ 24 ∷ []) $ free1 ! $ move ! (21 ∷ 22 ∷ []) $ free1 ! $ move ! (19 ∷ 20 ∷ []) $ free1 ! $ move ! (17 ∷ 18 ∷ []) $ free1 ! $ move ! (15 ∷ 16 ∷ []) $ free1 ! $ move ! (13 ∷ 14 ∷ []) $ free1 ! $ move ! (11 ∷ 12 ∷ []) $ free1 ! $ move ! (9 ∷ 10 ∷ []) $ free1 ! $ move ! (7 ∷ 8 ∷ []) $ free1 ! $ free0 ! $ keep ! (0 ∷ 1 ∷ 2 ∷ 6 ∷ 4 ∷ 5 ∷ 3 ∷ []) $ by ! (exits (r′ .said) (r′ .core) (zs′ .1 .1 .0) (zs′ .1 .1 .1 .0) e′ same₀′ same₁′ (answer-is r′ w′ is′)))))))))))))
 
     -- the test of `fast`
-    picks₁ : (l₀ l₁ l₂ l₃ l₄ l₅ l₆ l₇ l₈ l₉ l₁₀ l₁₁ l₁₂ l₁₃ l₁₄ l₁₅ l₁₆ l₁₇ l₁₈ l₁₉ l₂₀ l₂₁ : ℕ) (r : Attempted) (w : Val) (is : Is Attempted·.the-row r (w ∷ [])) (g : Is LentCore·.the-row h (machine ∷ [])) (z₀ z₁ : List ℕ) → Went r z₀ z₁ → length z₀ ≡ length (x₀ .now) → length z₁ ≡ length (x₁ .now) → Room u8 (length (x₀ .now)) → Room u32 (length (x₁ .now)) → r .calm ≡ false
-        → Sq W (‵ (MutSlice (named 2) κ₂ u32 .own (again x₁ (x₁ .name) z₁) (s x₁ ∷ [])) ∷ ‵ (flft κ₂ q₂) ∷ ‵ (MutSlice (named 1) κ₁ u8 .own (again x₀ (x₀ .name) z₀) (s x₀ ∷ [])) ∷ ‵ (flft κ₁ q₁) ∷ ‵ (cellAt fullShare (LentCore·.the-row .mir) (machine ∷ []) b o) ∷ ‵ (fobor κ₀ q₀ (Body (mem LentCore·.the-row) b o γ)) ∷ ‵ (fobs γ (LentCore·.the-row .coded .code h)) ∷ ‵ (fauth γ (LentCore·.the-row .coded .code h)) ∷ ‵ (froom (sliceTy (tyRef erased mut (tyInt w32))) l₂₁ 0) ∷ ‵ (fdies (sliceTy (tyRef erased mut (tyInt w32))) l₂₁) ∷ ‵ (froom (tyRef erased mut (tyInt w32)) l₂₀ 0) ∷ ‵ (fdies (tyRef erased mut (tyInt w32)) l₂₀) ∷ ‵ (froom (sliceTy (tyRef erased mut (tyInt w8))) l₁₉ 0) ∷ ‵ (fdies (sliceTy (tyRef erased mut (tyInt w8))) l₁₉) ∷ ‵ (froom (tyRef erased mut (tyInt w8)) l₁₈ 0) ∷ ‵ (fdies (tyRef erased mut (tyInt w8)) l₁₈) ∷ ‵ (froom (LentCore·′.mir) l₁₇ 0) ∷ ‵ (fdies (LentCore·′.mir) l₁₇) ∷ ‵ (froom (LentCore·′.mir) l₁₆ 0) ∷ ‵ (fdies (LentCore·′.mir) l₁₆) ∷ ‵ (fat fullShare (tyBool) l₁₅ 0 (vbool (r .calm))) ∷ ‵ (fdies (tyBool) l₁₅) ∷ ‵ (fat fullShare (sliceTy (tyRef erased mut (tyInt w32))) l₁₄ 0 (s x₁)) ∷ ‵ (fdies (sliceTy (tyRef erased mut (tyInt w32))) l₁₄) ∷ ‵ (fat fullShare (tyRef erased mut (tyInt w32)) l₁₃ 0 (vptr (x₁ .ptr .0) (x₁ .ptr .1))) ∷ ‵ (fdies (tyRef erased mut (tyInt w32)) l₁₃) ∷ ‵ (fat fullShare (sliceTy (tyRef erased mut (tyInt w8))) l₁₂ 0 (s x₀)) ∷ ‵ (fdies (sliceTy (tyRef erased mut (tyInt w8))) l₁₂) ∷ ‵ (fat fullShare (tyRef erased mut (tyInt w8)) l₁₁ 0 (vptr (x₀ .ptr .0) (x₀ .ptr .1))) ∷ ‵ (fdies (tyRef erased mut (tyInt w8)) l₁₁) ∷ ‵ (froom (Served·′.mir) l₁₀ 0) ∷ ‵ (fdies (Served·′.mir) l₁₀) ∷ ‵ (froom (LentCore·′.mir) l₉ 0) ∷ ‵ (fdies (LentCore·′.mir) l₉) ∷ ‵ (froom (LentCore·′.mir) l₈ 0) ∷ ‵ (fdies (LentCore·′.mir) l₈) ∷ ‵ (froom (LentCore·′.mir) l₇ 0) ∷ ‵ (fdies (LentCore·′.mir) l₇) ∷ ‵ (fat fullShare (Attempted·′.mir) l₆ 0 (LL.val Attempted·.the-type Attempted·′.the-laws r)) ∷ ‵ (fdies (Attempted·′.mir) l₆) ∷ ‵ (fat fullShare (LentCore·′.mir) l₅ 0 (machine)) ∷ ‵ (fdies (LentCore·′.mir) l₅) ∷ ‵ (fat fullShare (sliceTy (tyRef (named 2) mut (tyInt w32))) l₄ 0 (s x₁)) ∷ ‵ (fdies (sliceTy (tyRef (named 2) mut (tyInt w32))) l₄) ∷ ‵ (fat fullShare (sliceTy (tyRef (named 1) mut (tyInt w8))) l₃ 0 (s x₀)) ∷ ‵ (fdies (sliceTy (tyRef (named 1) mut (tyInt w8))) l₃) ∷ ‵ (fat fullShare (RawCall·′.mir) l₂ 0 (LL.val RawCall·.the-type RawCall·′.the-laws p₀)) ∷ ‵ (fdies (RawCall·′.mir) l₂) ∷ ‵ (fat fullShare (tyRef (named 0) mut (pointee (LentCore·.the-row .written))) l₁ 0 (vptr b o)) ∷ ‵ (fdies (tyRef (named 0) mut (pointee (LentCore·.the-row .written))) l₁) ∷ ‵ (froom (Said·′.mir) l₀ 0) ∷ ‵ (fdies (Said·′.mir) l₀) ∷ []) (runs C Λ (E l₀ l₁ l₂ l₃ l₄ l₅ l₆ l₇ l₈ l₉ l₁₀ l₁₁ l₁₂ l₁₃ l₁₄ l₁₅ l₁₆ l₁₇ l₁₈ l₁₉ l₂₀ l₂₁) pieces.t-9 (atRet (E l₀ l₁ l₂ l₃ l₄ l₅ l₆ l₇ l₈ l₉ l₁₀ l₁₁ l₁₂ l₁₃ l₁₄ l₁₅ l₁₆ l₁₇ l₁₈ l₁₉ l₂₀ l₂₁) Post))
+    picks₂ : (l₀ l₁ l₂ l₃ l₄ l₅ l₆ l₇ l₈ l₉ l₁₀ l₁₁ l₁₂ l₁₃ l₁₄ l₁₅ l₁₆ l₁₇ l₁₈ l₁₉ l₂₀ l₂₁ : ℕ) (r : Attempted) (w : Val) (is : Is Attempted·.the-row r (w ∷ [])) (g : Is LentCore·.the-row h (machine ∷ [])) (z₀ z₁ : List ℕ) → Went r z₀ z₁ → length z₀ ≡ length (x₀ .now) → length z₁ ≡ length (x₁ .now) → Room u8 (length (x₀ .now)) → Room u32 (length (x₁ .now)) → r .idle ≡ false → r .calm ≡ false
+        → Sq W (‵ (MutSlice (named 2) κ₂ u32 .own (again x₁ (x₁ .name) z₁) (s x₁ ∷ [])) ∷ ‵ (flft κ₂ q₂) ∷ ‵ (MutSlice (named 1) κ₁ u8 .own (again x₀ (x₀ .name) z₀) (s x₀ ∷ [])) ∷ ‵ (flft κ₁ q₁) ∷ ‵ (cellAt fullShare (LentCore·.the-row .mir) (machine ∷ []) b o) ∷ ‵ (fobor κ₀ q₀ (Body (mem LentCore·.the-row) b o γ)) ∷ ‵ (fobs γ (LentCore·.the-row .coded .code h)) ∷ ‵ (fauth γ (LentCore·.the-row .coded .code h)) ∷ ‵ (froom (sliceTy (tyRef erased mut (tyInt w32))) l₂₁ 0) ∷ ‵ (fdies (sliceTy (tyRef erased mut (tyInt w32))) l₂₁) ∷ ‵ (froom (tyRef erased mut (tyInt w32)) l₂₀ 0) ∷ ‵ (fdies (tyRef erased mut (tyInt w32)) l₂₀) ∷ ‵ (froom (sliceTy (tyRef erased mut (tyInt w8))) l₁₉ 0) ∷ ‵ (fdies (sliceTy (tyRef erased mut (tyInt w8))) l₁₉) ∷ ‵ (froom (tyRef erased mut (tyInt w8)) l₁₈ 0) ∷ ‵ (fdies (tyRef erased mut (tyInt w8)) l₁₈) ∷ ‵ (froom (LentCore·′.mir) l₁₇ 0) ∷ ‵ (fdies (LentCore·′.mir) l₁₇) ∷ ‵ (froom (LentCore·′.mir) l₁₆ 0) ∷ ‵ (fdies (LentCore·′.mir) l₁₆) ∷ ‵ (fat fullShare (tyBool) l₁₅ 0 (vbool (r .calm))) ∷ ‵ (fdies (tyBool) l₁₅) ∷ ‵ (fat fullShare (sliceTy (tyRef erased mut (tyInt w32))) l₁₄ 0 (s x₁)) ∷ ‵ (fdies (sliceTy (tyRef erased mut (tyInt w32))) l₁₄) ∷ ‵ (fat fullShare (tyRef erased mut (tyInt w32)) l₁₃ 0 (vptr (x₁ .ptr .0) (x₁ .ptr .1))) ∷ ‵ (fdies (tyRef erased mut (tyInt w32)) l₁₃) ∷ ‵ (fat fullShare (sliceTy (tyRef erased mut (tyInt w8))) l₁₂ 0 (s x₀)) ∷ ‵ (fdies (sliceTy (tyRef erased mut (tyInt w8))) l₁₂) ∷ ‵ (fat fullShare (tyRef erased mut (tyInt w8)) l₁₁ 0 (vptr (x₀ .ptr .0) (x₀ .ptr .1))) ∷ ‵ (fdies (tyRef erased mut (tyInt w8)) l₁₁) ∷ ‵ (froom (Served·′.mir) l₁₀ 0) ∷ ‵ (fdies (Served·′.mir) l₁₀) ∷ ‵ (froom (LentCore·′.mir) l₉ 0) ∷ ‵ (fdies (LentCore·′.mir) l₉) ∷ ‵ (froom (LentCore·′.mir) l₈ 0) ∷ ‵ (fdies (LentCore·′.mir) l₈) ∷ ‵ (froom (LentCore·′.mir) l₇ 0) ∷ ‵ (fdies (LentCore·′.mir) l₇) ∷ ‵ (fat fullShare (Attempted·′.mir) l₆ 0 (LL.val Attempted·.the-type Attempted·′.the-laws r)) ∷ ‵ (fdies (Attempted·′.mir) l₆) ∷ ‵ (fat fullShare (LentCore·′.mir) l₅ 0 (machine)) ∷ ‵ (fdies (LentCore·′.mir) l₅) ∷ ‵ (fat fullShare (sliceTy (tyRef (named 2) mut (tyInt w32))) l₄ 0 (s x₁)) ∷ ‵ (fdies (sliceTy (tyRef (named 2) mut (tyInt w32))) l₄) ∷ ‵ (fat fullShare (sliceTy (tyRef (named 1) mut (tyInt w8))) l₃ 0 (s x₀)) ∷ ‵ (fdies (sliceTy (tyRef (named 1) mut (tyInt w8))) l₃) ∷ ‵ (fat fullShare (RawCall·′.mir) l₂ 0 (LL.val RawCall·.the-type RawCall·′.the-laws p₀)) ∷ ‵ (fdies (RawCall·′.mir) l₂) ∷ ‵ (fat fullShare (tyRef (named 0) mut (pointee (LentCore·.the-row .written))) l₁ 0 (vptr b o)) ∷ ‵ (fdies (tyRef (named 0) mut (pointee (LentCore·.the-row .written))) l₁) ∷ ‵ (froom (Said·′.mir) l₀ 0) ∷ ‵ (fdies (Said·′.mir) l₀) ∷ []) (runs C Λ (E l₀ l₁ l₂ l₃ l₄ l₅ l₆ l₇ l₈ l₉ l₁₀ l₁₁ l₁₂ l₁₃ l₁₄ l₁₅ l₁₆ l₁₇ l₁₈ l₁₉ l₂₀ l₂₁) pieces.t-11 (atRet (E l₀ l₁ l₂ l₃ l₄ l₅ l₆ l₇ l₈ l₉ l₁₀ l₁₁ l₁₂ l₁₃ l₁₄ l₁₅ l₁₆ l₁₇ l₁₈ l₁₉ l₂₀ l₂₁) Post))
+    picks₂ l₀ l₁ l₂ l₃ l₄ l₅ l₆ l₇ l₈ l₉ l₁₀ l₁₁ l₁₂ l₁₃ l₁₄ l₁₅ l₁₆ l₁₇ l₁₈ l₁₉ l₂₀ l₂₁ r w is g z₀ z₁ e same₀ same₁ room₀ room₁ f₀ f₁ =
+        assigns ! (of-opd ! (load ! (from ! (fld ! {τ = tyBool} {d = 14} refl (stop !))) (look-in ! 38 (sub ! 3 {τ = tyBool} {d = 14} refl (whole !))))) (from ! (stop !)) (store ! 20 refl (tt, tt)) $
+        first ! $ branches ! (load ! (from ! (stop !)) (look ! 20 refl))
+        (fast₂ l₀ l₁ l₂ l₃ l₄ l₅ l₆ l₇ l₈ l₉ l₁₀ l₁₁ l₁₂ l₁₃ l₁₄ l₁₅ l₁₆ l₁₇ l₁₈ l₁₉ l₂₀ l₂₁ r w is g z₀ z₁ e same₀ same₁)
+        (λ failed. skips ! $ exec ! C Λ (E l₀ l₁ l₂ l₃ l₄ l₅ l₆ l₇ l₈ l₉ l₁₀ l₁₁ l₁₂ l₁₃ l₁₄ l₁₅ l₁₆ l₁₇ l₁₈ l₁₉ l₂₀ l₂₁) pieces.t-13 (atRet (E l₀ l₁ l₂ l₃ l₄ l₅ l₆ l₇ l₈ l₉ l₁₀ l₁₁ l₁₂ l₁₃ l₁₄ l₁₅ l₁₆ l₁₇ l₁₈ l₁₉ l₂₀ l₂₁) Post) $ slow l₀ l₁ l₂ l₃ l₄ l₅ l₆ l₇ l₈ l₉ l₁₀ l₁₁ l₁₂ l₁₃ l₁₄ l₁₅ l₁₆ l₁₇ l₁₈ l₁₉ l₂₀ l₂₁ r g z₀ z₁ e room₀ room₁ f₀ f₁ (fails (r .fast) failed))
+
+    -- the test of `calm`
+    picks₁ : (l₀ l₁ l₂ l₃ l₄ l₅ l₆ l₇ l₈ l₉ l₁₀ l₁₁ l₁₂ l₁₃ l₁₄ l₁₅ l₁₆ l₁₇ l₁₈ l₁₉ l₂₀ l₂₁ : ℕ) (r : Attempted) (w : Val) (is : Is Attempted·.the-row r (w ∷ [])) (g : Is LentCore·.the-row h (machine ∷ [])) (z₀ z₁ : List ℕ) → Went r z₀ z₁ → length z₀ ≡ length (x₀ .now) → length z₁ ≡ length (x₁ .now) → Room u8 (length (x₀ .now)) → Room u32 (length (x₁ .now)) → r .idle ≡ false
+        → Sq W (‵ (MutSlice (named 2) κ₂ u32 .own (again x₁ (x₁ .name) z₁) (s x₁ ∷ [])) ∷ ‵ (flft κ₂ q₂) ∷ ‵ (MutSlice (named 1) κ₁ u8 .own (again x₀ (x₀ .name) z₀) (s x₀ ∷ [])) ∷ ‵ (flft κ₁ q₁) ∷ ‵ (cellAt fullShare (LentCore·.the-row .mir) (machine ∷ []) b o) ∷ ‵ (fobor κ₀ q₀ (Body (mem LentCore·.the-row) b o γ)) ∷ ‵ (fobs γ (LentCore·.the-row .coded .code h)) ∷ ‵ (fauth γ (LentCore·.the-row .coded .code h)) ∷ ‵ (froom (sliceTy (tyRef erased mut (tyInt w32))) l₂₁ 0) ∷ ‵ (fdies (sliceTy (tyRef erased mut (tyInt w32))) l₂₁) ∷ ‵ (froom (tyRef erased mut (tyInt w32)) l₂₀ 0) ∷ ‵ (fdies (tyRef erased mut (tyInt w32)) l₂₀) ∷ ‵ (froom (sliceTy (tyRef erased mut (tyInt w8))) l₁₉ 0) ∷ ‵ (fdies (sliceTy (tyRef erased mut (tyInt w8))) l₁₉) ∷ ‵ (froom (tyRef erased mut (tyInt w8)) l₁₈ 0) ∷ ‵ (fdies (tyRef erased mut (tyInt w8)) l₁₈) ∷ ‵ (froom (LentCore·′.mir) l₁₇ 0) ∷ ‵ (fdies (LentCore·′.mir) l₁₇) ∷ ‵ (froom (LentCore·′.mir) l₁₆ 0) ∷ ‵ (fdies (LentCore·′.mir) l₁₆) ∷ ‵ (fat fullShare (tyBool) l₁₅ 0 (vbool (r .idle))) ∷ ‵ (fdies (tyBool) l₁₅) ∷ ‵ (fat fullShare (sliceTy (tyRef erased mut (tyInt w32))) l₁₄ 0 (s x₁)) ∷ ‵ (fdies (sliceTy (tyRef erased mut (tyInt w32))) l₁₄) ∷ ‵ (fat fullShare (tyRef erased mut (tyInt w32)) l₁₃ 0 (vptr (x₁ .ptr .0) (x₁ .ptr .1))) ∷ ‵ (fdies (tyRef erased mut (tyInt w32)) l₁₃) ∷ ‵ (fat fullShare (sliceTy (tyRef erased mut (tyInt w8))) l₁₂ 0 (s x₀)) ∷ ‵ (fdies (sliceTy (tyRef erased mut (tyInt w8))) l₁₂) ∷ ‵ (fat fullShare (tyRef erased mut (tyInt w8)) l₁₁ 0 (vptr (x₀ .ptr .0) (x₀ .ptr .1))) ∷ ‵ (fdies (tyRef erased mut (tyInt w8)) l₁₁) ∷ ‵ (froom (Served·′.mir) l₁₀ 0) ∷ ‵ (fdies (Served·′.mir) l₁₀) ∷ ‵ (froom (LentCore·′.mir) l₉ 0) ∷ ‵ (fdies (LentCore·′.mir) l₉) ∷ ‵ (froom (LentCore·′.mir) l₈ 0) ∷ ‵ (fdies (LentCore·′.mir) l₈) ∷ ‵ (froom (LentCore·′.mir) l₇ 0) ∷ ‵ (fdies (LentCore·′.mir) l₇) ∷ ‵ (fat fullShare (Attempted·′.mir) l₆ 0 (LL.val Attempted·.the-type Attempted·′.the-laws r)) ∷ ‵ (fdies (Attempted·′.mir) l₆) ∷ ‵ (fat fullShare (LentCore·′.mir) l₅ 0 (machine)) ∷ ‵ (fdies (LentCore·′.mir) l₅) ∷ ‵ (fat fullShare (sliceTy (tyRef (named 2) mut (tyInt w32))) l₄ 0 (s x₁)) ∷ ‵ (fdies (sliceTy (tyRef (named 2) mut (tyInt w32))) l₄) ∷ ‵ (fat fullShare (sliceTy (tyRef (named 1) mut (tyInt w8))) l₃ 0 (s x₀)) ∷ ‵ (fdies (sliceTy (tyRef (named 1) mut (tyInt w8))) l₃) ∷ ‵ (fat fullShare (RawCall·′.mir) l₂ 0 (LL.val RawCall·.the-type RawCall·′.the-laws p₀)) ∷ ‵ (fdies (RawCall·′.mir) l₂) ∷ ‵ (fat fullShare (tyRef (named 0) mut (pointee (LentCore·.the-row .written))) l₁ 0 (vptr b o)) ∷ ‵ (fdies (tyRef (named 0) mut (pointee (LentCore·.the-row .written))) l₁) ∷ ‵ (froom (Said·′.mir) l₀ 0) ∷ ‵ (fdies (Said·′.mir) l₀) ∷ []) (runs C Λ (E l₀ l₁ l₂ l₃ l₄ l₅ l₆ l₇ l₈ l₉ l₁₀ l₁₁ l₁₂ l₁₃ l₁₄ l₁₅ l₁₆ l₁₇ l₁₈ l₁₉ l₂₀ l₂₁) pieces.t-9 (atRet (E l₀ l₁ l₂ l₃ l₄ l₅ l₆ l₇ l₈ l₉ l₁₀ l₁₁ l₁₂ l₁₃ l₁₄ l₁₅ l₁₆ l₁₇ l₁₈ l₁₉ l₂₀ l₂₁) Post))
     picks₁ l₀ l₁ l₂ l₃ l₄ l₅ l₆ l₇ l₈ l₉ l₁₀ l₁₁ l₁₂ l₁₃ l₁₄ l₁₅ l₁₆ l₁₇ l₁₈ l₁₉ l₂₀ l₂₁ r w is g z₀ z₁ e same₀ same₁ room₀ room₁ f₀ =
         assigns ! (of-opd ! (load ! (from ! (fld ! {τ = tyBool} {d = 13} refl (stop !))) (look-in ! 38 (sub ! 2 {τ = tyBool} {d = 13} refl (whole !))))) (from ! (stop !)) (store ! 20 refl (tt, tt)) $
         first ! $ branches ! (load ! (from ! (stop !)) (look ! 20 refl))
         (fast₁ l₀ l₁ l₂ l₃ l₄ l₅ l₆ l₇ l₈ l₉ l₁₀ l₁₁ l₁₂ l₁₃ l₁₄ l₁₅ l₁₆ l₁₇ l₁₈ l₁₉ l₂₀ l₂₁ r w is g z₀ z₁ e same₀ same₁)
-        (λ failed. skips ! $ exec ! C Λ (E l₀ l₁ l₂ l₃ l₄ l₅ l₆ l₇ l₈ l₉ l₁₀ l₁₁ l₁₂ l₁₃ l₁₄ l₁₅ l₁₆ l₁₇ l₁₈ l₁₉ l₂₀ l₂₁) pieces.t-11 (atRet (E l₀ l₁ l₂ l₃ l₄ l₅ l₆ l₇ l₈ l₉ l₁₀ l₁₁ l₁₂ l₁₃ l₁₄ l₁₅ l₁₆ l₁₇ l₁₈ l₁₉ l₂₀ l₂₁) Post) $ slow l₀ l₁ l₂ l₃ l₄ l₅ l₆ l₇ l₈ l₉ l₁₀ l₁₁ l₁₂ l₁₃ l₁₄ l₁₅ l₁₆ l₁₇ l₁₈ l₁₉ l₂₀ l₂₁ r g z₀ z₁ e room₀ room₁ f₀ (fails (r .fast) failed))
+        (λ failed. skips ! $ exec ! C Λ (E l₀ l₁ l₂ l₃ l₄ l₅ l₆ l₇ l₈ l₉ l₁₀ l₁₁ l₁₂ l₁₃ l₁₄ l₁₅ l₁₆ l₁₇ l₁₈ l₁₉ l₂₀ l₂₁) pieces.t-11 (atRet (E l₀ l₁ l₂ l₃ l₄ l₅ l₆ l₇ l₈ l₉ l₁₀ l₁₁ l₁₂ l₁₃ l₁₄ l₁₅ l₁₆ l₁₇ l₁₈ l₁₉ l₂₀ l₂₁) Post) $ picks₂ l₀ l₁ l₂ l₃ l₄ l₅ l₆ l₇ l₈ l₉ l₁₀ l₁₁ l₁₂ l₁₃ l₁₄ l₁₅ l₁₆ l₁₇ l₁₈ l₁₉ l₂₀ l₂₁ r w is g z₀ z₁ e same₀ same₁ room₀ room₁ f₀ (fails (r .calm) failed))
 
-    -- the test of `calm`
+    -- the test of `idle`
     picks₀ : (l₀ l₁ l₂ l₃ l₄ l₅ l₆ l₇ l₈ l₉ l₁₀ l₁₁ l₁₂ l₁₃ l₁₄ l₁₅ l₁₆ l₁₇ l₁₈ l₁₉ l₂₀ l₂₁ : ℕ) (r : Attempted) (w : Val) (is : Is Attempted·.the-row r (w ∷ [])) (g : Is LentCore·.the-row h (machine ∷ [])) (z₀ z₁ : List ℕ) → Went r z₀ z₁ → length z₀ ≡ length (x₀ .now) → length z₁ ≡ length (x₁ .now) → Room u8 (length (x₀ .now)) → Room u32 (length (x₁ .now))
         → Sq W (‵ (MutSlice (named 2) κ₂ u32 .own (again x₁ (x₁ .name) z₁) (s x₁ ∷ [])) ∷ ‵ (flft κ₂ q₂) ∷ ‵ (MutSlice (named 1) κ₁ u8 .own (again x₀ (x₀ .name) z₀) (s x₀ ∷ [])) ∷ ‵ (flft κ₁ q₁) ∷ ‵ (cellAt fullShare (LentCore·.the-row .mir) (machine ∷ []) b o) ∷ ‵ (fobor κ₀ q₀ (Body (mem LentCore·.the-row) b o γ)) ∷ ‵ (fobs γ (LentCore·.the-row .coded .code h)) ∷ ‵ (fauth γ (LentCore·.the-row .coded .code h)) ∷ ‵ (froom (sliceTy (tyRef erased mut (tyInt w32))) l₂₁ 0) ∷ ‵ (fdies (sliceTy (tyRef erased mut (tyInt w32))) l₂₁) ∷ ‵ (froom (tyRef erased mut (tyInt w32)) l₂₀ 0) ∷ ‵ (fdies (tyRef erased mut (tyInt w32)) l₂₀) ∷ ‵ (froom (sliceTy (tyRef erased mut (tyInt w8))) l₁₉ 0) ∷ ‵ (fdies (sliceTy (tyRef erased mut (tyInt w8))) l₁₉) ∷ ‵ (froom (tyRef erased mut (tyInt w8)) l₁₈ 0) ∷ ‵ (fdies (tyRef erased mut (tyInt w8)) l₁₈) ∷ ‵ (froom (LentCore·′.mir) l₁₇ 0) ∷ ‵ (fdies (LentCore·′.mir) l₁₇) ∷ ‵ (froom (LentCore·′.mir) l₁₆ 0) ∷ ‵ (fdies (LentCore·′.mir) l₁₆) ∷ ‵ (froom (tyBool) l₁₅ 0) ∷ ‵ (fdies (tyBool) l₁₅) ∷ ‵ (fat fullShare (sliceTy (tyRef erased mut (tyInt w32))) l₁₄ 0 (s x₁)) ∷ ‵ (fdies (sliceTy (tyRef erased mut (tyInt w32))) l₁₄) ∷ ‵ (fat fullShare (tyRef erased mut (tyInt w32)) l₁₃ 0 (vptr (x₁ .ptr .0) (x₁ .ptr .1))) ∷ ‵ (fdies (tyRef erased mut (tyInt w32)) l₁₃) ∷ ‵ (fat fullShare (sliceTy (tyRef erased mut (tyInt w8))) l₁₂ 0 (s x₀)) ∷ ‵ (fdies (sliceTy (tyRef erased mut (tyInt w8))) l₁₂) ∷ ‵ (fat fullShare (tyRef erased mut (tyInt w8)) l₁₁ 0 (vptr (x₀ .ptr .0) (x₀ .ptr .1))) ∷ ‵ (fdies (tyRef erased mut (tyInt w8)) l₁₁) ∷ ‵ (froom (Served·′.mir) l₁₀ 0) ∷ ‵ (fdies (Served·′.mir) l₁₀) ∷ ‵ (froom (LentCore·′.mir) l₉ 0) ∷ ‵ (fdies (LentCore·′.mir) l₉) ∷ ‵ (froom (LentCore·′.mir) l₈ 0) ∷ ‵ (fdies (LentCore·′.mir) l₈) ∷ ‵ (froom (LentCore·′.mir) l₇ 0) ∷ ‵ (fdies (LentCore·′.mir) l₇) ∷ ‵ (fat fullShare (Attempted·′.mir) l₆ 0 (LL.val Attempted·.the-type Attempted·′.the-laws r)) ∷ ‵ (fdies (Attempted·′.mir) l₆) ∷ ‵ (fat fullShare (LentCore·′.mir) l₅ 0 (machine)) ∷ ‵ (fdies (LentCore·′.mir) l₅) ∷ ‵ (fat fullShare (sliceTy (tyRef (named 2) mut (tyInt w32))) l₄ 0 (s x₁)) ∷ ‵ (fdies (sliceTy (tyRef (named 2) mut (tyInt w32))) l₄) ∷ ‵ (fat fullShare (sliceTy (tyRef (named 1) mut (tyInt w8))) l₃ 0 (s x₀)) ∷ ‵ (fdies (sliceTy (tyRef (named 1) mut (tyInt w8))) l₃) ∷ ‵ (fat fullShare (RawCall·′.mir) l₂ 0 (LL.val RawCall·.the-type RawCall·′.the-laws p₀)) ∷ ‵ (fdies (RawCall·′.mir) l₂) ∷ ‵ (fat fullShare (tyRef (named 0) mut (pointee (LentCore·.the-row .written))) l₁ 0 (vptr b o)) ∷ ‵ (fdies (tyRef (named 0) mut (pointee (LentCore·.the-row .written))) l₁) ∷ ‵ (froom (Said·′.mir) l₀ 0) ∷ ‵ (fdies (Said·′.mir) l₀) ∷ []) (runs C Λ (E l₀ l₁ l₂ l₃ l₄ l₅ l₆ l₇ l₈ l₉ l₁₀ l₁₁ l₁₂ l₁₃ l₁₄ l₁₅ l₁₆ l₁₇ l₁₈ l₁₉ l₂₀ l₂₁) pieces.t-7 (atRet (E l₀ l₁ l₂ l₃ l₄ l₅ l₆ l₇ l₈ l₉ l₁₀ l₁₁ l₁₂ l₁₃ l₁₄ l₁₅ l₁₆ l₁₇ l₁₈ l₁₉ l₂₀ l₂₁) Post))
     picks₀ l₀ l₁ l₂ l₃ l₄ l₅ l₆ l₇ l₈ l₉ l₁₀ l₁₁ l₁₂ l₁₃ l₁₄ l₁₅ l₁₆ l₁₇ l₁₈ l₁₉ l₂₀ l₂₁ r w is g z₀ z₁ e same₀ same₁ room₀ room₁ =
         assigns ! (of-opd ! (load ! (from ! (fld ! {τ = tyBool} {d = 12} refl (stop !))) (look-in ! 38 (sub ! 1 {τ = tyBool} {d = 12} refl (whole !))))) (from ! (stop !)) (init ! 20 refl (tt, tt)) $
         first ! $ branches ! (load ! (from ! (stop !)) (look ! 20 refl))
         (fast₀ l₀ l₁ l₂ l₃ l₄ l₅ l₆ l₇ l₈ l₉ l₁₀ l₁₁ l₁₂ l₁₃ l₁₄ l₁₅ l₁₆ l₁₇ l₁₈ l₁₉ l₂₀ l₂₁ r w is g z₀ z₁ e same₀ same₁)
-        (λ failed. skips ! $ exec ! C Λ (E l₀ l₁ l₂ l₃ l₄ l₅ l₆ l₇ l₈ l₉ l₁₀ l₁₁ l₁₂ l₁₃ l₁₄ l₁₅ l₁₆ l₁₇ l₁₈ l₁₉ l₂₀ l₂₁) pieces.t-9 (atRet (E l₀ l₁ l₂ l₃ l₄ l₅ l₆ l₇ l₈ l₉ l₁₀ l₁₁ l₁₂ l₁₃ l₁₄ l₁₅ l₁₆ l₁₇ l₁₈ l₁₉ l₂₀ l₂₁) Post) $ picks₁ l₀ l₁ l₂ l₃ l₄ l₅ l₆ l₇ l₈ l₉ l₁₀ l₁₁ l₁₂ l₁₃ l₁₄ l₁₅ l₁₆ l₁₇ l₁₈ l₁₉ l₂₀ l₂₁ r w is g z₀ z₁ e same₀ same₁ room₀ room₁ (fails (r .calm) failed))
+        (λ failed. skips ! $ exec ! C Λ (E l₀ l₁ l₂ l₃ l₄ l₅ l₆ l₇ l₈ l₉ l₁₀ l₁₁ l₁₂ l₁₃ l₁₄ l₁₅ l₁₆ l₁₇ l₁₈ l₁₉ l₂₀ l₂₁) pieces.t-9 (atRet (E l₀ l₁ l₂ l₃ l₄ l₅ l₆ l₇ l₈ l₉ l₁₀ l₁₁ l₁₂ l₁₃ l₁₄ l₁₅ l₁₆ l₁₇ l₁₈ l₁₉ l₂₀ l₂₁) Post) $ picks₁ l₀ l₁ l₂ l₃ l₄ l₅ l₆ l₇ l₈ l₉ l₁₀ l₁₁ l₁₂ l₁₃ l₁₄ l₁₅ l₁₆ l₁₇ l₁₈ l₁₉ l₂₀ l₂₁ r w is g z₀ z₁ e same₀ same₁ room₀ room₁ (fails (r .idle) failed))
 
     -- the attempt
     tries : (l₀ l₁ l₂ l₃ l₄ l₅ l₆ l₇ l₈ l₉ l₁₀ l₁₁ l₁₂ l₁₃ l₁₄ l₁₅ l₁₆ l₁₇ l₁₈ l₁₉ l₂₀ l₂₁ : ℕ) (g : Is LentCore·.the-row h (machine ∷ [])) → Room u8 (length (x₀ .now)) → Room u32 (length (x₁ .now))
