@@ -3,16 +3,19 @@
     fn f(r: &mut R, NUMBERS.., STORES.., BUFFERS..) -> A {
         let c = *r;
         let x = attempt(c, ..);
+        if x.FLAG { return x.ANSWER; }                                 // arms, one or more, each of the one or of the other sort
+        if x.FLAG { let d = *r; *r = patch(d, x); return x.ANSWER; }
         let d = *r;
-        if x.FLAG { *r = patch(d, x); return x.ANSWER; }     // one such arm or more
         let done = core(d, ..);
         *r = done.FIELD;
         done.FIELD
     }
 
 What `attempt` hands back is a struct of the answer, a bool for each arm, in their order, and what the patches need. It ensures a record: for
-each arm a field named as its flag, from `x.FLAG ≡ true` to the contract of f with the patched record; and for each slice that is written
-a field named as it, from all flags false to that the slice is as it was. A patch ensures `r ≡ ..`; `core` is as in the first form.
+each arm a field named as its flag, from `x.FLAG ≡ true` to the contract of f with the patched record, or with the record as it came where the
+arm has no patch; and for each slice that is written a field named as it, from all flags false to that the slice is as it was. A patch
+ensures `r ≡ ..`; `core` is as in the first form. The record is read again where it is needed, in each arm and before the core: a copy that is
+made in front of the arms costs the compiled code all of the record.
 
 A slice that is written goes to two functions, so it is lent to each for a lifetime that ends with the call (proofs/Again.antt of the crate).
 The walk is cut into lemmas, for in one piece it is more than the checker takes: `fast` is an arm, `picks` a test, `slow` the rest.
@@ -22,7 +25,7 @@ import re
 from lent import CLAUSES, WIDTHS, Context, Kind, Walk, fields_of, listed, nest, product, size, sub
 from ways import quote
 
-ARM = r"if x\.(\w+) \{\s*\*(\w+) = ([\w:]+)\(d, x\);\s*return x\.(\w+);\s*\}\s*"
+ARM = r"if x\.(\w+) \{\s*(?:let d = \*(\w+);\s*\*(\w+) = ([\w:]+)\(d, x\);\s*)?return x\.(\w+);\s*\}\s*"
 ARMS = re.sub(r"\((?=\\w|\[)", "(?:", ARM)
 
 
@@ -34,31 +37,37 @@ def bound(names, kind):
 class Attempts(Walk):
     """Such a function, its parts, and the text of its proof."""
 
-    FORM = re.compile(rf"\s*let c = \*(\w+);\s*let x = ([\w:]+)\(([^;]*)\);\s*let d = \*\1;\s*((?:{ARMS})+)let done = ([\w:]+)\(([^;]*)\);\s*\*\1 = done\.(\w+);\s*done\.(\w+)\s*")
+    FORM = re.compile(rf"\s*let c = \*(\w+);\s*let x = ([\w:]+)\(([^;]*)\);\s*((?:{ARMS})+)let d = \*\1;\s*let done = ([\w:]+)\(([^;]*)\);\s*\*\1 = done\.(\w+);\s*done\.(\w+)\s*")
     STAYS, GOES = "stay-slice", "goes-slice"     # a slice that is written is there again at the end
 
     def read_body(self, record, attempt, tried, arms, core, given, kept, answer):
         self.record, self.writes, self.kept, self.answer = record, True, kept, answer
         self.core, self.attempt = self.callee(core, "d", given), self.callee(attempt, "c", tried)
         found = re.findall(ARM, arms)
-        assert {(r, a) for _, r, _, a in found} == {(record, answer)}, f"{self.f.name}: each arm stores the record and returns the field `{answer}`"
-        self.flags, self.patches = [x[0] for x in found], [self.function(x[2]) for x in found]
+        assert {r for x in found for r in x[1:3]} <= {record, ""} and {x[4] for x in found} == {answer}, f"{self.f.name}: each arm patches the record or leaves it, and returns the field `{answer}`"
+        names = [x[3] for x in found]
+        self.flags, self.patches = [x[0] for x in found], [x and self.function(x) for x in names]
         self.arms = len(found)
         self.Q = Kind(self.attempt.result)
         fields = fields_of(self.crate, self.Q.type)
         assert fields[:1 + self.arms] == [(answer, self.f.result), *((x, "bool") for x in self.flags)], f"{self.Q.type} has the answer, then the flags in the order of the arms"
-        names = [x[2] for x in found]
-        self.labels = [f"patch{sub(names.index(x))}" for x in names]     # arms with the same patch share its label
-        self.callees = [("attempt", self.attempt), *dict(zip(self.labels, self.patches)).items(), ("core", self.core)]
+        used = [x for x in dict.fromkeys(names) if x]
+        self.labels = [x and f"patch{sub(used.index(x))}" for x in names]     # arms with the same patch share its label; one without has none
+        self.shared = {x: f for x, f in zip(self.labels, self.patches) if x}
+        self.callees = [("attempt", self.attempt), *self.shared.items(), ("core", self.core)]
 
     def name_parts(self):
         super().name_parts()
-        n, s = self.arms, self.s
+        s, patched = self.s, [k for k in range(self.arms) if self.patches[k]]
+        n = len(patched)
         self.nu, self.delta = ([f"{x}{sub(j)}" for j in range(s)] for x in "νδ")
-        # locals behind the parameters: c, x, d, done, the slices lent on to attempt, the flag, the record of each arm, the slices lent on to core
-        self.tried, self.again, self.done = self.copy + 1, self.copy + 2, self.copy + 3
+        # locals behind the parameters: c, x, the d of each arm with a patch, the last d, done, the slices lent on to attempt, the flag, the
+        # patched records, the slices lent on to core
+        self.tried = self.copy + 1
+        self.last = self.tried + 1 + n
+        self.done = self.last + 1
         self.flag = self.done + 1 + 2 * s
-        self.new = [self.flag + 1 + k for k in range(n)]
+        self.again, self.new = ({k: i + j for j, k in enumerate(patched)} for i in (self.tried + 1, self.flag + 1))
         last = self.flag + 1 + n
         self.lent_on, self.lent_last = ([(i + 2 * j, i + 2 * j + 1) for j in range(s)] for i in (self.done + 1, last))
         self.locals = last + 2 * s
@@ -82,7 +91,7 @@ class Attempts(Walk):
         return text
 
     def cites(self):
-        return [self.says(), self.said(self.attempt), self.said(self.core), *(self.patched(k) for k in range(self.arms))]
+        return [self.says(), self.said(self.attempt), self.said(self.core), *(self.patched(k) for k in self.new)]
 
     def statement(self):
         head = super().statement().split("-- the contract")[0]
@@ -92,11 +101,14 @@ class Attempts(Walk):
         return f"{head}{cited}\n-- of what the attempt and the core hand back, the answer and the record\n" + "\n".join(fields) + f"\n-- the code of the arms\n{arms}"
 
     def arm(self, k):
-        new, x = self.new[k], self.labels[k]
-        store = f"Text.assign (Text.place 1 (Text.deref {self.R.mir} ∷ [])) (Text.rvOpd (Text.copy (Text.place {new} [])))"
-        answer = f"Text.assign (Text.place 0 []) (Text.rvOpd (Text.copy (Text.place {self.tried} (Text.field 0 ∷ []))))"
-        call = f"Text.call #{x} (Text.copy (Text.place {self.again} []) ∷ Text.copy (Text.place {self.tried} []) ∷ []) (Text.place {new} [])"
-        return f"abbrev arm{sub(k)} : Text.Body\narm{sub(k)} = Text.seq ({call}) (Text.seq ({store}) (Text.seq ({answer}) Text.return))\n"
+        copied = lambda to, what: f"Text.assign ({to}) (Text.rvOpd (Text.copy ({what})))"  # noqa: E731
+        record, tried = f"Text.place 1 (Text.deref {self.R.mir} ∷ [])", f"Text.place {self.tried}"
+        code = f"Text.seq ({copied('Text.place 0 []', f'{tried} (Text.field 0 ∷ [])')}) Text.return"
+        if self.patches[k]:
+            again, new = f"Text.place {self.again[k]} []", f"Text.place {self.new[k]} []"
+            call = f"Text.call #{self.labels[k]} (Text.copy ({again}) ∷ Text.copy ({tried} []) ∷ []) ({new})"
+            code = f"Text.seq ({copied(again, record)}) (Text.seq ({call}) (Text.seq ({copied(record, new)}) ({code})))"
+        return f"abbrev arm{sub(k)} : Text.Body\narm{sub(k)} = {code}\n"
 
     # the section of the walk's variables
 
@@ -115,7 +127,7 @@ class Attempts(Walk):
 """ + values
         for label in ("attempt", "core"):
             out += self.binds_outside(label)
-        for label in dict.fromkeys(self.labels):
+        for label in self.shared:
             out += self.binds_patch(label)
         return out + f"""
   -- the contract, and what the callees with slices ensure
@@ -195,17 +207,16 @@ class Attempts(Walk):
     def types(self):
         again = [t for _, e in self.written for t in (f"tyRef erased mut (tyInt {WIDTHS[e]})", f"sliceTy (tyRef erased mut (tyInt {WIDTHS[e]}))")]
         head = super().types()[:self.copy]
-        return [*head, self.R.mir, self.Q.mir, self.R.mir, self.C.mir, *again, "tyBool", *[self.R.mir] * self.arms, *again]
+        patched = [self.R.mir] * len(self.new)
+        return [*head, self.R.mir, self.Q.mir, *patched, self.R.mir, self.C.mir, *again, "tyBool", *patched, *again]
 
     def held_locals(self, upto):
-        """What lies in the locals: after the slices are lent (1), after the attempt (2), after the second copy (3)."""
+        """What lies in the locals: after the slices are lent (1), after the attempt (2)."""
         held = dict(enumerate(["vptr b o", *(k.value(x) for x, (_, k) in zip(self.pn, self.plain)), *(f"s {x}" for x in self.tn + self.sn), "machine"], 1))
         for (pointer, slice_), x in zip(self.lent_on, self.sn):
             held |= {pointer: f"vptr ({x} .ptr .0) ({x} .ptr .1)", slice_: f"s {x}"}
         if upto >= 2:
             held[self.tried] = self.Q.value("r")
-        if upto >= 3:
-            held[self.again] = "machine"
         return held
 
     # the end
@@ -289,7 +300,7 @@ class Attempts(Walk):
 
     def tested(self, k):
         """The statement that reads the flag of arm k, or where the arms end."""
-        return 3 + 2 * self.s + 2 * k
+        return 2 + 2 * self.s + 2 * k
 
     def premises(self):
         """What a lemma after the attempt is given: what came back, the record, last lists with what is known of them."""
@@ -303,7 +314,7 @@ class Attempts(Walk):
 
     def flag_held(self, k):
         """What lies in the locals where the flag of arm k was read last."""
-        return self.held_locals(3) | ({self.flag: f"vbool {self.flag_of(k)}"} if k >= 0 else {})
+        return self.held_locals(2) | ({self.flag: f"vbool {self.flag_of(k)}"} if k >= 0 else {})
 
     def starts(self):
         """From the entry to the attempt: locals and parameters, the record's borrow opened and read, the slices apart and lent on."""
@@ -340,10 +351,13 @@ class Attempts(Walk):
 
         def steps():
             yield from self.calls("attempt", self.Q, "Went", self.copy, self.lent_on, self.tried, "")
-            yield f"assigns ! (of-opd ! (load ! (from ! (hop ! (look ! {self.place(1)} refl) (stop !))) (look-raw ! {self.context.index('cell')} refl))) (from ! (stop !)) (init ! {self.place(self.again)} refl ({self.R.typed} h _ g .0)) $"
             yield f"picks₀ {self.places()} r w is g{self.names(self.last_lists())} e{self.lengths()}{self.names(self.rooms)}"
         given = f" (g : Is {self.R.row} h (machine ∷ [])){self.room()}"
-        return self.lemma("tries", "the attempt, and the record copied again", given, " g" + self.names(self.rooms), facts, self.rest(1 + 2 * self.s), steps)
+        return self.lemma("tries", "the attempt", given, " g" + self.names(self.rooms), facts, self.rest(1 + 2 * self.s), steps)
+
+    def copied(self, i):
+        """The record is copied again, to local i."""
+        return f"assigns ! (of-opd ! (load ! (from ! (hop ! (look ! {self.place(1)} refl) (stop !))) (look-raw ! {self.context.index('cell')} refl))) (from ! (stop !)) (init ! {self.place(i)} refl ({self.R.typed} h _ g .0)) $"
 
     def picks(self, k, held):
         """The test of an arm."""
@@ -365,55 +379,63 @@ class Attempts(Walk):
         return self.lemma(f"picks{sub(k)}", f"the test of `{self.flags[k]}`", premises, names, facts, self.rest(self.tested(k)), steps)
 
     def fast(self, k, held):
-        """An arm: the record is patched and stored, and the answer set."""
+        """An arm: the record is patched and stored, or left as it came, and the answer set."""
         self.context[:] = held
-        c, R, Q, label = self.context, self.R, self.Q, self.labels[k]
-        kind, new, says = label.capitalize(), self.new[k], self.patched(k)
-        ls = self.places()
-        facts = self.facts(c, self.flag_held(k), self.zn)
+        ls, zs, answer = self.places(), self.names(self.zn), f"r .{quote(self.answer)}"
+        facts = self.facts(self.context, self.flag_held(k), self.zn)
 
         def steps():
-            own = f"(subst (λ (u : List Val). Is {Q.row} r u) ({Q.tells} r (w ∷ []) is) is)"
-            yield "nothing ! $ " + Q.owned("r", own) + "fjoin ! $ " + R.owned("h", "g") + f"fjoin ! $ nothing ! $ use2 W (raw ({kind} 𝓤 H A at-mem run .pre (to-{label} r))) (goes-{label} r) $"
-            c.insert(0, "asked")
-            copies = "".join(f"(and-then ! (load ! (from ! (stop !)) (look ! {self.place(i)} refl)) " for i in (self.again, self.tried)) + "(no-more !)))"
-            yield self.binds(f"calls-at ! fm ({kind} 𝓤 H A at-mem run) known-{label} (to-{label} r) {copies} (λ v.")
-            c[0] = "answer"
-            self.open += 3
-            yield f"use1 W (later (some (λ (u : {R.antt}). (‵ ftrue ⊛ ‵ ({R.row} .own u (v ∷ []))) ⊛ raw (ensured 𝓤 H A {label}.ended ({label}.clauses 𝓤 H A at-mem run) tt (h, (r, tt)) tt u)))) (id⊢ 𝓤 _) $ await ! tt $ pick ! (λ u."
-            yield f"split ! $ move ! (1 ∷ []) $ use1 W (some (λ (us : Unit {{0}} × (Unit {{0}} × Unit {{0}})). ‵ (lasts {label}.ended tt (h, (r, tt)) us) ⊛ raw (fact 𝓤 ({says})))) (id⊢ 𝓤 _) $ pick ! (λ us."
-            yield f"split ! $ move ! (1 ∷ []) $ heard ! ({says}) (λ k. drop ! $ split ! $ drop ! $ " + self.binds(f"peeks ! {R.shown} u (v ∷ []) (λ new.")
-            at_new = self.place(new)
-            yield f"land ! (from ! (stop !)) (init ! {at_new} refl ({R.typed} u _ new .0)) $ rewrite ! {at_new} (λ (x : Val). ‵ (fat fullShare {R.mir} l{sub(new)} 0 x)) (ap only ({R.tells} u (v ∷ []) new)) refl $ " + c.turn("drop ! $", 1)
-            new_is = f"subst (λ (x : List Val). Is {R.row} u x) ({R.tells} u (v ∷ []) new) new"
-            yield f"assigns ! (of-opd ! (load ! (from ! (stop !)) (look ! {self.place(new)} refl))) (from ! (hop ! (look ! {self.place(1)} refl) (stop !))) (store-raw ! {c.index('cell')} refl ({R.typed} u _ ({new_is}) .0)) $"
-            answer = f"r .{quote(self.answer)}"
+            live, record, known = {0, *self.flag_held(k)}, "h", "g"
+            ensured = f"e .{quote(self.flags[k])} (holds {self.flag_of(k)} held)"
+            if self.patches[k]:
+                yield from self.patching(k)
+                live, record, known = live | {self.again[k], self.new[k]}, "u", self.is_new()
+                ensured = f"subst (λ (u : {self.R.antt}). Says ({answer}) u{zs}) (sym k) ({ensured})"
             place = f"{{τ = {self.A.mir}}} {{d = 0}}"
             yield f"assigns ! (of-opd ! (load ! (from ! (fld ! {place} refl (stop !))) (look-in ! {self.place(self.tried)} (sub ! 0 {place} refl (whole !))))) (from ! (stop !)) (init ! {self.place(0)} refl ({self.A.typed} ({answer}) _ (tried-answer r w is) .0)) $"
-            zs = self.names(self.zn)
-            ensured = f"subst (λ (u : {R.antt}). Says ({answer}) u{zs}) (sym k) (e .{quote(self.flags[k])} (holds {self.flag_of(k)} held))"
-            live = {0, new, *self.flag_held(k)}
-            yield from self.leaves(answer, "u", new_is, f"{zs} ({ensured}){self.lengths()} (tried-answer r w is)", True, live)
+            yield from self.leaves(answer, record, known, f"{zs} ({ensured}){self.lengths()} (tried-answer r w is)", True, live)
         code = f"arm{sub(k)} (anyQ (afterSeq 𝓤 H (Wp 𝓤 H C Λ (E {ls}) pieces.t-{self.tested(k + 1) + 1} (atReturn 𝓤 H (E {ls}) Post)) (atReturn 𝓤 H (E {ls}) Post)))"
-        names = f" r w is g{self.names(self.zn)} e{self.lengths()} held"
-        return self.lemma(f"fast{sub(k)}", f"the arm of `{self.flags[k]}`", self.premises() + f" → T {self.flag_of(k)}", names, facts, code, steps)
+        return self.lemma(f"fast{sub(k)}", f"the arm of `{self.flags[k]}`", self.premises() + f" → T {self.flag_of(k)}", f" r w is g{zs} e{self.lengths()} held", facts, code, steps)
+
+    def is_new(self):
+        return f"subst (λ (x : List Val). Is {self.R.row} u x) ({self.R.tells} u (v ∷ []) new) new"
+
+    def patching(self, k):
+        """The record is read again, patched and stored."""
+        c, R, Q, label = self.context, self.R, self.Q, self.labels[k]
+        kind, new, says = label.capitalize(), self.new[k], self.patched(k)
+        yield self.copied(self.again[k])
+        own = f"(subst (λ (u : List Val). Is {Q.row} r u) ({Q.tells} r (w ∷ []) is) is)"
+        yield "nothing ! $ " + Q.owned("r", own) + "fjoin ! $ " + R.owned("h", "g") + f"fjoin ! $ nothing ! $ use2 W (raw ({kind} 𝓤 H A at-mem run .pre (to-{label} r))) (goes-{label} r) $"
+        c.insert(0, "asked")
+        copies = "".join(f"(and-then ! (load ! (from ! (stop !)) (look ! {self.place(i)} refl)) " for i in (self.again[k], self.tried)) + "(no-more !)))"
+        yield self.binds(f"calls-at ! fm ({kind} 𝓤 H A at-mem run) known-{label} (to-{label} r) {copies} (λ v.")
+        c[0] = "answer"
+        self.open += 3
+        yield f"use1 W (later (some (λ (u : {R.antt}). (‵ ftrue ⊛ ‵ ({R.row} .own u (v ∷ []))) ⊛ raw (ensured 𝓤 H A {label}.ended ({label}.clauses 𝓤 H A at-mem run) tt (h, (r, tt)) tt u)))) (id⊢ 𝓤 _) $ await ! tt $ pick ! (λ u."
+        yield f"split ! $ move ! (1 ∷ []) $ use1 W (some (λ (us : Unit {{0}} × (Unit {{0}} × Unit {{0}})). ‵ (lasts {label}.ended tt (h, (r, tt)) us) ⊛ raw (fact 𝓤 ({says})))) (id⊢ 𝓤 _) $ pick ! (λ us."
+        yield f"split ! $ move ! (1 ∷ []) $ heard ! ({says}) (λ k. drop ! $ split ! $ drop ! $ " + self.binds(f"peeks ! {R.shown} u (v ∷ []) (λ new.")
+        at_new = self.place(new)
+        yield f"land ! (from ! (stop !)) (init ! {at_new} refl ({R.typed} u _ new .0)) $ rewrite ! {at_new} (λ (x : Val). ‵ (fat fullShare {R.mir} l{sub(new)} 0 x)) (ap only ({R.tells} u (v ∷ []) new)) refl $ " + c.turn("drop ! $", 1)
+        yield f"assigns ! (of-opd ! (load ! (from ! (stop !)) (look ! {self.place(new)} refl))) (from ! (hop ! (look ! {self.place(1)} refl) (stop !))) (store-raw ! {c.index('cell')} refl ({R.typed} u _ ({self.is_new()}) .0)) $"
 
     def slow(self, held):
-        """The rest, where no flag is set: the slices are as they came, the core is called on the copy and what it hands back is stored."""
+        """The rest, where no flag is set: the slices are as they came, the core is called on a copy and what it hands back is stored."""
         self.context[:] = held
         c = self.context
         facts = self.facts(c, self.flag_held(self.arms - 1), self.zn)
         known = [f"f{sub(i)}" for i in range(self.arms)]
 
         def steps():
+            yield self.copied(self.last)
             for j, (x, _) in enumerate(self.written):
                 yield f"rewrite ! {c.index(f'slice{j}')} (λ (l : List ℕ). {self.own_slice(j, 'l')}) (e .{quote(x)}{self.names(known)}) refl $"
             yield from self.lends_on(self.lent_last, self.rooms)
-            yield from self.calls("core", self.C, "Ensured", self.again, self.lent_last, self.done, "′")
+            yield from self.calls("core", self.C, "Ensured", self.last, self.lent_last, self.done, "′")
             yield self.stored()
             record, answer = f"r′ .{quote(self.kept)}", f"r′ .{quote(self.answer)}"
             yield self.loads(self.A, self.answer) + f" (from ! (stop !)) (init ! {self.place(0)} refl ({self.A.typed} ({answer}) _ (answer-is r′ w′ is′) .0)) $"
-            live = {0, self.done, *self.flag_held(self.arms - 1), *(i for pair in self.lent_last for i in pair)}
+            live = {0, self.last, self.done, *self.flag_held(self.arms - 1), *(i for pair in self.lent_last for i in pair)}
             given = self.names([*self.last_lists("zs′"), "e′"]) + "".join(f" same{sub(j)}′" for j in range(self.s))
             yield from self.leaves(answer, record, "record-is r′ w′ is′", f"{given} (answer-is r′ w′ is′)", False, live)
         given = f" (r : {self.Q.antt}) (g : Is {self.R.row} h (machine ∷ [])){bound(self.zn, 'List ℕ')} → Went r{self.names(self.zn)}{self.room()}" + "".join(f" → {self.flag_of(i)[1:-1]} ≡ false" for i in range(self.arms))
@@ -509,9 +531,10 @@ class Attempts(Walk):
 
     def text(self):
         body = self.statement() + self.section() + self.exits() + self.walk() + self.meets()
-        patches = ", ".join(dict.fromkeys(f"`{f.name}`" for f in self.patches))
+        patches = ", ".join(f"`{f.name}`" for f in self.shared.values())
+        does = f"the record is patched ({patches})" + (" or left" if len(self.new) < self.arms else "") if patches else "the record is left"
         return f"""-- `{self.crate}::{self.f.name}` meets its contract: a walk of its code. The record's borrow is opened and the record copied whole; `{self.attempt.name}` is
--- called with the slices lent to it; where it did the work the record is patched ({patches}), else `{self.core.name}` is called with
+-- called with the slices lent to it; where it did the work {does}, else `{self.core.name}` is called with
 -- the slices lent again; the borrow is closed. Of the functions that it calls the proof knows the contracts alone.
 {self.imports(body)}
 {body}"""

@@ -4,9 +4,9 @@
     fn f(r: &mut R, NUMBERS.., STORES.., BUFFERS..) -> A { let c = *r; let done = core(c, ..); *r = done.FIELD; done.FIELD }
     fn f(r: &R, NUMBERS.., STORES.., BUFFERS..) -> A     { let c = *r; core(c, ..) }
     fn f(r: &mut R, NUMBERS.., STORES.., BUFFERS..) -> A {
-        let c = *r; let x = attempt(c, ..); let d = *r;
-        if x.FLAG { *r = patch(d, x); return x.FIELD; }          // one such arm or more
-        let done = core(d, ..); *r = done.FIELD; done.FIELD
+        let c = *r; let x = attempt(c, ..);
+        if x.FLAG { let d = *r; *r = patch(d, x); return x.FIELD; }      // arms, one or more; an arm that leaves the record only returns
+        let d = *r; let done = core(d, ..); *r = done.FIELD; done.FIELD
     }
 
 The first two are written here, the third by attempts.py, whose head says what `attempt` and `patch` have to ensure.

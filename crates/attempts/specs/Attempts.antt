@@ -28,12 +28,13 @@ calmedBy c x = lowered (calmOf (raised c) (x .patch))
 unfoldable pub patchedBy : LentCore → Attempted → LentCore
 patchedBy c x = lowered (patchOf (raised c) (x .patch))
 
--- an attempt x did the call but for the patch, in one of two ways; or it left store and log alone
+-- an attempt x did the call, in one of three ways: all of it, or all but the patch; or it left store and log alone
 pub record Tried (c : LentCore) (call : RawCall) (s l : List ℕ) (x : Attempted) (s′ l′ : List ℕ) : Type 0 where
+  pub idle : x .idle ≡ true → left c s′ l′ (x .said) ≡ lentCall c s l call
   pub calm : x .calm ≡ true → left (calmedBy c x) s′ l′ (x .said) ≡ lentCall c s l call
   pub fast : x .fast ≡ true → left (patchedBy c x) s′ l′ (x .said) ≡ lentCall c s l call
-  pub store : x .calm ≡ false → x .fast ≡ false → s′ ≡ s
-  pub log : x .calm ≡ false → x .fast ≡ false → l′ ≡ l
+  pub store : x .idle ≡ false → x .calm ≡ false → x .fast ≡ false → s′ ≡ s
+  pub log : x .idle ≡ false → x .calm ≡ false → x .fast ≡ false → l′ ≡ l
 
 -- the same of a return
 unfoldable pub restoredBy : LentCore → AttemptedReturn → LentCore

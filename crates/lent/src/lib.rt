@@ -24,15 +24,20 @@ pub extern "C" fn m68k_call(
 {
     let c = *core;
     let x = attempts::attempt(c, call, store, log);
-    let d = *core;
+    if x.idle {
+        return x.said;
+    }
     if x.calm {
+        let d = *core;
         *core = attempts::calmed(d, x);
         return x.said;
     }
     if x.fast {
+        let d = *core;
         *core = attempts::patched(d, x);
         return x.said;
     }
+    let d = *core;
     let done = attempts::serve(d, call, store, log);
     *core = done.core;
     done.said
@@ -45,11 +50,12 @@ pub extern "C" fn m68k_return(core: &mut LentCore, store: &[u8]) -> SaidReturn
 {
     let c = *core;
     let x = attempts::attempt_return(c, store);
-    let d = *core;
     if x.ok {
+        let d = *core;
         *core = attempts::restored(d, x);
         return x.said;
     }
+    let d = *core;
     let done = attempts::serve_return(d, store);
     *core = done.core;
     done.said

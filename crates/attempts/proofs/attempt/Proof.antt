@@ -13,10 +13,11 @@ clash e = let z : _≡_ {A = ℕ} 0 1 = cc in omega arith
 returns : tie.Need-returns
 returns c =
     record {
+      idle = λ e. absurd (clash e);
       calm = λ e. absurd (clash e);
       fast = λ e. absurd (clash e);
-      store = λ e f. refl;
-      log = λ e f. refl;
+      store = λ e f g. refl;
+      log = λ e f g. refl;
     }
 
 pub attempt-spec : {M : Type 1} → statement M
