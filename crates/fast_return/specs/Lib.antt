@@ -1,0 +1,5 @@
+pub mod Accepted
+pub mod Quick
+pub mod Seen
+pub mod Rows
+pub mod Patch

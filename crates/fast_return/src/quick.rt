@@ -1,0 +1,213 @@
+// A frame whose bytes lie in one run of a store without windows, read in place. Where they may not, or the pointer is odd, or the kind takes
+// no such frame, `ok` is false.
+use unwind::frames::Frame;
+ghost use mathlib.Core.Path.{_≡_};
+ghost use Prim.Native.Nat.{_+_, _%_, _<_, _≤_};
+ghost use lib.Dec.{eqb};
+ghost use lib.ListN.{length};
+ghost use Rattle.unwind.specs.Frames.{refusedFrame, headOf};
+ghost use Rattle.fast_return.specs.Quick.{wordAt, longAt, lies, notFound, takenAt, formatAt, sizeOf, restLies, foundOf};
+
+pub struct Found {
+    pub ok: bool,
+    pub frame: Frame,
+}
+
+pub(crate) fn no_frame() -> Frame
+    ensures { λ r. ⌜ r ≡ refusedFrame 0 ⌝ }
+{
+    Frame {
+        refused: 0,
+        format: 0,
+        status: 0,
+        address: 0,
+        offset: 0,
+        size: 0,
+    }
+}
+
+fn not_found() -> Found
+    ensures { λ r. ⌜ r ≡ notFound ⌝ }
+{
+    let f = no_frame();
+    Found {
+        ok: false,
+        frame: f,
+    }
+}
+
+fn wide(x: u8) -> u32
+    ensures { λ r. ⌜ (r ≡ x) × (r < 256) ⌝ }
+{
+    x as u32
+}
+
+fn word_at(store: &[u8], at: usize) -> u32
+    requires { ⌜ at + 1 < length (now store) ⌝ }
+    ensures { λ r. ⌜ (r ≡ wordAt (now (store .entry)) at) × (r < 0x10000) ⌝ }
+{
+    wide(store[at]) * 256 + wide(store[at + 1])
+}
+
+fn long_at(store: &[u8], at: usize) -> u32
+    requires { ⌜ at + 3 < length (now store) ⌝ }
+    ensures { λ r. ⌜ r ≡ longAt (now (store .entry)) at ⌝ }
+{
+    let high = word_at(store, at);
+    let low = word_at(store, at + 2);
+    high * 0x10000 + low
+}
+
+fn wide_long(x: u32) -> u64
+    ensures { λ r. ⌜ (r ≡ x) × (r < 0x100000000) ⌝ }
+{
+    x as u64
+}
+
+// Whether n bytes from a on lie in a store of len bytes at base, below the top of the kind's addresses.
+fn lies_in(base: u32, len: usize, kind: u8, a: u32, n: u32) -> bool
+    ensures { λ r. ⌜ r ≡ lies base len kind a n ⌝ }
+{
+    if a < base {
+        return false;
+    }
+    if len < (a - base) as usize + n as usize {
+        return false;
+    }
+    let end = wide_long(a) + wide_long(n);
+    if kind < 3 {
+        return end <= 0x1000000;
+    }
+    end <= 0x100000000
+}
+
+fn is_short(kind: u8) -> bool
+    ensures { λ r. ⌜ r ≡ eqb kind 1 ⌝ }
+{
+    kind == 1
+}
+
+fn head(kind: u8) -> u32
+    ensures { λ r. ⌜ r ≡ headOf kind ⌝ }
+{
+    if is_short(kind) {
+        return 6;
+    }
+    8
+}
+
+// The frame of n bytes at a place, w its format word, 0 on kind 1.
+fn taken_at(store: &[u8], at: usize, w: u32, n: u32) -> Found
+    requires { ⌜ at + 5 < length (now store) ⌝ }
+    ensures { λ r. ⌜ r ≡ takenAt (now (store .entry)) at w n ⌝ }
+{
+    let s = word_at(store, at);
+    let a = long_at(store, at + 2);
+    let f = Frame {
+        refused: 0,
+        format: w / 4096,
+        status: s as u16,
+        address: a,
+        offset: w % 4096,
+        size: n,
+    };
+    Found { ok: true, frame: f }
+}
+
+// The format word of a frame at a place, 0 on kind 1.
+fn format_at(store: &[u8], at: usize, kind: u8) -> u32
+    requires { ⌜ at + headOf kind ≤ length (now store) ⌝ }
+    ensures { λ r. ⌜ (r ≡ formatAt (now (store .entry)) at kind) × (r < 0x10000) ⌝ }
+{
+    if kind == 1 {
+        return 0;
+    }
+    word_at(store, at + 6)
+}
+
+// The length of a frame whose format word is w: 6 on kind 1, else by the table, in which every other kind takes format 0.
+fn size_of(kind: u8, w: u32) -> u32
+    requires { ⌜ w < 0x10000 ⌝ }
+    ensures { λ r. ⌜ r ≡ sizeOf kind w ⌝ }
+{
+    if kind == 1 {
+        return 6;
+    }
+    if w < 0x1000 {
+        if kind < 12 {
+            return 8;
+        }
+        return 0;
+    }
+    types::frame_length(kind, (w / 0x1000) as u8) as u32
+}
+
+fn is_zero(n: u32) -> bool
+    ensures { λ r. ⌜ r ≡ eqb n 0 ⌝ }
+{
+    n == 0
+}
+
+fn is_odd(p: u32) -> bool
+    ensures { λ r. ⌜ r ≡ eqb (p % 2) 1 ⌝ }
+{
+    p % 2 == 1
+}
+
+// Whether a frame of n bytes lies in the store, of which the first h do.
+fn rest_lies(base: u32, len: usize, kind: u8, a: u32, n: u32, h: u32) -> bool
+    ensures { λ r. ⌜ r ≡ restLies base len kind a n h ⌝ }
+{
+    if n == h {
+        return true;
+    }
+    lies_in(base, len, kind, a, n)
+}
+
+// The frame at p, of a store at base.
+pub fn find(store: &[u8], base: u32, kind: u8, p: u32) -> Found
+    ensures { λ r. ⌜ r ≡ foundOf (now (store .entry)) base kind p ⌝ }
+{
+    if is_odd(p) {
+        return not_found();
+    }
+    let q = std::num::wrapping_add_u32(p, 0);
+    let a = types::mask_address(kind, q);
+    let h = head(kind);
+    if lies_in(base, store.len(), kind, a, h) {
+        let at = (a - base) as usize;
+        let w = format_at(store, at, kind);
+        let n = size_of(kind, w);
+        if is_zero(n) {
+            return not_found();
+        }
+        if rest_lies(base, store.len(), kind, a, n, h) {
+            return taken_at(store, at, w, n);
+        }
+    }
+    not_found()
+}
+
+// The same for the return: a function that is called from one place is compiled into its caller.
+pub(crate) fn find_once(store: &[u8], base: u32, kind: u8, p: u32) -> Found
+    ensures { λ r. ⌜ r ≡ foundOf (now (store .entry)) base kind p ⌝ }
+{
+    if is_odd(p) {
+        return not_found();
+    }
+    let q = std::num::wrapping_add_u32(p, 0);
+    let a = types::mask_address(kind, q);
+    let h = head(kind);
+    if lies_in(base, store.len(), kind, a, h) {
+        let at = (a - base) as usize;
+        let w = format_at(store, at, kind);
+        let n = size_of(kind, w);
+        if is_zero(n) {
+            return not_found();
+        }
+        if rest_lies(base, store.len(), kind, a, n, h) {
+            return taken_at(store, at, w, n);
+        }
+    }
+    not_found()
+}
