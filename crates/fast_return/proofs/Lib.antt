@@ -1,2 +1,5 @@
 pub mod QuickLaws
 pub mod RowWays
+pub mod FindWays
+pub mod PatchWays
+pub mod SeenWays

@@ -6,6 +6,7 @@ use cpu::Cpu;
 use cpu::Flags;
 use cpu::Regs;
 use memory::Core;
+use quick::Found;
 use seen::Seen;
 use unwind::frames::Frame;
 use unwind::returns::Row;
@@ -21,7 +22,7 @@ ghost use mathlib.Core.Bool.{true};
 ghost use Rattle.unwind.specs.Returns.{walk, rowOf, takeFrame};
 ghost use Rattle.unwind.specs.Unwind.{returnFrom, walkFrom};
 ghost use Rattle.fast_return.specs.Seen.{bankedRegs, backFlags};
-ghost use Rattle.fast_return.specs.Patch.{noPatch, donePatch, patchBack, patchReturned};
+ghost use Rattle.fast_return.specs.Patch.{noPatch, donePatch, foundPatch, patchBack, patchReturned};
 
 // What a return does, its row, and the frame that it takes; where `ok` is false the plain return is to be called.
 pub struct ReturnPatch {
@@ -69,7 +70,21 @@ fn done_patch(f: Frame) -> ReturnPatch
     }
 }
 
-// The return, tried: it goes where the call is accepted, S is set, and the frame is no frame of format 1.
+// The return by a frame that was found. A frame of format 1 has another one under it, and goes the plain way.
+fn patch_of(q: Found) -> ReturnPatch
+    ensures { λ r. ⌜ r ≡ foundPatch q ⌝ }
+{
+    if q.ok {
+        let f = q.frame;
+        if seen::is_one(f.format) {
+            return no_patch();
+        }
+        return done_patch(f);
+    }
+    no_patch()
+}
+
+// The return, tried on a record that is only read.
 pub fn try_return(m: Core, store: &[u8]) -> ReturnPatch
     ensures { λ r. ⌜ (r .ok ≡ true → returnFrom m (now (store .entry)) ≡ patchReturned m r) ⌝ }
 {
@@ -78,13 +93,7 @@ pub fn try_return(m: Core, store: &[u8]) -> ReturnPatch
         let k = cpu::fields::kind(c);
         let p = cpu::fields::a7(c);
         let q = quick::find_once(store, m.bus.base, k, p);
-        if q.ok {
-            let f = q.frame;
-            if seen::is_one(f.format) {
-                return no_patch();
-            }
-            return done_patch(f);
-        }
+        return patch_of(q);
     }
     no_patch()
 }

@@ -2,7 +2,7 @@
 // no such frame, `ok` is false.
 use unwind::frames::Frame;
 ghost use mathlib.Core.Path.{_≡_};
-ghost use Prim.Native.Nat.{_+_, _%_, _<_, _≤_};
+ghost use Prim.Native.Nat.{_+_, _-_, _%_, _<_, _≤_};
 ghost use lib.Dec.{eqb};
 ghost use lib.ListN.{length};
 ghost use Rattle.unwind.specs.Frames.{refusedFrame, headOf};
@@ -164,6 +164,14 @@ fn rest_lies(base: u32, len: usize, kind: u8, a: u32, n: u32, h: u32) -> bool
     lies_in(base, len, kind, a, n)
 }
 
+// The place of an address in a store at base.
+fn place_at(base: u32, a: u32) -> usize
+    requires { ⌜ base ≤ a ⌝ }
+    ensures { λ r. ⌜ r ≡ a - base ⌝ }
+{
+    (a - base) as usize
+}
+
 // The frame at p, of a store at base.
 pub fn find(store: &[u8], base: u32, kind: u8, p: u32) -> Found
     ensures { λ r. ⌜ r ≡ foundOf (now (store .entry)) base kind p ⌝ }
@@ -175,7 +183,7 @@ pub fn find(store: &[u8], base: u32, kind: u8, p: u32) -> Found
     let a = types::mask_address(kind, q);
     let h = head(kind);
     if lies_in(base, store.len(), kind, a, h) {
-        let at = (a - base) as usize;
+        let at = place_at(base, a);
         let w = format_at(store, at, kind);
         let n = size_of(kind, w);
         if is_zero(n) {
@@ -184,6 +192,7 @@ pub fn find(store: &[u8], base: u32, kind: u8, p: u32) -> Found
         if rest_lies(base, store.len(), kind, a, n, h) {
             return taken_at(store, at, w, n);
         }
+        return not_found();
     }
     not_found()
 }
@@ -199,7 +208,7 @@ pub(crate) fn find_once(store: &[u8], base: u32, kind: u8, p: u32) -> Found
     let a = types::mask_address(kind, q);
     let h = head(kind);
     if lies_in(base, store.len(), kind, a, h) {
-        let at = (a - base) as usize;
+        let at = place_at(base, a);
         let w = format_at(store, at, kind);
         let n = size_of(kind, w);
         if is_zero(n) {
@@ -208,6 +217,7 @@ pub(crate) fn find_once(store: &[u8], base: u32, kind: u8, p: u32) -> Found
         if rest_lies(base, store.len(), kind, a, n, h) {
             return taken_at(store, at, w, n);
         }
+        return not_found();
     }
     not_found()
 }

@@ -17,11 +17,28 @@ pub struct Seen {
     pub m: u32,
 }
 
+// Sixteen registers are kept, and eight pointers are saved.
+fn has_registers(dar: [u32; 16]) -> bool
+    ensures { λ r. ⌜ 15 < length dar ⌝ }
+{
+    true
+}
+
+fn has_banks(sp: [u32; 8]) -> bool
+    ensures { λ r. ⌜ 7 < length sp ⌝ }
+{
+    true
+}
+
 pub fn seen_of(c: Cpu) -> Seen
-    ensures { λ r. ⌜ r ≡ seen c ⌝ }
+    ensures { λ r. ⌜ (r ≡ seen c) × (15 < length (c .regs .dar)) × (7 < length (c .regs .sp)) ⌝ }
 {
     let regs = c.regs;
     let flags = c.flags;
+    let registers = regs.dar;
+    let banks = regs.sp;
+    let sixteen = has_registers(registers);
+    let eight = has_banks(banks);
     Seen {
         a7: regs.dar[15],
         user: regs.sp[0],
