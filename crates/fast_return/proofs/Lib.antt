@@ -3,3 +3,4 @@ pub mod RowWays
 pub mod FindWays
 pub mod PatchWays
 pub mod SeenWays
+pub mod StepWalks

@@ -11,14 +11,23 @@ use Rattle.cpu.specs.declared.Cpu.{Cpu}
 use Rattle.cpu.specs.declared.Regs.{Regs}
 use Rattle.cpu.specs.declared.Flags.{Flags}
 use Rattle.cpu.specs.Groups.{withRegs, withFlags}
-use Rattle.cpu.specs.Fields.{kindOf, setPc}
+use Rattle.cpu.specs.Fields.{kindOf, a7Of, setPc}
 use Rattle.cpu.specs.Clocks.{clearPrefetch}
+use Rattle.memory.specs.declared.Bus.{Bus}
+use Rattle.memory.specs.declared.Core.{Core}
 use Rattle.unwind.specs.declared.frames.Frame.{Frame}
-use Rattle.unwind.specs.Frames.{headOf}
+use Rattle.unwind.specs.Frames.{sight, headOf, frameOf}
 use Rattle.unwind.specs.Returns.{takeFrame}
+use Rattle.unwind.specs.Unwind.{returnFrom}
+use Rattle.fast_return.specs.declared.quick.Found.{Found}
+use Rattle.fast_return.specs.declared.ReturnPatch.{ReturnPatch}
+use Rattle.fast_return.specs.Accepted.{accepts}
+use Rattle.fast_return.specs.Rows.{bareBus}
+use Rattle.fast_return.specs.Patch.{noPatch, foundPatch, patchReturned}
+use Rattle.fast_return.specs.PatchLaws.{try-goes}
 use Rattle.fast_return.specs.declared.seen.Seen.{Seen}
-use Rattle.fast_return.specs.Quick.{lies}
-use Rattle.fast_return.specs.FoundLaws.{lies-means, head-six}
+use Rattle.fast_return.specs.Quick.{lies, foundOf}
+use Rattle.fast_return.specs.FoundLaws.{lies-means, head-six, found-frame}
 use Rattle.fast_return.specs.Seen.{seen, stackOf, bankOf, enteredSeen, savedSeen, takeSeen, bankedRegs, backFlags}
 use Rattle.fast_return.specs.SeenLaws.{banked-take}
 
@@ -40,3 +49,25 @@ head-fits base len k a h at b g e t p = rw (p, sym g) (lies-means base len k a h
 
 pub taken-fits : (base len k a h at : ℕ) (b : Bool) → h ≡ headOf k → b ≡ lies base len k a h → b ≡ true → at ≡ a - base → at + 5 < len
 taken-fits base len k a h at b g e t p = omega (arith, head-six k, head-fits base len k a h at b g e t p)
+
+-- a frame that is found in a store without windows
+pub frame-way : (s : List ℕ) (base k p : ℕ) (q : Found) → q ≡ foundOf s base k p → q .ok ≡ true → q .frame ≡ frameOf (sight k (bareBus base) s) p
+unfolding bareBus
+frame-way s base k p q e o =
+    ap (λ (x : Found). x .frame) e ∙ found-frame s (bareBus base) k p refl (sym (ap (λ (x : Found). x .ok) e) ∙ o)
+
+pub frame-way-2 : (s : List ℕ) (base k p : ℕ) (b : Bus) (r : Frame) → b ≡ bareBus base → r ≡ frameOf (sight k b s) p → r ≡ frameOf (sight k (bareBus base) s) p
+frame-way-2 s base k p b r h0 h1 = cc
+
+-- the return, tried
+pub try-way : (m : Core) (s : List ℕ) (b : Bool) (k p : ℕ) (q : Found) (r : ReturnPatch) → b ≡ accepts m (length s) → b ≡ true → k ≡ kindOf (m .cpu) → p ≡ a7Of (m .cpu) → q ≡ foundOf s (m .bus .base) k p → r ≡ foundPatch q → r .ok ≡ true → returnFrom m s ≡ patchReturned m r
+try-way m s b k p q r h0 h1 h2 h3 h4 h5 o =
+    let e : q ≡ foundOf s (m .bus .base) (kindOf (m .cpu)) (a7Of (m .cpu)) = cc in
+    try-goes m s (sym h0 ∙ h1) q e (sym (ap (λ (x : ReturnPatch). x .ok) h5) ∙ o) ∙ ap (patchReturned m) (sym h5)
+
+pub try-way-2 : (m : Core) (s : List ℕ) (r : ReturnPatch) → r ≡ noPatch → r .ok ≡ true → returnFrom m s ≡ patchReturned m r
+unfolding noPatch
+try-way-2 m s r h o = no (sym (ap (λ (x : ReturnPatch). x .ok) h) ∙ o)
+  where
+    no : {A : Type 0} → false ≡ true → A
+    no e = let z : _≡_ {A = ℕ} 0 1 = cc in absurd (omega arith)
