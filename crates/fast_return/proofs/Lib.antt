@@ -4,3 +4,4 @@ pub mod FindWays
 pub mod PatchWays
 pub mod SeenWays
 pub mod StepWalks
+pub mod WalkWays
