@@ -1,3 +1,4 @@
 pub mod Records
 pub mod Lent
+pub mod Restored
 pub mod Laws

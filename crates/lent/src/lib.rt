@@ -1,17 +1,20 @@
 // The C boundary: the calls over a record that a host lends and that is updated in place, exported for programs in other languages. The lent
 // records have numbers where those of `cpu` have bools, so that every value of every field has a meaning: a flag byte is set if it is not 0.
 // A function over a lent record copies it whole, calls a function by value and stores the record that comes back. It uses `boundary`,
-// `unwind`, `memory`, `status` and `cpu`; programs in other languages use what it exports.
+// `fast_return`, `unwind`, `memory`, `status` and `cpu`; programs in other languages use what it exports.
 use boundary::RawCall;
 use cpu::Cpu;
 use cpu::Flags;
 use cpu::Regs;
+use fast_return::ReturnPatch;
 use memory::Bus;
 use memory::Core;
 use unwind::returns::Row;
 use unwind::returns::Walked;
 ghost use mathlib.Core.Path.{_≡_};
 ghost use Rattle.unwind.specs.Returns.{walk};
+ghost use Rattle.lent.specs.Records.{raisedResume, loweredResume};
+ghost use Rattle.lent.specs.Restored.{restoredBy, TriedReturn};
 ghost use Rattle.lent.specs.Lent.{left, recordAfter, lentCall, servedReturn, lentReturn, lentWalk, lentFresh, lentSr, setSr, servedStatus, lentSetSr};
 
 mod raise; // a lent record as the core has it
@@ -112,6 +115,13 @@ pub struct ServedReturn {
     pub core: LentCore,
 }
 
+// What an attempt at a return hands back: whether it goes, and then what it says and the patch of the record.
+pub struct AttemptedReturn {
+    pub said: SaidReturn,
+    pub ok: bool,
+    pub patch: ReturnPatch,
+}
+
 pub struct ServedStatus {
     pub status: u32,
     pub cpu: LentCpu,
@@ -161,12 +171,51 @@ pub fn serve_return(c: LentCore, store: &[u8]) -> ServedReturn
     }
 }
 
+// The return by a fast way, or no return.
+pub fn attempt_return(c: LentCore, store: &[u8]) -> AttemptedReturn
+    ensures { λ r. ⌜ TriedReturn c (now (store .entry)) r ⌝ }
+{
+    let m = raise::core(c);
+    let q = fast_return::try_return(m, store);
+    let w = q.row;
+    AttemptedReturn {
+        said: SaidReturn { refused: 0, row: w },
+        ok: q.ok,
+        patch: q,
+    }
+}
+
+// What a faulted instruction keeps, its flag as 0 or 1. It changes in place: made anew it would be copied.
+fn resume_after(x: LentResume) -> LentResume
+    ensures { λ r. ⌜ r ≡ loweredResume (raisedResume x) ⌝ }
+{
+    let mut r = x;
+    r.some = (x.some != 0) as u8;
+    r
+}
+
+// The lent record after a return that was attempted and goes.
+pub fn restored(d: LentCore, x: AttemptedReturn) -> LentCore
+    ensures { λ r. ⌜ r ≡ restoredBy d x ⌝ }
+{
+    let m = raise::core(d);
+    let q = x.patch;
+    let e = fast_return::patched(m, q);
+    let l = lower::core(e);
+    let resume = resume_after(d.cpu.fault_resume);
+    let mut c = l.cpu;
+    c.fault_resume = resume;
+    let mut r = l;
+    r.cpu = c;
+    r
+}
+
 // The walk on a lent record by value.
 pub fn serve_walk(c: LentCore, n: u32, store: &[u8], rows: &mut [u32]) -> Walked
     ensures { λ r. ⌜ walk (r .refused) (r .count) (now (rows .exit)) ≡ lentWalk c (now (store .entry)) n (now (rows .entry)) ⌝ }
 {
     let m = raise::core(c);
-    unwind::walk(m, store, n, rows)
+    fast_return::walk(m, store, n, rows)
 }
 
 // The status register of a lent record by value.

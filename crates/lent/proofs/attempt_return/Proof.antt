@@ -1,0 +1,20 @@
+use Rattle.lent.specs.Restored.{attempt-law}
+use borrow.Author.Needs.{needs}
+use Rattle.lent.proofs.attempt_return.Statement.{statement}
+use Rattle.lent.proofs.attempt_return.Tie as tie
+use Rattle.lent.proofs.attempt_return.Reads as reads
+use Rattle.lent.proofs.attempt_return.Lts as lts
+use Rattle.fast_return.proofs.try_return.Reads as try-return-reads
+use Rattle.lent.proofs.raise.core.Reads as core-reads
+
+core-requires : tie.Need-core-requires
+core-requires c κs = search needs
+
+try-return-requires : tie.Need-try-return-requires
+try-return-requires c κs = search needs
+
+returns : tie.Need-returns
+returns c = attempt-law _ _ _ _ (c .before .before .core .ensures) (c .before .try-return .ensures)
+
+pub attempt-return-spec : {M : Type 1} → statement M
+attempt-return-spec = tie.close (tie.spec core-requires try-return-requires returns)
