@@ -3,8 +3,10 @@
 use unwind::frames::Frame;
 ghost use mathlib.Core.Path.{_≡_};
 ghost use Prim.Native.Nat.{_+_, _-_, _%_, _<_, _≤_};
-ghost use lib.Dec.{eqb};
+ghost use lib.Dec.{eqb, leb};
 ghost use lib.ListN.{length};
+ghost use Rattle.types.specs.Kinds.{either, both};
+ghost use Rattle.types.specs.Tables.{takesFormat, formatLength, frameLength};
 ghost use Rattle.unwind.specs.Frames.{refusedFrame, headOf};
 ghost use Rattle.fast_return.specs.Quick.{wordAt, longAt, lies, notFound, takenAt, formatAt, sizeOf, restLies, foundOf};
 
@@ -125,9 +127,114 @@ fn format_at(store: &[u8], at: usize, kind: u8) -> u32
     word_at(store, at + 6)
 }
 
-// The length of a frame whose format word is w: 6 on kind 1, else by the table, in which every other kind takes format 0.
+fn is_either(n: u32, a: u32, b: u32) -> bool
+    ensures { λ r. ⌜ r ≡ either (eqb n a) (eqb n b) ⌝ }
+{
+    if n == a {
+        return true;
+    }
+    n == b
+}
+
+fn is_low_or(n: u32, a: u32) -> bool
+    ensures { λ r. ⌜ r ≡ either (leb n 2) (eqb n a) ⌝ }
+{
+    if n <= 2 {
+        return true;
+    }
+    n == a
+}
+
+fn is_of_three(n: u32, a: u32, b: u32, c: u32) -> bool
+    ensures { λ r. ⌜ r ≡ either (eqb n a) (either (eqb n b) (eqb n c)) ⌝ }
+{
+    if n == a {
+        return true;
+    }
+    is_either(n, b, c)
+}
+
+fn is_010(kind: u8) -> bool
+    ensures { λ r. ⌜ r ≡ either (eqb kind 2) (eqb kind 10) ⌝ }
+{
+    if kind == 2 {
+        return true;
+    }
+    kind == 10
+}
+
+fn is_020(kind: u8) -> bool
+    ensures { λ r. ⌜ r ≡ both (leb 3 kind) (leb kind 6) ⌝ }
+{
+    if 3 <= kind {
+        return kind <= 6;
+    }
+    false
+}
+
+fn is_none(kind: u8) -> bool
+    ensures { λ r. ⌜ r ≡ eqb kind 0 ⌝ }
+{
+    kind == 0
+}
+
+// The rule of the table of frame lengths: a table would be copied to the stack to look into it.
+fn takes(kind: u8, f: u32) -> bool
+    ensures { λ r. ⌜ r ≡ takesFormat kind f ⌝ }
+{
+    if is_010(kind) {
+        return is_either(f, 0, 8);
+    }
+    if is_020(kind) {
+        return is_low_or(f, 11);
+    }
+    if types::is_040(kind) {
+        return is_low_or(f, 7);
+    }
+    if types::is_060(kind) {
+        return is_of_three(f, 0, 2, 4);
+    }
+    if is_none(kind) {
+        return is_of_three(f, 0, 2, 11);
+    }
+    false
+}
+
+fn format_length(f: u32) -> u32
+    ensures { λ r. ⌜ r ≡ formatLength f ⌝ }
+{
+    if is_either(f, 0, 1) {
+        return 8;
+    }
+    if f == 2 {
+        return 12;
+    }
+    if f == 4 {
+        return 16;
+    }
+    if f == 7 {
+        return 60;
+    }
+    if f == 8 {
+        return 58;
+    }
+    if f == 11 {
+        return 92;
+    }
+    0
+}
+
+fn length_of(kind: u8, f: u32) -> u32
+    ensures { λ r. ⌜ r ≡ frameLength kind f ⌝ }
+{
+    if takes(kind, f) {
+        return format_length(f);
+    }
+    0
+}
+
+// The length of a frame whose format word is w: 6 on kind 1; every other kind takes format 0.
 fn size_of(kind: u8, w: u32) -> u32
-    requires { ⌜ w < 0x10000 ⌝ }
     ensures { λ r. ⌜ r ≡ sizeOf kind w ⌝ }
 {
     if kind == 1 {
@@ -139,7 +246,7 @@ fn size_of(kind: u8, w: u32) -> u32
         }
         return 0;
     }
-    types::frame_length(kind, (w / 0x1000) as u8) as u32
+    length_of(kind, w / 0x1000)
 }
 
 fn is_zero(n: u32) -> bool

@@ -9,7 +9,7 @@ use Rattle.fast_return.proofs.quick.size_of.Statement.{statement}
 use Rattle.fast_return.proofs.quick.size_of.Tie as tie
 use Rattle.fast_return.proofs.quick.size_of.Reads as reads
 use Rattle.fast_return.proofs.quick.size_of.Lts as lts
-use Rattle.types.proofs.frame_length.Reads as frame-length-reads
+use Rattle.fast_return.proofs.quick.length_of.Reads as length-of-reads
 
 returns : tie.Need-returns
 unfolding sizeOf
@@ -21,18 +21,12 @@ returns-2 c = size-eight _ _ (c .before .before .if1 .left) (c .before .if2 .tak
 returns-3 : tie.Need-returns-3
 returns-3 c = size-none _ _ (c .before .before .if1 .left) (c .before .if2 .taken) (c .if3 .left)
 
-cast-frame-length : tie.Need-cast-frame-length
-cast-frame-length c = search needs
-
-frame-length-requires : tie.Need-frame-length-requires
-frame-length-requires c κs = search needs
-
-cast-result : tie.Need-cast-result
-cast-result c = search needs
+length-of-requires : tie.Need-length-of-requires
+length-of-requires c κs = search needs
 
 returns-4 : tie.Need-returns-4
 unfolding sizeOf
-returns-4 c = simp (ne-eqb _ _ (c .before .before .if1 .left)) (c .frame-length .ensures)
+returns-4 c = simp (ne-eqb _ _ (c .before .before .if1 .left)) (c .length-of .ensures)
 
 pub size-of-spec : {M : Type 1} → statement M
 size-of-spec =
@@ -41,7 +35,5 @@ size-of-spec =
     returns
     returns-2
     returns-3
-    cast-frame-length
-    frame-length-requires
-    cast-result
+    length-of-requires
     returns-4)
