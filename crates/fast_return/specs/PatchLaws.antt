@@ -24,7 +24,7 @@ use Rattle.fast_return.specs.declared.ReturnPatch.{ReturnPatch}
 use Rattle.fast_return.specs.Accepted.{plainFlags, plainCpu, plainBus, accepts}
 use Rattle.fast_return.specs.Quick.{lies, notFound, takenAt, formatAt, sizeOf, restLies, foundSized, foundWord, foundIn, foundOf}
 use Rattle.fast_return.specs.FoundLaws.{found-frame}
-use Rattle.fast_return.specs.Patch.{noPatch, donePatch, foundPatch, tryReturn, patchBack, patchReturned}
+use Rattle.fast_return.specs.Patch.{noPatch, donePatch, foundPatch, patchBack, patchReturned}
 
 no : {A : Type 0} → false ≡ true → A
 no e = let z : _≡_ {A = ℕ} 0 1 = cc in absurd (omega arith)

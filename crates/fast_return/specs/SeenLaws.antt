@@ -79,10 +79,6 @@ module _ (c : Cpu) (f : Frame) (n : 15 < length (c .regs .dar)) (m : 7 < length 
   up : getD (set (c .regs .dar) 15 ((getD (c .regs .dar) 15 0 + f .size) % 2 ^ 32)) 15 0 ≡ (getD (c .regs .dar) 15 0 + f .size) % 2 ^ 32
   up = getD-set-same (c .regs .dar) 15 ((getD (c .regs .dar) 15 0 + f .size) % 2 ^ 32) 0 n
 
-  -- the saved pointers after it
-  saved : List ℕ
-  saved = set (c .regs .sp) (stackOf (kindOf c) (seen c .s) (seen c .m)) ((getD (c .regs .dar) 15 0 + f .size) % 2 ^ 32)
-
   -- with every index written out it is the record after the frame
   pub banked-take : withFlags (withRegs (clearPrefetch (setPc c (f .address))) (bankedRegs (c .regs) (takeSeen (kindOf c) (seen c) f))) (backFlags (kindOf c) (c .flags) (f .status)) ≡ takeFrame c f
   unfolding takeFrame clearPrefetch setPc swapSr restoreSp backupSp raiseA7 setA7 a7Of putBackSr kindOf seen takeSeen savedSeen enteredSeen bankedRegs backFlags

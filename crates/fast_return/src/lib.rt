@@ -1,7 +1,7 @@
 // Return and walk for the usual case: no windows, and a frame that lies in one run of the store. What is not usual goes the plain way of
-// `unwind`, and both are proved equal to it. A return is tried on a record that is only read, and says what changes as a few numbers, so
-// that the record stays where it is; a walk goes over the six numbers that tell where the next frame lies. It uses `unwind`, `refusals`, `memory`,
-// `status`, `cpu` and `types`; `lent` uses it.
+// `unwind`, and both are proved equal to it. A return is tried on a record that is only read, and says what changes in a few numbers, so
+// that the record stays where it is; a walk goes over the six numbers that tell where the next frame lies. It uses `unwind`, `memory`,
+// `cpu` and `types`, and the definitions of `refusals` and `status`; `lent` uses it.
 use cpu::Cpu;
 use cpu::Flags;
 use cpu::Regs;
@@ -24,7 +24,7 @@ ghost use Rattle.unwind.specs.Unwind.{returnFrom, walkFrom};
 ghost use Rattle.fast_return.specs.Seen.{bankedRegs, backFlags};
 ghost use Rattle.fast_return.specs.Patch.{noPatch, donePatch, foundPatch, patchBack, patchReturned};
 
-// What a return does, its row, and the frame that it takes; where `ok` is false the plain return is to be called.
+// Whether the return goes, its row and the frame that it takes; where `ok` is false the plain return is to be called.
 pub struct ReturnPatch {
     pub ok: bool,
     pub row: Row,
@@ -110,7 +110,7 @@ fn banked_regs(regs: Regs, y: Seen) -> Regs
     r
 }
 
-// The flags of a status that a return puts back, under the kind's mask and with M as stacked.
+// The flags of a status that a return puts back, under the kind's mask and with M as stacked: `put_back_sr` on the flags alone.
 fn back_flags(kind: u8, f: Flags, status: u16) -> Flags
     ensures { λ r. ⌜ r ≡ backFlags kind f status ⌝ }
 {
@@ -131,6 +131,7 @@ fn back_flags(kind: u8, f: Flags, status: u16) -> Flags
     }
 }
 
+// Numbers first, then the record: a test while the record is copied would keep the copy.
 fn patched_cpu(c: Cpu, f: Frame) -> Cpu
     ensures { λ r. ⌜ r ≡ takeFrame c f ⌝ }
 {

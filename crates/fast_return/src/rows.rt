@@ -142,7 +142,14 @@ fn put_row(rows: &mut [u32], k: u32, r: Row)
 }
 
 // n returns, a row each.
-pub(crate) fn rows_of(store: &[u8], base: u32, kind: u8, x: Seen, n: u32, rows: &mut [u32]) -> Walked
+pub(crate) fn rows_of(
+    store: &[u8],
+    base: u32,
+    kind: u8,
+    x: Seen,
+    n: u32,
+    rows: &mut [u32],
+) -> Walked
     requires { ⌜ n * 4 ≤ length (now rows) ⌝ }
     ensures { λ r. ⌜ walk (r .refused) (r .count) (now (rows .exit)) ≡ walkSeen n (sight kind (bareBus base) (now (store .entry))) x (now (rows .entry)) ⌝ }
 {

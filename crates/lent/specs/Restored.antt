@@ -33,7 +33,7 @@ unfolding restoredBy lentReturn returnedBy recordAfter patchReturned
 attempt-law c s m q e h =
     record {
       ok = λ o.
-        sym (ap (returnedBy c) (ap (λ (x : Core). returnFrom x s) (sym e) ∙ h o ∙ ap (λ (x : Core). patchReturned x q) e));
+          sym (ap (returnedBy c) (ap (λ (x : Core). returnFrom x s) (sym e) ∙ h o ∙ ap (λ (x : Core). patchReturned x q) e));
     }
 
 -- what a faulted instruction keeps is not touched but for its flag
