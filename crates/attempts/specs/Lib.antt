@@ -1,3 +1,4 @@
 pub mod Lent
 pub mod Attempts
+pub mod Restored
 pub mod Laws

@@ -3,15 +3,18 @@
 // and `status`; `lent` exports the calls.
 use boundary::RawCall;
 use cpu::Cpu;
+use fast_return::ReturnPatch;
 use memory::Core;
 use records::LentCore;
 use records::LentCpu;
+use records::LentResume;
 use unwind::returns::Row;
 use unwind::returns::Walked;
 ghost use mathlib.Core.Path.{_≡_};
 ghost use Rattle.unwind.specs.Returns.{walk};
 ghost use Rattle.attempts.specs.Lent.{left, recordAfter, lentCall, servedReturn, lentReturn, lentWalk, lentSr, setSr, servedStatus, lentSetSr};
-ghost use Rattle.attempts.specs.Attempts.{calmedBy, patchedBy, Tried, restoredBy, TriedReturn};
+ghost use Rattle.attempts.specs.Attempts.{calmedBy, patchedBy, Tried};
+ghost use Rattle.attempts.specs.Restored.{restoredBy, TriedReturn};
 
 // What a call says. `refused` is 0, the number of the refusal, or 99 where the number names no call.
 #[repr(C)]
@@ -57,7 +60,7 @@ pub struct ServedReturn {
 pub struct AttemptedReturn {
     pub said: SaidReturn,
     pub ok: bool,
-    pub patch: Patch,
+    pub patch: ReturnPatch,
 }
 
 pub struct ServedStatus {
@@ -154,30 +157,39 @@ pub fn serve_return(c: LentCore, store: &[u8]) -> ServedReturn
 pub fn attempt_return(c: LentCore, store: &[u8]) -> AttemptedReturn
     ensures { λ r. ⌜ TriedReturn c (now (store .entry)) r ⌝ }
 {
-    let w = Row {
-        format: 0,
-        status: 0,
-        address: 0,
-        offset: 0,
-    };
-    let s = SaidReturn { refused: 0, row: w };
-    let p = Patch { a7: 0, pc: 0 };
+    let m = records::raise::core(c);
+    let q = fast_return::try_return(m, store);
+    let w = q.row;
     AttemptedReturn {
-        said: s,
-        ok: false,
-        patch: p,
+        said: SaidReturn { refused: 0, row: w },
+        ok: q.ok,
+        patch: q,
     }
 }
 
-// The lent record after it.
+// What a faulted instruction keeps, its flag as 0 or 1. It changes in place: made anew it would be copied.
+fn resume_after(x: LentResume) -> LentResume
+    ensures { λ r. ⌜ r ≡ loweredResume (raisedResume x) ⌝ }
+{
+    let mut r = x;
+    r.some = (x.some != 0) as u8;
+    r
+}
+
+// The lent record after a return that was attempted and goes.
 pub fn restored(d: LentCore, x: AttemptedReturn) -> LentCore
     ensures { λ r. ⌜ r ≡ restoredBy d x ⌝ }
 {
     let m = records::raise::core(d);
     let q = x.patch;
-    let c = cpu::fields::set_pc(m.cpu, q.pc);
-    let n = memory::with_cpu(m, c);
-    records::lower::core(n)
+    let e = fast_return::patched(m, q);
+    let l = records::lower::core(e);
+    let resume = resume_after(d.cpu.fault_resume);
+    let mut c = l.cpu;
+    c.fault_resume = resume;
+    let mut r = l;
+    r.cpu = c;
+    r
 }
 
 // The walk on a lent record by value.
@@ -185,7 +197,7 @@ pub fn serve_walk(c: LentCore, n: u32, store: &[u8], rows: &mut [u32]) -> Walked
     ensures { λ r. ⌜ walk (r .refused) (r .count) (now (rows .exit)) ≡ lentWalk c (now (store .entry)) n (now (rows .entry)) ⌝ }
 {
     let m = records::raise::core(c);
-    unwind::walk(m, store, n, rows)
+    fast_return::walk(m, store, n, rows)
 }
 
 // The status register of a lent record by value.
