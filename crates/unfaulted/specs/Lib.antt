@@ -1,0 +1,11 @@
+pub mod Closed
+pub mod Lists
+pub mod Accesses
+pub mod Pushes
+pub mod Jumps
+pub mod Stacks
+pub mod Entries
+pub mod Serviced
+pub mod Errors
+pub mod Written
+pub mod Examples
