@@ -4,3 +4,5 @@ pub mod Plans
 pub mod Stacks
 pub mod Quiet
 pub mod Patches
+pub mod Patched
+pub mod Accepts
