@@ -27,13 +27,10 @@ pub pick-false : (b : Bool) (y : Bool) → pick b false y ≡ true → (b ≡ fa
 pick-false true y e = false-true _ e
 pick-false false y e = (refl, e)
 
-pub either-false : (a b : Bool) → either a b ≡ false → (a ≡ false) × (b ≡ false)
-either-false true b e = false-true _ (sym e)
-either-false false b e = (refl, e)
-
-pub both-false : (a b : Bool) → both a b ≡ false → (a ≡ false) ⊎ (b ≡ false)
-both-false true b e = inr e
-both-false false b e = inl refl
+-- a test that is false although one of two may hold
+other-of : (a b : Bool) → pick a false (not b) ≡ false → (a ≡ true) ⊎ (b ≡ true)
+other-of true b e = inl refl
+other-of false b e = inr (not-false b e)
 
 -- ---- what `accepts` tells
 
@@ -51,36 +48,36 @@ pub record Accepted (m : Core) (stored logged : ℕ) : Type 0 where
 
 other-flag : (s : ℕ) → isOther s ≡ false → (s ≡ 0) ⊎ (s ≡ 4)
 unfolding isOther
-other-flag s e = go (both-false (not (eqb s 0)) (not (eqb s 4)) e)
+other-flag s e = go (other-of (eqb s 0) (eqb s 4) e)
   where
-    go : (not (eqb s 0) ≡ false) ⊎ (not (eqb s 4) ≡ false) → (s ≡ 0) ⊎ (s ≡ 4)
-    go (inl h) = inl (eqb-true s 0 (not-false (eqb s 0) h))
-    go (inr h) = inr (eqb-true s 4 (not-false (eqb s 4) h))
+    go : (eqb s 0 ≡ true) ⊎ (eqb s 4 ≡ true) → (s ≡ 0) ⊎ (s ≡ 4)
+    go (inl h) = inl (eqb-true s 0 h)
+    go (inr h) = inr (eqb-true s 4 h)
 
 pub accepted : (m : Core) (stored logged : ℕ) → acceptsOf (viewOf m) stored logged ≡ true → Accepted m stored logged
 unfolding acceptsOf viewOf
 accepted m stored logged e =
     let c = m .cpu in
     let t1 = pick-false (isOther (c .flags .«s_flag»)) _ e in
-    let t2 = pick-false (either (not (eqb (c .flags .«m_flag») 0)) (eqb (c .flow .vbr % 2) 1)) _ (t1 .1) in
-    let t3 = pick-false (either (c .fault .«mmu_fc_override» .some) (not (eqb (m .bus .windows) 0))) _ (t2 .1) in
-    let t4 = pick-false (either (ltb 65536 stored) (ltb (spanOf (c .flow .«cpu_type»)) (m .bus .base + stored))) _ (t3 .1) in
-    let t5 = pick-false (either (ltb logged 192) (ltb 11 (c .flow .«cpu_type»))) _ (t4 .1) in
-    let u2 = either-false (not (eqb (c .flags .«m_flag») 0)) (eqb (c .flow .vbr % 2) 1) (t2 .0) in
-    let u3 = either-false (c .fault .«mmu_fc_override» .some) (not (eqb (m .bus .windows) 0)) (t3 .0) in
-    let u4 = either-false (ltb 65536 stored) (ltb (spanOf (c .flow .«cpu_type»)) (m .bus .base + stored)) (t4 .0) in
-    let u5 = either-false (ltb logged 192) (ltb 11 (c .flow .«cpu_type»)) (t5 .0) in
+    let t2 = pick-false (not (eqb (c .flags .«m_flag») 0)) _ (t1 .1) in
+    let t3 = pick-false (eqb (c .flow .vbr % 2) 1) _ (t2 .1) in
+    let t4 = pick-false (c .fault .«mmu_fc_override» .some) _ (t3 .1) in
+    let t5 = pick-false (not (eqb (m .bus .windows) 0)) _ (t4 .1) in
+    let t6 = pick-false (ltb 65536 stored) _ (t5 .1) in
+    let t7 = pick-false (ltb (spanOf (c .flow .«cpu_type»)) (m .bus .base + stored)) _ (t6 .1) in
+    let t8 = pick-false (ltb logged 192) _ (t7 .1) in
+    let t9 = pick-false (ltb 11 (c .flow .«cpu_type»)) _ (t8 .1) in
     record {
       supervisor = other-flag (c .flags .«s_flag») (t1 .0);
-      master = eqb-true (c .flags .«m_flag») 0 (not-false (eqb (c .flags .«m_flag») 0) (u2 .0));
-      base = u2 .1;
-      code = u3 .0;
-      windows = eqb-true (m .bus .windows) 0 (not-false (eqb (m .bus .windows) 0) (u3 .1));
-      bytes = ltb-false 65536 stored (u4 .0);
-      span = ltb-false (spanOf (c .flow .«cpu_type»)) (m .bus .base + stored) (u4 .1);
-      log = ltb-false logged 192 (u5 .0);
-      kind = ltb-false 11 (c .flow .«cpu_type») (u5 .1);
-      running = not-true (eqb (c .flow .«run_mode») 1) (t5 .1);
+      master = eqb-true (c .flags .«m_flag») 0 (not-false (eqb (c .flags .«m_flag») 0) (t2 .0));
+      base = t3 .0;
+      code = t4 .0;
+      windows = eqb-true (m .bus .windows) 0 (not-false (eqb (m .bus .windows) 0) (t5 .0));
+      bytes = ltb-false 65536 stored (t6 .0);
+      span = ltb-false (spanOf (c .flow .«cpu_type»)) (m .bus .base + stored) (t7 .0);
+      log = ltb-false logged 192 (t8 .0);
+      kind = ltb-false 11 (c .flow .«cpu_type») (t9 .0);
+      running = not-true (eqb (c .flow .«run_mode») 1) (t9 .1);
     }
 
 -- ---- so nothing refuses the call

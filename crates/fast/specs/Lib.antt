@@ -6,3 +6,6 @@ pub mod Quiet
 pub mod Patches
 pub mod Patched
 pub mod Accepts
+pub mod Supervised
+pub mod Laws
+pub mod Placed

@@ -32,7 +32,8 @@ rowOf c =
     (pick (eqb (c .number) 12) (row 1 10 true)
     (pick (eqb (c .number) 13) (row 1 11 true)
     (pick (eqb (c .number) 14) (row 1 (32 + c .a % 16) false)
-    (pick (either (eqb (c .number) 15) (eqb (c .number) 16)) (row 1 4 true) (row 0 0 false)))))))))))
+    (pick (eqb (c .number) 15) (row 1 4 true)
+    (pick (eqb (c .number) 16) (row 1 4 true) (row 0 0 false))))))))))))
 
 abbrev pub noPlan : Plan
 noPlan =

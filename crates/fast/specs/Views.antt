@@ -3,7 +3,7 @@ use Prim.Native.Nat.{ℕ, _+_, _%_, _^_}
 use mathlib.Core.Bool.{Bool, true, false, not}
 use lib.Dec.{eqb, ltb}
 use lib.ListN.{getD}
-use Rattle.types.specs.Kinds.{pick, either, both}
+use Rattle.types.specs.Kinds.{pick}
 use Rattle.memory.specs.declared.Core.{Core}
 use Rattle.fast.specs.declared.View.{View}
 
@@ -38,15 +38,19 @@ spanOf kind = pick (ltb kind 3) 0x1000000 0x100000000
 
 -- an S flag that is neither 0 nor 4
 unfoldable pub isOther : ℕ → Bool
-isOther s = both (not (eqb s 0)) (not (eqb s 4))
+isOther s = pick (eqb s 0) false (not (eqb s 4))
 
 -- the records, stores and logs that the fast way takes: M clear, the vector base even, no function code that stands in, no window, a store within the
 -- addresses of the kind, a log with room, a record that is not faulted
 unfoldable pub acceptsOf : View → ℕ → ℕ → Bool
 acceptsOf x stored logged =
     pick (isOther (x .flags .«s_flag»)) false
-    (pick (either (not (eqb (x .flags .«m_flag») 0)) (eqb (x .vbr % 2) 1)) false
-    (pick (either (x .overridden) (not (eqb (x .windows) 0))) false
-    (pick (either (ltb 65536 stored) (ltb (spanOf (x .kind)) (x .base + stored))) false
-    (pick (either (ltb logged 192) (ltb 11 (x .kind))) false
-    (not (eqb (x .«run_mode») 1))))))
+    (pick (not (eqb (x .flags .«m_flag») 0)) false
+    (pick (eqb (x .vbr % 2) 1) false
+    (pick (x .overridden) false
+    (pick (not (eqb (x .windows) 0)) false
+    (pick (ltb 65536 stored) false
+    (pick (ltb (spanOf (x .kind)) (x .base + stored)) false
+    (pick (ltb logged 192) false
+    (pick (ltb 11 (x .kind)) false
+    (not (eqb (x .«run_mode») 1))))))))))
