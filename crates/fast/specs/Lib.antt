@@ -9,3 +9,4 @@ pub mod Accepts
 pub mod Supervised
 pub mod Laws
 pub mod Placed
+pub mod Tapes

@@ -17,7 +17,7 @@ use Rattle.memory.specs.declared.Bus.{Bus}
 use Rattle.memory.specs.declared.Core.{Core}
 use Rattle.memory.specs.Bytes.{getWord, getLong}
 use Rattle.memory.specs.Runs.{Apart}
-use Rattle.unfaulted.specs.Closed.{Room, Entering}
+use Rattle.unfaulted.specs.Closed.{Room, Entering, Landing as Lands}
 use Rattle.unfaulted.specs.Entries.{supervisor-kind, supervisor-vbr, supervisor-fetches, supervisor-running, supervisor-registers}
 use Rattle.fast.specs.declared.View.{View}
 use Rattle.fast.specs.declared.places.Spot.{Spot}
@@ -194,3 +194,79 @@ room-law b k len a n w e p l h t = go (ltb k 3) refl t
 top-same : (m : Core) → topOf (viewOf m) ≡ topAt (m .cpu)
 unfolding topOf topAt viewOf
 top-same m = refl
+
+fetches-same : (m : Core) → fetchesOf (viewOf m) ≡ prefetchEnabled (m .cpu)
+unfolding fetchesOf viewOf prefetchEnabled
+fetches-same m = refl
+
+vector-small : (v vbr base len k : ℕ) → v < 256 → base ≤ v * 4 + vbr → v * 4 + vbr - base + 4 ≤ len → base + len ≤ spanOf k → maskAddress k ((v % 0x40000000 * 4 + vbr) % 2 ^ 32) ≡ v * 4 + vbr
+unfolding spanOf maskAddress
+vector-small v vbr base len k h l g t =
+    let a : v % 0x40000000 ≡ v = omega arith in
+    rw a (go (ltb k 3) t)
+  where
+    go : (z : Bool) → base + len ≤ pick z 0x1000000 0x100000000 → pick z ((v * 4 + vbr) % 2 ^ 32 % 0x1000000) ((v * 4 + vbr) % 2 ^ 32) ≡ v * 4 + vbr
+    go true t = omega arith
+    go false t = omega arith
+
+mask-small : (a base len k : ℕ) → base ≤ a → a - base + 4 ≤ len → base + len ≤ spanOf k → maskAddress k a ≡ a
+unfolding spanOf maskAddress
+mask-small a base len k l g t = go (ltb k 3) t
+  where
+    go : (z : Bool) → base + len ≤ pick z 0x1000000 0x100000000 → pick z (a % 0x1000000) a ≡ a
+    go true t = omega arith
+    go false t = refl
+
+-- the tests of the fast way give the premises of an entry that nothing refuses
+pub enters : (m : Core) (s : List ℕ) (logged n v : ℕ) → Words m → Accepted m (length s) logged → v < 256 → 0 < n → (g : Spotted (viewOf m) (length s) n)
+    → (h : Landed (viewOf m) s v (topOf (viewOf m) - n - m .bus .base) n)
+    → Entering (m .bus) (enterSupervisor (m .cpu)) s n v (topOf (viewOf m) - n) (vectorAt (viewOf m) v) (handlerOf (viewOf m) s v) (handlerOf (viewOf m) s v)
+    (landingOf (viewOf m) s v (topOf (viewOf m) - n - m .bus .base) n .first) (landingOf (viewOf m) s v (topOf (viewOf m) - n - m .bus .base) n .second)
+unfolding viewOf handlerOf vectorAt kindOf vbrOf isFaulted
+enters m s logged n v w a u p g h =
+    record {
+      running = supervisor-running c ∙ a .running;
+      registers = rw (supervisor-registers c) (w .registers);
+      stack = supervised-a7 c clear (w .registers) ∙ sym (top-same m) ∙ (let z = g .fits in omega arith);
+      room = rw (supervisor-kind c) (room-law (m .bus) (kindOf c) (length s) q n (a .windows) (g .even) p (g .low) (g .high) (a .span));
+      landing = rw (supervisor-fetches c, supervisor-kind c, supervisor-vbr c) landing;
+      vector-apart = apart-law (e - base) (q - base) n (h .apart) base q e (let z = g .low in omega arith) (let z = h .low in omega arith);
+      queue-apart = rw (supervisor-fetches c)
+        (λ (i : prefetchEnabled c ≡ true). let k = h .queue (fetches-same m ∙ i) in apart-law (to - base) (q - base) n (k .apart) base q to (let z = g .low in omega arith) (let z = k .low in omega arith));
+    }
+  where
+    c : Cpu
+    c = m .cpu
+
+    x : View
+    x = viewOf m
+
+    base : ℕ
+    base = m .bus .base
+
+    q : ℕ
+    q = topOf (viewOf m) - n
+
+    e : ℕ
+    e = v * 4 + m .cpu .flow .vbr
+
+    to : ℕ
+    to = getLong s (v * 4 + m .cpu .flow .vbr - m .bus .base)
+
+    clear : Clear (m .cpu)
+    clear = record { supervisor = a .supervisor; master = a .master; pointers = w .pointers }
+
+    vector-even : (v * 4 + m .cpu .flow .vbr) % 2 ≡ 0
+    vector-even = let z : m .cpu .flow .vbr % 2 ≡ 0 = not-odd (m .cpu .flow .vbr) (a .base) in omega arith
+
+    landing : Lands (m .bus) (kindOf c) (vbrOf c) (prefetchEnabled c) s v e to to (landingOf (viewOf m) s v (topOf (viewOf m) - n - m .bus .base) n .first) (landingOf (viewOf m) s v (topOf (viewOf m) - n - m .bus .base) n .second)
+    landing =
+        record {
+          vector = vector-small v (m .cpu .flow .vbr) base (length s) (kindOf c) u (h .low) (h .high) (a .span);
+          vector-room = room-law (m .bus) (kindOf c) (length s) e 4 (a .windows) vector-even (omega arith) (h .low) (h .high) (a .span);
+          handler = refl;
+          queue = λ i. let k = h .queue (fetches-same m ∙ i) in mask-small to base (length s) (kindOf c) (k .low) (k .high) (a .span);
+          queue-room = λ i. let k = h .queue (fetches-same m ∙ i) in room-law (m .bus) (kindOf c) (length s) to 4 (a .windows) (k .even) (omega arith) (k .low) (k .high) (a .span);
+          first = λ i. sym (h .first (fetches-same m ∙ i));
+          second = λ i. sym (h .second (fetches-same m ∙ i));
+        }
