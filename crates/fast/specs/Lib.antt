@@ -10,3 +10,4 @@ pub mod Supervised
 pub mod Laws
 pub mod Placed
 pub mod Tapes
+pub mod Ways

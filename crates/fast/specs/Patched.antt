@@ -55,6 +55,7 @@ pub record Words (m : Core) : Type 0 where
   pub pointers : 7 < length (m .cpu .regs .sp)
   pub pc : m .cpu .flow .pc < 2 ^ 32
   pub ppc : m .cpu .flow .ppc < 2 ^ 32
+  pub clocks : m .cpu .queue .«pending_sync_clocks» < 2 ^ 32
 
 -- every member of a store is a byte
 abbrev pub Bytes : List ℕ → Type 0
