@@ -11,3 +11,4 @@ pub mod Laws
 pub mod Placed
 pub mod Tapes
 pub mod Ways
+pub mod Taken
