@@ -12,3 +12,4 @@ pub mod Placed
 pub mod Tapes
 pub mod Ways
 pub mod Taken
+pub mod Grouped
