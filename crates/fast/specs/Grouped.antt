@@ -172,3 +172,73 @@ module _ (m : Core) (s l : List ℕ) (w : Words m) (a : Accepted m (length s) (l
       said m c s l p (goOf x c s l) ps
       (jumped (prefetchEnabled (m .cpu)) (setWdata (setA7 (setClocks (enterSupervisor d) 0) (topOf x - p .bytes)) (lastValue ps)) v (j .pc) (j .first) (j .second)) (exceptionCycles v)
       (e ∙ g .same) (group-framed m p v h y (spotFor x p) (tape s l) w) (rw (group-last m p v h y, ← (y .vector)) u) (y .answer) (rw z r)
+
+-- ---- group 2
+
+waiting-none : (m : Core) → Words m → waitingOf (viewOf m) 0 ≡ clocksOf (m .cpu)
+unfolding waitingOf viewOf clocksOf
+waiting-none m w = go (fetchesOf (viewOf m))
+  where
+    go : (f : Bool) → pick f ((m .cpu .queue .«pending_sync_clocks» + 0) % 2 ^ 32) (m .cpu .queue .«pending_sync_clocks») ≡ m .cpu .queue .«pending_sync_clocks»
+    go true = let z = w .clocks in omega arith
+    go false = refl
+
+module _ (m : Core) (s l : List ℕ) (w : Words m) (bs : Bytes s) (a : Accepted m (length s) (length l)) (c : RawCall) where
+  abbrev way2 : ℕ → Plan
+  way2 v = entryPlan (viewOf m) (row 2 v false)
+
+  group2-plan : (v : ℕ) → Group m (way2 v) v
+  unfolding entryPlan isLong addressOf viewOf kindOf getSr pcOf ppcOf
+  group2-plan v = record { shape = refl; bytes = refl; sr = refl; pc = refl; extra = refl; format = refl; vector = refl; answer = refl; last = refl }
+
+  group2-plain : (v e : ℕ) → Plain (m .cpu) (patchBy (viewOf m) (way2 v) (spotFor (viewOf m) (way2 v)) (landingFor (viewOf m) (way2 v) s) e)
+  unfolding patchBy entryPlan viewOf
+  group2-plain v e = record { stopped = refl; mask = refl; level = refl; cycles = refl }
+
+  group2-clocks : (v : ℕ) → waitingOf (viewOf m) (way2 v .clocks) ≡ clocksOf (m .cpu)
+  unfolding entryPlan
+  group2-clocks v = waiting-none m w
+
+  pub group2-same : (v : ℕ) → v < 256 → goOf (viewOf m) c s l ≡ enterOf (viewOf m) (way2 v) s l → enterOf (viewOf m) (way2 v) s l .patch .fast ≡ true
+      → rawCall (world m s l) c ≡ ofPerformed (ofEntry (takeGroup2 (closed (m .bus) (m .cpu) 0 s l) v)) → Says m c s l (goOf (viewOf m) c s l)
+  group2-same v h e f r =
+      let x : View = viewOf m in
+      let p : Plan = way2 v in
+      let j : Landing = landingFor x p s in
+      let i : ℕ = jumpCount (layCount x p) (fetchesOf x) in
+      let g : Entered x p s l = entered-by x p s l bs f in
+      let t = group2-closed (m .bus) (m .cpu) 0 s l v (topOf x - p .bytes) (j .from) (j .pc) (j .pc) (j .first) (j .second) (group-entering m s l w a c p v h (group2-plan v) e g) (lit< tt) in
+      group-same m s l w a c p v h (group2-plan v) e g (m .cpu) (clocksOf (m .cpu)) (group2-clocks v)
+      (plain-patched (m .cpu) (patchBy x p (spotFor x p) j i) (clear-of m s l w a) (fitting-of m s l w a p i g) (group2-plain v i))
+      (r ∙ ap (λ (z : Entry). ofPerformed (ofEntry z)) t)
+
+  -- ---- the trace
+
+  abbrev way3 : Plan
+  way3 = entryPlan (viewOf m) (row 3 9 false)
+
+  trace-plan : Group m way3 9
+  unfolding entryPlan isLong addressOf viewOf kindOf getSr pcOf ppcOf
+  trace-plan = record { shape = refl; bytes = refl; sr = refl; pc = refl; extra = refl; format = refl; vector = refl; answer = refl; last = refl }
+
+  trace-plain : (e : ℕ) → Plain (leaveStop (m .cpu)) (patchBy (viewOf m) way3 (spotFor (viewOf m) way3) (landingFor (viewOf m) way3 s) e)
+  unfolding patchBy entryPlan viewOf leaveStop
+  trace-plain e = record { stopped = refl; mask = refl; level = refl; cycles = refl }
+
+  trace-clocks : waitingOf (viewOf m) (way3 .clocks) ≡ clocksAfter (m .cpu) 4
+  unfolding entryPlan waitingOf clocksAfter fetchesOf viewOf prefetchEnabled clocksOf
+  trace-clocks = refl
+
+  pub trace-same : goOf (viewOf m) c s l ≡ enterOf (viewOf m) way3 s l → enterOf (viewOf m) way3 s l .patch .fast ≡ true
+      → rawCall (world m s l) c ≡ ofPerformed (ofEntry (exceptionTrace (closed (m .bus) (m .cpu) 0 s l))) → Says m c s l (goOf (viewOf m) c s l)
+  trace-same e f r =
+      let x : View = viewOf m in
+      let p : Plan = way3 in
+      let j : Landing = landingFor x p s in
+      let i : ℕ = jumpCount (layCount x p) (fetchesOf x) in
+      let q : Patch = patchBy x p (spotFor x p) j i in
+      let g : Entered x p s l = entered-by x p s l bs f in
+      let t = trace-closed (m .bus) (m .cpu) 0 s l (topOf x - p .bytes) (j .from) (j .pc) (j .pc) (j .first) (j .second) (group-entering m s l w a c p 9 (lit< tt) trace-plan e g) (lit< tt) in
+      group-same m s l w a c p 9 (lit< tt) trace-plan e g (leaveStop (m .cpu)) (clocksAfter (m .cpu) 4) trace-clocks
+      (plain-patched (leaveStop (m .cpu)) q (stop-clear (m .cpu) (clear-of m s l w a)) (stop-fitting (m .cpu) q (fitting-of m s l w a p i g)) (trace-plain i) ∙ stop-patched (m .cpu) q)
+      (r ∙ ap (λ (z : Entry). ofPerformed (ofEntry z)) t)
