@@ -13,3 +13,4 @@ pub mod Tapes
 pub mod Ways
 pub mod Taken
 pub mod Grouped
+pub mod Interrupted

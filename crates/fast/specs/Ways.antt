@@ -104,7 +104,7 @@ entry-said : (b : Bus) (c : Cpu) (e : ℕ) (s l : List ℕ) (n : ℕ) → ofPerf
 unfolding ofPerformed ofEntry cycles closed refusedBy valueOf countOf
 entry-said b c e s l n = refl
 
-same-world : (m : Core) (q : Patch) (c : Cpu) (e : ℕ) (s t l k : List ℕ) → c ≡ patchCpu (m .cpu) q → q .events ≡ e → s ≡ t → l ≡ k → world (patchOf m q) s l ≡ closed (m .bus) c e t k
+pub same-world : (m : Core) (q : Patch) (c : Cpu) (e : ℕ) (s t l k : List ℕ) → c ≡ patchCpu (m .cpu) q → q .events ≡ e → s ≡ t → l ≡ k → world (patchOf m q) s l ≡ closed (m .bus) c e t k
 unfolding patchOf closed
 same-world m q c e s t l k f g h i = rw (f, g, h, i)
 
