@@ -272,6 +272,10 @@ module _ (m : Core) (s l : List ℕ) (p : Plan) where
       sum true n i h = omega arith
       sum false n i h = omega arith
 
+-- the same frame and events in other words
+told-as : (x : View) (p : Plan) (s l : List ℕ) (ps qs : List Piece) (es fs : List Event) → ps ≡ qs → es ≡ fs → Told x p s l ps es → Told x p s l qs fs
+told-as x p s l ps qs es fs e f h = rw (e, f) at h
+
 -- ---- an interrupt that is taken
 
 vector-fits : (r i : ℕ) → iackVector r i < 256
@@ -355,3 +359,115 @@ module _ (m : Core) (s l : List ℕ) (w : Words m) (bs : Bytes s) (a : Accepted 
       go : (t : Bool) → pick t ((m .cpu .queue .«pending_sync_clocks» + 0) % 2 ^ 32) (m .cpu .queue .«pending_sync_clocks») ≡ m .cpu .queue .«pending_sync_clocks»
       go true = let z = w .clocks in omega arith
       go false = refl
+
+  other-shape : eqb (kindOf (m .cpu)) 1 ≡ false → eqb (kindOf (m .cpu)) 2 ≡ false → p .shape ≡ 6
+  unfolding interruptPlan viewOf kindOf
+  other-shape h g = rw (h, g)
+
+  other-bytes : eqb (kindOf (m .cpu)) 1 ≡ false → p .bytes ≡ 8
+  unfolding interruptPlan viewOf kindOf
+  other-bytes h = rw h
+
+  other-last : eqb (kindOf (m .cpu)) 1 ≡ false → eqb (kindOf (m .cpu)) 2 ≡ false → getSr (m .cpu) ≡ p .last
+  unfolding interruptPlan viewOf kindOf getSr
+  other-last h g = rw (h, g)
+
+  plan-answer : p .answer ≡ 1
+  unfolding interruptPlan
+  plan-answer = refl
+
+  other-same : eqb (kindOf (m .cpu)) 1 ≡ false → eqb (kindOf (m .cpu)) 2 ≡ false → Says m c s l (goOf (viewOf m) c s l)
+  unfolding interrupted lastValue shortPieces fetchesOf prefetchEnabled viewOf
+  other-same h g =
+      let x : View = viewOf m in
+      let k = asks 6 (other-shape h g) in
+      let ps : List Piece = shortPieces (getSr (m .cpu)) (pcOf (m .cpu)) (offsetWord vector) in
+      let j : Landing = landing in
+      let q : ℕ = topOf x - p .bytes in
+      let es : List Event = otherEvents (m .bus) (m .cpu) q ps (prefetchEnabled (m .cpu)) (j .from) (j .pc) (j .pc) (j .first) (j .second) in
+      let z : shortPieces (p .sr) (p .pc) (p .format) ≡ ps = rw (k .status, k .address, offset-of) in
+      let u : Told x p s l ps es
+      = told-as x p s l _ ps _ es z (ap (λ (i : List Piece). otherEvents (m .bus) (m .cpu) q i (fetchesOf x) (j .from) (j .pc) (j .pc) (j .first) (j .second)) z) (other-told m s l p (p .format) k (other-clocks h g)) in
+      let t = interrupt-other (m .bus) (m .cpu) 0 s l vector q (j .from) (j .pc) (j .pc) (j .first) (j .second) h g takes (no-master (m .cpu) (a .master)) refl (entering 8 (other-bytes h) (lit< tt)) (lit< tt) in
+      serviced m c s l p (goOf x c s l) ps es
+      (clearLevel (closeInterrupt (jumped (prefetchEnabled (m .cpu)) (setWdata (setA7 (setClocks (enterLevel (m .cpu) (pendingLevel (m .cpu))) 0) q) (getSr (m .cpu))) vector (j .pc) (j .first) (j .second))))
+      (e ∙ entered .same) u (patched (getSr (m .cpu)) vector (other-last h g) (sym plan-vector)) plan-answer
+      (r ∙ ap (λ (i : Attempt). ofPerformed (ofService i)) t)
+
+  -- kind 2
+  ten-shape : eqb (kindOf (m .cpu)) 1 ≡ false → eqb (kindOf (m .cpu)) 2 ≡ true → p .shape ≡ 5
+  unfolding interruptPlan viewOf kindOf
+  ten-shape h g = rw (h, g)
+
+  ten-last : eqb (kindOf (m .cpu)) 1 ≡ false → eqb (kindOf (m .cpu)) 2 ≡ true → p .last ≡ p .format
+  unfolding interruptPlan viewOf kindOf
+  ten-last h g = rw (h, g)
+
+  ten-clocks : eqb (kindOf (m .cpu)) 1 ≡ false → eqb (kindOf (m .cpu)) 2 ≡ true → waitingOf (viewOf m) (p .clocks) ≡ clocksAfter (m .cpu) 12
+  unfolding interruptPlan viewOf kindOf waitingOf clocksAfter clocksOf fetchesOf prefetchEnabled
+  ten-clocks h g = rw (h, g)
+
+  ten-same : eqb (kindOf (m .cpu)) 1 ≡ false → eqb (kindOf (m .cpu)) 2 ≡ true → Says m c s l (goOf (viewOf m) c s l)
+  unfolding interrupted lastValue fourPieces fetchesOf prefetchEnabled viewOf
+  ten-same h g =
+      let x : View = viewOf m in
+      let k = asks 5 (ten-shape h g) in
+      let ps : List Piece = fourPieces (getSr (m .cpu)) (pcOf (m .cpu)) (offsetWord vector) in
+      let j : Landing = landing in
+      let q : ℕ = topOf x - p .bytes in
+      let es : List Event = events68010 (m .bus) (m .cpu) q ps (prefetchEnabled (m .cpu)) (j .from) (j .pc) (j .pc) (j .first) (j .second) in
+      let z : fourPieces (p .sr) (p .pc) (p .format) ≡ ps = rw (k .status, k .address, offset-of) in
+      let u : Told x p s l ps es
+      = told-as x p s l _ ps _ es z (ap (λ (i : List Piece). events68010 (m .bus) (m .cpu) q i (fetchesOf x) (j .from) (j .pc) (j .pc) (j .first) (j .second)) z) (ten-told m s l p (p .format) k (ten-clocks h g)) in
+      let t = interrupt-68010 (m .bus) (m .cpu) 0 s l vector q (j .from) (j .pc) (j .pc) (j .first) (j .second) h g takes (no-master (m .cpu) (a .master)) refl (entering 8 (other-bytes h) (lit< tt)) (lit< tt) in
+      serviced m c s l p (goOf x c s l) ps es
+      (clearLevel (closeInterrupt (jumped (prefetchEnabled (m .cpu)) (setWdata (setA7 (setClocks (enterLevel (m .cpu) (pendingLevel (m .cpu))) 0) q) (offsetWord vector)) vector (j .pc) (j .first) (j .second))))
+      (e ∙ entered .same) u (patched (offsetWord vector) vector (sym (ten-last h g ∙ offset-of)) (sym plan-vector)) plan-answer
+      (r ∙ ap (λ (i : Attempt). ofPerformed (ofService i)) t)
+
+  -- kind 1
+  old-shape : eqb (kindOf (m .cpu)) 1 ≡ true → p .shape ≡ 4
+  unfolding interruptPlan viewOf kindOf
+  old-shape h = rw h
+
+  old-bytes : eqb (kindOf (m .cpu)) 1 ≡ true → p .bytes ≡ 6
+  unfolding interruptPlan viewOf kindOf
+  old-bytes h = rw h
+
+  old-last : eqb (kindOf (m .cpu)) 1 ≡ true → pcOf (m .cpu) / 0x10000 ≡ p .last
+  unfolding interruptPlan viewOf kindOf pcOf
+  old-last h = rw h
+
+  old-clocks : eqb (kindOf (m .cpu)) 1 ≡ true → waitingOf (viewOf m) (p .clocks) ≡ clocksAfter (m .cpu) 6
+  unfolding interruptPlan viewOf kindOf waitingOf clocksAfter clocksOf fetchesOf prefetchEnabled
+  old-clocks h = rw h
+
+  old-same : eqb (kindOf (m .cpu)) 1 ≡ true → Says m c s l (goOf (viewOf m) c s l)
+  unfolding interrupted lastValue threePieces fetchesOf prefetchEnabled viewOf
+  old-same h =
+      let x : View = viewOf m in
+      let k = asks 4 (old-shape h) in
+      let sr : ℕ = getSr (m .cpu) in
+      let pc : ℕ = pcOf (m .cpu) in
+      let ps : List Piece = threePieces sr pc in
+      let j : Landing = landing in
+      let q : ℕ = topOf x - p .bytes in
+      let es : List Event = events68000 (m .bus) (m .cpu) q sr pc (prefetchEnabled (m .cpu)) (j .from) (j .pc) (j .pc) (j .first) (j .second) in
+      let u : Told x p s l ps es
+      = told-as x p s l _ ps _ es (rw (k .status, k .address))
+      (ap (λ (i : ℕ). events68000 (m .bus) (m .cpu) q i (p .pc) (fetchesOf x) (j .from) (j .pc) (j .pc) (j .first) (j .second)) (k .status)
+      ∙ ap (λ (i : ℕ). events68000 (m .bus) (m .cpu) q sr i (fetchesOf x) (j .from) (j .pc) (j .pc) (j .first) (j .second)) (k .address))
+      (old-told m s l p (p .format) k (old-clocks h)) in
+      let t = interrupt-68000 (m .bus) (m .cpu) 0 s l vector q (j .from) (j .pc) (j .pc) (j .first) (j .second) h takes (no-master (m .cpu) (a .master)) refl (entering 6 (old-bytes h) (lit< tt)) (lit< tt) in
+      serviced m c s l p (goOf x c s l) ps es
+      (clearLevel (closeInterrupt (jumped (prefetchEnabled (m .cpu)) (setWdata (setA7 (setClocks (enterLevel (m .cpu) (pendingLevel (m .cpu))) 0) q) (pc / 0x10000)) vector (j .pc) (j .first) (j .second))))
+      (e ∙ entered .same) u (patched (pc / 0x10000) vector (old-last h) (sym plan-vector)) plan-answer
+      (r ∙ ap (λ (i : Attempt). ofPerformed (ofService i)) t)
+
+  pub interrupt-same : Says m c s l (goOf (viewOf m) c s l)
+  interrupt-same = go (eqb (kindOf (m .cpu)) 1) (eqb (kindOf (m .cpu)) 2) refl refl
+    where
+      go : (i k : Bool) → eqb (kindOf (m .cpu)) 1 ≡ i → eqb (kindOf (m .cpu)) 2 ≡ k → Says m c s l (goOf (viewOf m) c s l)
+      go true k h g = old-same h
+      go false true h g = ten-same h g
+      go false false h g = other-same h g
