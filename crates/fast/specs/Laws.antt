@@ -11,7 +11,6 @@ use Rattle.types.specs.Kinds.{pick, either, both, isPre68020}
 use Rattle.cpu.specs.declared.Flags.{Flags}
 use Rattle.status.specs.Status.{compose}
 use Rattle.steps.specs.Steps.{iackVector}
-use Rattle.pending.specs.Interrupts.{hasRoom}
 use Rattle.memory.specs.Bytes.{getWord, getLong}
 use Rattle.boundary.specs.declared.RawCall.{RawCall}
 use Rattle.fast.specs.declared.View.{View}
@@ -44,13 +43,17 @@ compose-fits f = go (eqb (f .«not_z_flag») 0)
     go false = omega arith
 
 -- so is a format word
-vector-fits : (r level : ℕ) → iackVector r level < 256
+pub vector-fits : (r level : ℕ) → iackVector r level < 256
 unfolding iackVector
 vector-fits r level = go (eqb r 0xFFFFFFFF)
   where
     go : (t : Bool) → pick t (24 + level % 8) (r % 256) < 256
     go true = omega arith
     go false = omega arith
+
+pub format-small : {v : ℕ} (t : Bool) → v ≡ pick t 0x2000 0 → v ≤ 0x2000
+format-small true e = rw e (omega arith)
+format-small false e = rw e (omega arith)
 
 entry-format : (t : Bool) (v : ℕ) → v ≤ 255 → pick t 0x2000 0 + v * 4 < 0x10000
 entry-format true v h = omega arith
@@ -108,7 +111,7 @@ entry-of-shaped x r = go (eqb (r .way) 0) (halts x r) (ltb 255 (r .vector)) refl
 
 pub shaped : (x : View) (c : RawCall) → eqb (planOf x c .shape) 0 ≡ false → Shaped (planOf x c)
 unfolding planOf
-shaped x c = go (eqb (c .number) 22) (hasRoom (x .cycles))
+shaped x c = go (eqb (c .number) 22) (x .room)
   where
     go : (a b : Bool) → eqb (pick a (pick b (interruptPlan x) noPlan) (entryOf x (rowOf c)) .shape) 0 ≡ false → Shaped (pick a (pick b (interruptPlan x) noPlan) (entryOf x (rowOf c)))
     go true true h = interrupt-shaped x

@@ -2,12 +2,15 @@
 use Prim.Native.Nat.{ℕ, _+_, _<_, _^_}
 use mathlib.Core.Bool.{Bool, true, false}
 use mathlib.Core.List.{List}
+use lib.Dec.{eqb}
+use lib.IntN.{ℤ}
 use lib.ListN.{length, set, getD}
 use Rattle.types.specs.Kinds.{pick}
 use Rattle.cpu.specs.declared.Cpu.{Cpu}
 use Rattle.cpu.specs.declared.OptionalVector.{OptionalVector}
 use Rattle.cpu.specs.Groups.{withFlow}
 use Rattle.cpu.specs.Setters.{withDar, withSp, withPc, withStopped, withLoopMode, withChangeOfFlow, flowWithCyclesRemaining, withT1Flag, withT0Flag, withSFlag, withIntMask, withIntLevel, withPrefetchQueue, withPrefetchCount, withPendingSyncClocks, withInstructionExceptionVector, withLastExceptionVector, withPendingFaultWdata}
+use Rattle.pending.specs.Interrupts.{lessCycles}
 use Rattle.memory.specs.declared.Core.{Core}
 use Rattle.memory.specs.Log.{withEvents}
 use Rattle.fast.specs.declared.Patch.{Patch}
@@ -20,9 +23,12 @@ patchRegs c q = withDar (withSp c (set (set (c .regs .sp) 0 (q .user)) 4 (q .top
 abbrev pub patchFlags : Cpu → Patch → Cpu
 patchFlags c q = withIntLevel (withIntMask (withSFlag (withT0Flag (withT1Flag c 0) 0) 4) (q .mask)) (q .level)
 
--- PC at the handler, no loop mode, the cycles that are left
+-- PC at the handler, no loop mode, and where an interrupt was serviced its cycles taken off
+abbrev pub cyclesAfter : Cpu → Patch → ℤ
+cyclesAfter c q = pick (q .serviced) (lessCycles (c .flow .«cycles_remaining») (eqb (c .flow .«cpu_type») 2)) (c .flow .«cycles_remaining»)
+
 abbrev pub patchFlow : Cpu → Patch → Cpu
-patchFlow c q = withFlow (withStopped (withLoopMode (withPc c (q .pc)) false) (q .stopped)) (flowWithCyclesRemaining (withStopped (withLoopMode (withPc c (q .pc)) false) (q .stopped) .flow) (q .cycles))
+patchFlow c q = withFlow c (flowWithCyclesRemaining (withStopped (withLoopMode (withPc c (q .pc)) false) (q .stopped) .flow) (cyclesAfter c q))
 
 -- no clock waits, and where words are fetched both are in the queue
 abbrev pub patchQueue : Cpu → Patch → Cpu

@@ -40,7 +40,7 @@ patchBy x p s j events =
       stopped = p .stopped;
       mask = p .mask;
       level = p .pending;
-      cycles = p .cycles;
+      serviced = p .serviced;
       flow = x .«change_of_flow»;
     }
 

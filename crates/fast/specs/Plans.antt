@@ -3,13 +3,11 @@ use Prim.Native.Nat.{ℕ, _+_, _-_, _*_, _/_, _%_, _<_, _≤_}
 use mathlib.Core.Bool.{Bool, true, false, not}
 use mathlib.Core.List.{List}
 use lib.Dec.{eqb, ltb, leb}
-use lib.IntN.{ℤ, pos}
 use lib.ListN.{getD}
 use Rattle.types.specs.Kinds.{pick, either, both, isPre68020}
 use Rattle.types.specs.Tables.{exceptionCycles}
 use Rattle.types.specs.Vectors.{zeroDivide, trapv, trace}
 use Rattle.status.specs.Status.{compose}
-use Rattle.pending.specs.Interrupts.{hasRoom, lessCycles}
 use Rattle.steps.specs.Steps.{stacksNext as stacks, iackVector}
 use Rattle.boundary.specs.declared.RawCall.{RawCall}
 use Rattle.fast.specs.declared.View.{View}
@@ -53,7 +51,7 @@ noPlan =
       stopped = 0;
       mask = 0;
       pending = 0;
-      cycles = pos 0;
+      serviced = false;
     }
 
 abbrev pub stacksNext : ℕ → Bool
@@ -89,7 +87,7 @@ entryPlan x r =
       stopped = pick (eqb (r .way) 3) (x .stopped - x .stopped % 2) (x .stopped);
       mask = x .flags .«int_mask»;
       pending = x .flags .«int_level»;
-      cycles = x .cycles;
+      serviced = false;
     }
 
 unfoldable pub entryOf : View → EntryRow → Plan
@@ -124,12 +122,12 @@ interruptPlan x =
       stopped = 0;
       mask = x .flags .«int_level» % 8 * 256;
       pending = 0;
-      cycles = lessCycles (x .cycles) (eqb (x .kind) 2);
+      serviced = true;
     }
 
 -- the plan of a call, or none
 unfoldable pub planOf : View → RawCall → Plan
-planOf x c = pick (eqb (c .number) 22) (pick (hasRoom (x .cycles)) (interruptPlan x) noPlan) (entryOf x (rowOf c))
+planOf x c = pick (eqb (c .number) 22) (pick (x .room) (interruptPlan x) noPlan) (entryOf x (rowOf c))
 
 -- the bytes of a shape
 unfoldable pub bytesOf : ℕ → ℕ

@@ -2,17 +2,15 @@
 use Prim.Native.Nat.{ℕ, _/_, _%_}
 use mathlib.Core.Bool.{Bool, true, false}
 use lib.Dec.{eqb, ltb, leb}
-use lib.IntN.{pos}
 use Rattle.types.specs.Kinds.{pick, either, both}
 use Rattle.answers.specs.Answers.{bit}
-use Rattle.pending.specs.Interrupts.{hasRoom}
 use Rattle.boundary.specs.declared.RawCall.{RawCall}
 use Rattle.fast.specs.declared.View.{View}
 use Rattle.fast.specs.declared.Patch.{Patch}
 use Rattle.fast.specs.Plans.{takes}
 
 unfoldable pub isQuiet : View → RawCall → Bool
-isQuiet x c = pick (eqb (c .number) 22) (pick (takes x) false (hasRoom (x .cycles))) (both (leb 19 (c .number)) (leb (c .number) 21))
+isQuiet x c = pick (eqb (c .number) 22) (pick (takes x) false (x .room)) (both (leb 19 (c .number)) (leb (c .number) 21))
 
 -- a patch of no entry
 abbrev pub quiet : Bool → Bool → ℕ → ℕ → Bool → Patch
@@ -35,7 +33,7 @@ quiet idle calm answer level flow =
       stopped = 0;
       mask = 0;
       level = level;
-      cycles = pos 0;
+      serviced = false;
       flow = flow;
     }
 

@@ -105,12 +105,12 @@ pub record Fitting (c : Cpu) (p : Patch) : Type 0 where
   pub first : p .first < 0x10000
   pub second : p .second < 0x10000
 
--- no interrupt: stopped, mask, level and cycles as they were
+-- no interrupt: stopped, mask and level as they were, and no cycles taken off
 pub record Plain (c : Cpu) (p : Patch) : Type 0 where
   pub stopped : p .stopped ≡ c .flow .stopped
   pub mask : p .mask ≡ c .flags .«int_mask»
   pub level : p .level ≡ c .flags .«int_level»
-  pub cycles : p .cycles ≡ c .flow .«cycles_remaining»
+  pub cycles : p .serviced ≡ false
 
 -- the words as they are queued
 queued : (f : Bool) (c : Cpu) (v to x y : ℕ) → x < 0x10000 → y < 0x10000
@@ -142,7 +142,7 @@ module _ (c : Cpu) (p : Patch) (h : Clear c) (g : Fitting c p) where
     pub stopped : p .stopped ≡ 0
     pub mask : p .mask ≡ i % 8 * 256
     pub level : p .level ≡ 0
-    pub cycles : p .cycles ≡ lessCycles (c .flow .«cycles_remaining») (eqb (c .flow .«cpu_type») 2)
+    pub cycles : p .serviced ≡ true
 
   private-interrupt : (f : Bool) → p .fetches ≡ f → (level : ℕ) → Interrupting level → clearLevel (closeInterrupt (framed (setIntMask (supervised c) level))) ≡ patchCpu c p
   unfolding patchCpu setWdata setA7 setClocks startVector setPc firstWord secondWord clearLevel closeInterrupt chargeInterrupt charged clearStopped setIntMask

@@ -4,6 +4,7 @@ use mathlib.Core.Bool.{Bool, true, false, not}
 use lib.Dec.{eqb, ltb}
 use lib.ListN.{getD}
 use Rattle.types.specs.Kinds.{pick}
+use Rattle.pending.specs.Interrupts.{hasCycles}
 use Rattle.memory.specs.declared.Core.{Core}
 use Rattle.fast.specs.declared.View.{View}
 
@@ -22,7 +23,7 @@ viewOf m =
       stopped = m .cpu .flow .stopped;
       exception = m .cpu .flow .«exception_processing»;
       «change_of_flow» = m .cpu .flow .«change_of_flow»;
-      cycles = m .cpu .flow .«cycles_remaining»;
+      room = hasCycles (m .cpu);
       clocks = m .cpu .queue .«pending_sync_clocks»;
       precise = m .cpu .queue .«precise_bus»;
       overridden = m .cpu .fault .«mmu_fc_override» .some;
