@@ -14,3 +14,4 @@ pub mod Ways
 pub mod Taken
 pub mod Grouped
 pub mod Interrupted
+pub mod Matched
