@@ -149,3 +149,113 @@ module _ (m : Core) (c : RawCall) (s l : List ℕ) (a : Accepted m (length s) (l
       → rawCall (world m s l) c ≡ ofPerformed (run (closed (m .bus) (m .cpu) 0 s l) call)
   unfolding refusal
   raw-run call d f v i = raw-known m s l c call d (not-refused m (length s) (length l) a (matterOf call) f v i)
+
+-- an entry by a row of the table
+pub record Rowed (x : View) (c : RawCall) (s l : List ℕ) (r : EntryRow) : Type 0 where
+  pub plan : Planned x r
+  pub same : goOf x c s l ≡ enterOf x (entryPlan x r) s l
+  pub made : enterOf x (entryPlan x r) s l .patch .fast ≡ true
+
+rowed : (x : View) (c : RawCall) (s l : List ℕ) (r : EntryRow) → Went x c s l → eqb (c .number) 22 ≡ false → rowOf c ≡ r → Rowed x c s l r
+rowed x c s l r g e f =
+    let z : planOf x c ≡ entryOf x r = plan-entry x c e ∙ ap (λ (i : EntryRow). entryOf x i) f in
+    let p : Planned x r = planned x r (ap (λ (i : Plan). eqb (i .shape) 0) (sym z) ∙ g .shaped) in
+    let y : planOf x c ≡ entryPlan x r = z ∙ p .same in
+    record { plan = p; same = g .same ∙ ap (λ (i : Plan). enterOf x i s l) y; made = ap (λ (i : Plan). enterOf x i s l .patch .fast) (sym y) ∙ g .made }
+
+-- the call of a number: what it is given, and no interrupt
+pub record Given (c : RawCall) (call : Call) (n : ℕ) : Type 0 where
+  pub known : decode c ≡ Known call
+  pub floating : matterOf call .floating ≡ false
+  pub vector : n ≤ 255 → matterOf call .vector ≤ 255
+  pub interrupt : matterOf call .interrupt ≡ false
+
+module _ (m : Core) (c : RawCall) (s l : List ℕ) (w : Words m) (bs : Bytes s) (a : Accepted m (length s) (length l)) (g : Went (viewOf m) c s l) where
+  abbrev whole : World
+  whole = closed (m .bus) (m .cpu) 0 s l
+
+  given-run : (call : Call) (n : ℕ) → Given c call n → n ≤ 255 → rawCall (world m s l) c ≡ ofPerformed (run whole call)
+  unfolding badCycles
+  given-run call n y h = raw-run m c s l a call (y .known) (y .floating) (y .vector h) (rw (y .interrupt))
+
+  idle-row : (v : ℕ) (b : Bool) → halts (viewOf m) (row 1 v b) ≡ false → inException (m .cpu) ≡ false
+  unfolding halts viewOf inException
+  idle-row v b e = e
+
+  take-number : (v : ℕ) (call : Call) → eqb (c .number) 22 ≡ false → rowOf c ≡ row 1 v false → Given c call v → run whole call ≡ ofEntry (takeException whole v) → Says m c s l (goOf (viewOf m) c s l)
+  take-number v call e f y u =
+      let r : Rowed (viewOf m) c s l (row 1 v false) = rowed (viewOf m) c s l (row 1 v false) g e f in
+      let h : v ≤ 255 = r .plan .vector in
+      taken-same m s l w bs a c v (omega arith) (idle-row v false (r .plan .running)) (r .same) (r .made) (given-run call v y h ∙ ap ofPerformed u)
+
+  rewound-number : (v : ℕ) (call : Call) → eqb (c .number) 22 ≡ false → rowOf c ≡ row 1 v true → Given c call v → run whole call ≡ ofEntry (takeRewound whole v) → Says m c s l (goOf (viewOf m) c s l)
+  rewound-number v call e f y u =
+      let r : Rowed (viewOf m) c s l (row 1 v true) = rowed (viewOf m) c s l (row 1 v true) g e f in
+      let h : v ≤ 255 = r .plan .vector in
+      rewound-same m s l w bs a c v (omega arith) (idle-row v true (r .plan .running)) (r .same) (r .made) (given-run call v y h ∙ ap ofPerformed u)
+
+  group2-number : (v : ℕ) (call : Call) → eqb (c .number) 22 ≡ false → rowOf c ≡ row 2 v false → Given c call v → run whole call ≡ ofEntry (takeGroup2 whole v) → Says m c s l (goOf (viewOf m) c s l)
+  group2-number v call e f y u =
+      let r : Rowed (viewOf m) c s l (row 2 v false) = rowed (viewOf m) c s l (row 2 v false) g e f in
+      let h : v ≤ 255 = r .plan .vector in
+      group2-same m s l w bs a c v (omega arith) (r .same) (r .made) (given-run call v y h ∙ ap ofPerformed u)
+
+  trace-number : (call : Call) → eqb (c .number) 22 ≡ false → rowOf c ≡ row 3 9 false → Given c call 9 → run whole call ≡ ofEntry (exceptionTrace whole) → Says m c s l (goOf (viewOf m) c s l)
+  trace-number call e f y u =
+      let r : Rowed (viewOf m) c s l (row 3 9 false) = rowed (viewOf m) c s l (row 3 9 false) g e f in
+      trace-same m s l w bs a c (r .same) (r .made) (given-run call 9 y (r .plan .vector) ∙ ap ofPerformed u)
+
+  number1 : c .number ≡ 1 → Says m c s l (goOf (viewOf m) c s l)
+  unfolding rowOf decode run matterOf
+  number1 h = take-number (c .a) (TakeException (c .a)) (rw h) (rw h) (record { known = rw h; floating = refl; vector = λ i. i; interrupt = refl }) refl
+
+  trap-vector : 32 + c .a % 256 % 16 ≡ 32 + c .a % 16
+  trap-vector = omega arith
+
+  number2 : c .number ≡ 2 → Says m c s l (goOf (viewOf m) c s l)
+  unfolding rowOf decode run matterOf trap
+  number2 h =
+      take-number (32 + c .a % 16) (Trap (c .a % 256)) (rw h) (rw h) (record { known = rw h; floating = refl; vector = λ i. lit≤ tt; interrupt = refl })
+      (ap (λ (v : ℕ). ofEntry (takeException whole v)) trap-vector)
+
+  number3 : c .number ≡ 3 → Says m c s l (goOf (viewOf m) c s l)
+  unfolding rowOf decode run matterOf
+  number3 h = group2-number (c .a) (TakeGroup2Exception (c .a)) (rw h) (rw h) (record { known = rw h; floating = refl; vector = λ i. i; interrupt = refl }) refl
+
+  number4 : c .number ≡ 4 → Says m c s l (goOf (viewOf m) c s l)
+  unfolding rowOf decode run matterOf
+  number4 h = group2-number 6 ExceptionChk (rw h) (rw h) (record { known = rw h; floating = refl; vector = λ i. lit≤ tt; interrupt = refl }) refl
+
+  number5 : c .number ≡ 5 → Says m c s l (goOf (viewOf m) c s l)
+  unfolding rowOf decode run matterOf
+  number5 h = group2-number 5 ExceptionZeroDivide (rw h) (rw h) (record { known = rw h; floating = refl; vector = λ i. lit≤ tt; interrupt = refl }) refl
+
+  number6 : c .number ≡ 6 → Says m c s l (goOf (viewOf m) c s l)
+  unfolding rowOf decode run matterOf
+  number6 h = take-number 8 ExceptionPrivilege (rw h) (rw h) (record { known = rw h; floating = refl; vector = λ i. lit≤ tt; interrupt = refl }) refl
+
+  number7 : c .number ≡ 7 → Says m c s l (goOf (viewOf m) c s l)
+  unfolding rowOf decode run matterOf
+  number7 h = trace-number ExceptionTrace (rw h) (rw h) (record { known = rw h; floating = refl; vector = λ i. lit≤ tt; interrupt = refl }) refl
+
+  number12 : c .number ≡ 12 → Says m c s l (goOf (viewOf m) c s l)
+  unfolding rowOf decode run matterOf
+  number12 h = rewound-number 10 TakeAlineException (rw h) (rw h) (record { known = rw h; floating = refl; vector = λ i. lit≤ tt; interrupt = refl }) refl
+
+  number13 : c .number ≡ 13 → Says m c s l (goOf (viewOf m) c s l)
+  unfolding rowOf decode run matterOf
+  number13 h = rewound-number 11 TakeFlineException (rw h) (rw h) (record { known = rw h; floating = refl; vector = λ i. lit≤ tt; interrupt = refl }) refl
+
+  number14 : c .number ≡ 14 → Says m c s l (goOf (viewOf m) c s l)
+  unfolding rowOf decode run matterOf trap
+  number14 h =
+      take-number (32 + c .a % 16) (TakeTrapException (c .a % 256)) (rw h) (rw h) (record { known = rw h; floating = refl; vector = λ i. lit≤ tt; interrupt = refl })
+      (ap (λ (v : ℕ). ofEntry (takeException whole v)) trap-vector)
+
+  number15 : c .number ≡ 15 → Says m c s l (goOf (viewOf m) c s l)
+  unfolding rowOf decode run matterOf
+  number15 h = rewound-number 4 TakeBkptException (rw h) (rw h) (record { known = rw h; floating = refl; vector = λ i. lit≤ tt; interrupt = refl }) refl
+
+  number16 : c .number ≡ 16 → Says m c s l (goOf (viewOf m) c s l)
+  unfolding rowOf decode run matterOf
+  number16 h = rewound-number 4 TakeIllegalException (rw h) (rw h) (record { known = rw h; floating = refl; vector = λ i. lit≤ tt; interrupt = refl }) refl
