@@ -150,6 +150,14 @@ module _ (m : Core) (c : RawCall) (s l : List ℕ) (a : Accepted m (length s) (l
   unfolding refusal
   raw-run call d f v i = raw-known m s l c call d (not-refused m (length s) (length l) a (matterOf call) f v i)
 
+-- a number is k or it is not
+split : (n k : ℕ) (R : Type 0) → (n ≡ k → R) → (eqb n k ≡ false → R) → R
+split n k R f g = go (eqb n k) refl
+  where
+    go : (b : Bool) → eqb n k ≡ b → R
+    go true e = f (eqb-true n k e)
+    go false e = g e
+
 -- an entry by a row of the table
 pub record Rowed (x : View) (c : RawCall) (s l : List ℕ) (r : EntryRow) : Type 0 where
   pub plan : Planned x r
@@ -259,3 +267,62 @@ module _ (m : Core) (c : RawCall) (s l : List ℕ) (w : Words m) (bs : Bytes s) 
   number16 : c .number ≡ 16 → Says m c s l (goOf (viewOf m) c s l)
   unfolding rowOf decode run matterOf
   number16 h = rewound-number 4 TakeIllegalException (rw h) (rw h) (record { known = rw h; floating = refl; vector = λ i. lit≤ tt; interrupt = refl }) refl
+
+  -- the interrupt call: its cycles have room, and it is taken
+  room22 : c .number ≡ 22 → (hasCycles (m .cpu) ≡ true) × (planOf (viewOf m) c ≡ interruptPlan (viewOf m))
+  unfolding planOf viewOf
+  room22 h = go (hasCycles (m .cpu)) refl (ap (λ (p : Plan). eqb (p .shape) 0) (sym z) ∙ g .shaped)
+    where
+      z : planOf (viewOf m) c ≡ pick (hasCycles (m .cpu)) (interruptPlan (viewOf m)) noPlan
+      z = rw h
+
+      go : (b : Bool) → hasCycles (m .cpu) ≡ b → eqb (pick (hasCycles (m .cpu)) (interruptPlan (viewOf m)) noPlan .shape) 0 ≡ false
+          → (hasCycles (m .cpu) ≡ true) × (planOf (viewOf m) c ≡ interruptPlan (viewOf m))
+      go true e f = (e, z ∙ rw e)
+      go false e f = false-true _ (sym (rw e at f))
+
+  takes22 : c .number ≡ 22 → hasCycles (m .cpu) ≡ true → takesInterrupt (m .cpu) ≡ true
+  unfolding takesInterrupt pendingLevel maskLevel isQuiet takes viewOf
+  takes22 h e = go (takesInterrupt (m .cpu)) refl (sym z ∙ g .loud)
+    where
+      z : isQuiet (viewOf m) c ≡ pick (takesInterrupt (m .cpu)) false true
+      z = rw (h, e)
+
+      go : (b : Bool) → takesInterrupt (m .cpu) ≡ b → pick (takesInterrupt (m .cpu)) false true ≡ false → takesInterrupt (m .cpu) ≡ true
+      go true f k = f
+      go false f k = false-true _ (sym (rw f at k))
+
+  number22 : c .number ≡ 22 → Says m c s l (goOf (viewOf m) c s l)
+  unfolding decode run matterOf badCycles
+  number22 h =
+      let r = room22 h in
+      interrupt-same m s l w bs a c (takes22 h (r .0)) (g .same ∙ ap (λ (p : Plan). enterOf (viewOf m) p s l) (r .1))
+      (ap (λ (p : Plan). enterOf (viewOf m) p s l .patch .fast) (sym (r .1)) ∙ g .made)
+      (raw-run m c s l a CheckAndServiceInterrupts (rw h) refl (lit≤ tt) (rw (r .0)))
+
+  -- any other number has no plan
+  other-number : eqb (c .number) 22 ≡ false → rowOf c ≡ row 0 0 false → Says m c s l (goOf (viewOf m) c s l)
+  unfolding entryOf
+  other-number e f = false-true _ (sym (ap (λ (p : Plan). eqb (p .shape) 0) (sym (plan-entry (viewOf m) c e ∙ ap (λ (r : EntryRow). entryOf (viewOf m) r) f)) ∙ g .shaped))
+
+  no-row : eqb (c .number) 1 ≡ false → eqb (c .number) 2 ≡ false → eqb (c .number) 3 ≡ false → eqb (c .number) 4 ≡ false → eqb (c .number) 5 ≡ false → eqb (c .number) 6 ≡ false
+      → eqb (c .number) 7 ≡ false → eqb (c .number) 12 ≡ false → eqb (c .number) 13 ≡ false → eqb (c .number) 14 ≡ false → eqb (c .number) 15 ≡ false → eqb (c .number) 16 ≡ false → rowOf c ≡ row 0 0 false
+  unfolding rowOf
+  no-row h1 h2 h3 h4 h5 h6 h7 h12 h13 h14 h15 h16 = rw (h1, h2, h3, h4, h5, h6, h7, h12, h13, h14, h15, h16)
+
+  by-number : Says m c s l (goOf (viewOf m) c s l)
+  by-number =
+      split (c .number) 22 R number22 λ n22. split (c .number) 1 R number1 λ n1. split (c .number) 2 R number2 λ n2. split (c .number) 3 R number3 λ n3. split (c .number) 4 R number4 λ n4.
+      split (c .number) 5 R number5 λ n5. split (c .number) 6 R number6 λ n6. split (c .number) 7 R number7 λ n7. split (c .number) 12 R number12 λ n12. split (c .number) 13 R number13 λ n13.
+      split (c .number) 14 R number14 λ n14. split (c .number) 15 R number15 λ n15. split (c .number) 16 R number16 λ n16. other-number n22 (no-row n1 n2 n3 n4 n5 n6 n7 n12 n13 n14 n15 n16)
+    where
+      R : Type 0
+      R = Says m c s l (goOf (viewOf m) c s l)
+
+-- AN ENTRY: where the fast way makes one, the patched record and bus, store, log, answer and events are those of the plain call
+pub entry-same : (m : Core) (c : RawCall) (s l : List ℕ) → Words m → Bytes s → goOf (viewOf m) c s l .patch .fast ≡ true
+    → outcome (world (patchOf m (goOf (viewOf m) c s l .patch)) (goOf (viewOf m) c s l .store) (goOf (viewOf m) c s l .log)) 0 (goOf (viewOf m) c s l .patch .answer) (goOf (viewOf m) c s l .patch .events)
+    ≡ rawCall (world m s l) c
+entry-same m c s l w bs e =
+    let g : Went (viewOf m) c s l = went (viewOf m) c s l e in
+    by-number m c s l w bs (accepted m (length s) (length l) (g .accepts)) g
