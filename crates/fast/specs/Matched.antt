@@ -7,13 +7,14 @@ use mathlib.Core.List.{List}
 use native.Mathlib.Omega.{arith}
 use lib.Dec.{eqb, ltb, leb, lit≤}
 use lib.ListN.{length}
-use borrow.Author.Tests.{ltb-false, leb-true, eqb-true, ne-eqb, not-false}
+use borrow.Author.Tests.{ltb-false, leb-true, eqb-true, eqb-false}
 use Rattle.types.specs.Kinds.{pick, either, both}
 use Rattle.cpu.specs.declared.Cpu.{Cpu}
 use Rattle.cpu.specs.Fields.{inException}
 use Rattle.pending.specs.Trace.{asksTrace, setChangeOfFlow, checkTrace}
 use Rattle.pending.specs.Interrupts.{setIrq, checkInterrupts, hasCycles, pendingLevel, maskLevel, takesInterrupt}
 use Rattle.memory.specs.declared.Core.{Core}
+use Rattle.memory.specs.Log.{withEvents}
 use Rattle.memory.specs.World.{World, Attempt, world, tried, putCpu}
 use Rattle.exceptions.specs.Exceptions.{Entry, takeException, takeGroup2, trap, exceptionTrace, takeRewound}
 use Rattle.interrupts.specs.Interrupts.{checkAndService}
@@ -326,3 +327,186 @@ pub entry-same : (m : Core) (c : RawCall) (s l : List ℕ) → Words m → Bytes
 entry-same m c s l w bs e =
     let g : Went (viewOf m) c s l = went (viewOf m) c s l e in
     by-number m c s l w bs (accepted m (length s) (length l) (g .accepts)) g
+
+-- ---- calls that make no access
+
+-- what a patch of no entry must say
+pub record Quietly (m : Core) (c : RawCall) (s l : List ℕ) (q : Patch) : Type 0 where
+  pub calm : q .calm ≡ true → outcome (world (calmOf m q) s l) 0 (q .answer) (q .events) ≡ rawCall (world m s l) c
+  pub idle : q .idle ≡ true → outcome (world m s l) 0 (q .answer) (q .events) ≡ rawCall (world m s l) c
+
+module _ (m : Core) (c : RawCall) (s l : List ℕ) where
+  -- a patch that changes level and change of flow alone
+  calmly : (n i : ℕ) (f : Bool) → outcome (world (calmOf m (calmPatch n i f)) s l) 0 n 0 ≡ rawCall (world m s l) c → Quietly m c s l (calmPatch n i f)
+  unfolding calmPatch
+  calmly n i f h = record { calm = λ e. h; idle = λ e. false-true _ e }
+
+  -- nothing changes but the number of events
+  same-calm : (n : ℕ) → calmOf m (calmPatch n (m .cpu .flags .«int_level») (m .cpu .flow .«change_of_flow»)) ≡ closed (m .bus) (m .cpu) 0 s l .core
+  unfolding calmOf calmPatch closed
+  same-calm n = refl
+
+  same-idle : m .bus .events ≡ 0 → m ≡ closed (m .bus) (m .cpu) 0 s l .core
+  unfolding closed
+  same-idle e = go (m .bus .events) e
+    where
+      go : (n : ℕ) → n ≡ 0 → _≡_ {A = Core} (record { cpu = m .cpu; bus = withEvents (m .bus) n }) (record { cpu = m .cpu; bus = withEvents (m .bus) 0 })
+      go n h = rw h
+
+  stilly : (n : ℕ) → outcome (closed (m .bus) (m .cpu) 0 s l) 0 n 0 ≡ rawCall (world m s l) c → Quietly m c s l (stillPatch (viewOf m) n)
+  unfolding stillPatch viewOf closed
+  stilly n h = go (eqb (m .bus .events) 0) refl
+    where
+      go : (b : Bool) → eqb (m .bus .events) 0 ≡ b → Quietly m c s l (pick b (quiet true false n 0 false) (calmPatch n (m .cpu .flags .«int_level») (m .cpu .flow .«change_of_flow»)))
+      go true e = record { calm = λ f. false-true _ f; idle = λ f. ap (λ (k : Core). outcome (world k s l) 0 n 0) (same-idle (eqb-true (m .bus .events) 0 e)) ∙ h }
+      go false e = calmly n (m .cpu .flags .«int_level») (m .cpu .flow .«change_of_flow») (ap (λ (k : Core). outcome (world k s l) 0 n 0) (same-calm n) ∙ h)
+
+-- the tests of a call that makes no access
+record Silent (x : View) (c : RawCall) (s l : List ℕ) : Type 0 where
+  pub accepts : acceptsOf x (length s) (length l) ≡ true
+  pub silent : isQuiet x c ≡ true
+  pub same : goOf x c s l ≡ ended (quietOf x c) s l
+
+-- f is a mark that neither an entry nor a call that is not taken has
+module _ (f : Patch → Bool) (none : f noPatch ≡ false) (entered : (x : View) (p : Plan) (r : Spot) (j : Landing) (e : ℕ) → f (patchBy x p r j e) ≡ false) where
+  enter-unmarked : (x : View) (p : Plan) (s l : List ℕ) → f (enterOf x p s l .patch) ≡ false
+  unfolding enterOf placeOf landOf writtenOf
+  enter-unmarked x p s l = go (spotOf x (length s) (p .bytes) .ok) (landingOf x s (p .vector) (spotOf x (length s) (p .bytes) .place) (p .bytes) .ok)
+    where
+      go : (i k : Bool) → f (pick i (pick k (writtenOf x p (spotOf x (length s) (p .bytes)) (landingOf x s (p .vector) (spotOf x (length s) (p .bytes) .place) (p .bytes)) (tape s l)) (ended noPatch s l)) (ended noPatch s l) .patch) ≡ false
+      go true true = entered x p _ _ _
+      go true false = none
+      go false k = none
+
+  silent-by : (x : View) (c : RawCall) (s l : List ℕ) → f (goOf x c s l .patch) ≡ true → Silent x c s l
+  unfolding goOf
+  silent-by x c s l e = go (acceptsOf x (length s) (length l)) (isQuiet x c) (eqb (planOf x c .shape) 0) refl refl e
+    where
+      go : (i j k : Bool) → acceptsOf x (length s) (length l) ≡ i → isQuiet x c ≡ j
+          → f (pick i (pick j (ended (quietOf x c) s l) (pick k (ended noPatch s l) (enterOf x (planOf x c) s l))) (ended noPatch s l) .patch) ≡ true → Silent x c s l
+      go false j k g h z = false-true _ (sym none ∙ z)
+      go true true k g h z = record { accepts = g; silent = h; same = rw (g, h) }
+      go true false true g h z = false-true _ (sym none ∙ z)
+      go true false false g h z = false-true _ (sym (enter-unmarked x (planOf x c) s l) ∙ z)
+
+quietly-as : (m : Core) (c : RawCall) (s l : List ℕ) (q r : Patch) → q ≡ r → Quietly m c s l r → Quietly m c s l q
+quietly-as m c s l q r e h = rw e h
+
+module _ (m : Core) (c : RawCall) (s l : List ℕ) (a : Accepted m (length s) (length l)) where
+  -- number 19
+  trace-said : ofPerformed (run (closed (m .bus) (m .cpu) 0 s l) CheckTrace) ≡ outcome (world (calmOf m (calmPatch (bit (asks (viewOf m))) (m .cpu .flags .«int_level») false)) s l) 0 (bit (asks (viewOf m))) 0
+  unfolding run ofPerformed ofTrace flag checkTrace setChangeOfFlow asksTrace closed refusedBy valueOf countOf putCpu calmOf calmPatch asks viewOf
+  trace-said = refl
+
+  quiet19 : c .number ≡ 19 → Quietly m c s l (quietOf (viewOf m) c)
+  unfolding quietOf decode matterOf badCycles viewOf
+  quiet19 h =
+      let n : ℕ = bit (asks (viewOf m)) in
+      quietly-as m c s l (quietOf (viewOf m) c) (calmPatch n (m .cpu .flags .«int_level») false) (rw h)
+      (calmly m c s l n (m .cpu .flags .«int_level») false (sym (raw-run m c s l a CheckTrace (rw h) refl (lit≤ tt) refl ∙ trace-said)))
+
+  -- number 20
+  level-said : ofPerformed (run (closed (m .bus) (m .cpu) 0 s l) (SetIrq (c .a % 256))) ≡ outcome (world (calmOf m (calmPatch 0 (c .a % 8) (m .cpu .flow .«change_of_flow»))) s l) 0 0 0
+  unfolding run ofPerformed plain setIrq closed refusedBy valueOf countOf putCpu calmOf calmPatch
+  level-said = let e : c .a % 256 % 8 ≡ c .a % 8 = omega arith in rw e
+
+  quiet20 : c .number ≡ 20 → Quietly m c s l (quietOf (viewOf m) c)
+  unfolding quietOf decode matterOf badCycles viewOf
+  quiet20 h =
+      quietly-as m c s l (quietOf (viewOf m) c) (calmPatch 0 (c .a % 8) (m .cpu .flow .«change_of_flow»)) (rw h)
+      (calmly m c s l 0 (c .a % 8) (m .cpu .flow .«change_of_flow») (sym (raw-run m c s l a (SetIrq (c .a % 256)) (rw h) refl (lit≤ tt) refl ∙ level-said)))
+
+  -- number 21
+  check-said : ofPerformed (run (closed (m .bus) (m .cpu) 0 s l) CheckInterrupts) ≡ outcome (closed (m .bus) (m .cpu) 0 s l) 0 (bit (checks (viewOf m))) 0
+  unfolding run ofPerformed flag checkInterrupts closed refusedBy valueOf countOf checks viewOf
+  check-said = refl
+
+  quiet21 : c .number ≡ 21 → Quietly m c s l (quietOf (viewOf m) c)
+  unfolding quietOf decode matterOf badCycles
+  quiet21 h =
+      quietly-as m c s l (quietOf (viewOf m) c) (stillPatch (viewOf m) (bit (checks (viewOf m)))) (rw h)
+      (stilly m c s l (bit (checks (viewOf m))) (sym (raw-run m c s l a CheckInterrupts (rw h) refl (lit≤ tt) refl ∙ check-said)))
+
+  -- number 22, not taken
+  none-said : takesInterrupt (m .cpu) ≡ false → ofPerformed (run (closed (m .bus) (m .cpu) 0 s l) CheckAndServiceInterrupts) ≡ outcome (closed (m .bus) (m .cpu) 0 s l) 0 0 0
+  unfolding run ofPerformed ofService flag checkAndService closed refusedBy valueOf countOf
+  none-said e = rw e
+
+  quiet22 : c .number ≡ 22 → takesInterrupt (m .cpu) ≡ false → hasCycles (m .cpu) ≡ true → Quietly m c s l (quietOf (viewOf m) c)
+  unfolding quietOf decode matterOf badCycles
+  quiet22 h e f =
+      quietly-as m c s l (quietOf (viewOf m) c) (stillPatch (viewOf m) 0) (rw h)
+      (stilly m c s l 0 (sym (raw-run m c s l a CheckAndServiceInterrupts (rw h) refl (lit≤ tt) (rw f) ∙ none-said e)))
+
+  silent22 : c .number ≡ 22 → isQuiet (viewOf m) c ≡ true → (takesInterrupt (m .cpu) ≡ false) × (hasCycles (m .cpu) ≡ true)
+  unfolding takesInterrupt pendingLevel maskLevel isQuiet takes viewOf
+  silent22 h e = go (takesInterrupt (m .cpu)) refl (sym z ∙ e)
+    where
+      z : isQuiet (viewOf m) c ≡ pick (takesInterrupt (m .cpu)) false (hasCycles (m .cpu))
+      z = rw h
+
+      go : (b : Bool) → takesInterrupt (m .cpu) ≡ b → pick (takesInterrupt (m .cpu)) false (hasCycles (m .cpu)) ≡ true → (takesInterrupt (m .cpu) ≡ false) × (hasCycles (m .cpu) ≡ true)
+      go true f k = false-true _ (rw f at k)
+      go false f k = (f, rw f at k)
+
+  between : eqb (c .number) 22 ≡ false → isQuiet (viewOf m) c ≡ true → (19 ≤ c .number) × (c .number ≤ 21)
+  unfolding isQuiet
+  between h e = go (leb 19 (c .number)) (leb (c .number) 21) refl refl (sym z ∙ e)
+    where
+      z : isQuiet (viewOf m) c ≡ both (leb 19 (c .number)) (leb (c .number) 21)
+      z = rw h
+
+      go : (i j : Bool) → leb 19 (c .number) ≡ i → leb (c .number) 21 ≡ j → both (leb 19 (c .number)) (leb (c .number) 21) ≡ true → (19 ≤ c .number) × (c .number ≤ 21)
+      go true true f g k = (leb-true 19 (c .number) f, leb-true (c .number) 21 g)
+      go true false f g k = false-true _ (rw (f, g) at k)
+      go false j f g k = false-true _ (rw f at k)
+
+  quietly : isQuiet (viewOf m) c ≡ true → Quietly m c s l (quietOf (viewOf m) c)
+  quietly e =
+      split (c .number) 22 R (λ h. let r = silent22 h e in quiet22 h (r .0) (r .1)) λ n22. split (c .number) 21 R quiet21 λ n21. split (c .number) 20 R quiet20 λ n20.
+      quiet19 (last n22 n21 n20)
+    where
+      R : Type 0
+      R = Quietly m c s l (quietOf (viewOf m) c)
+
+      last : eqb (c .number) 22 ≡ false → eqb (c .number) 21 ≡ false → eqb (c .number) 20 ≡ false → c .number ≡ 19
+      last n22 n21 n20 =
+          let b = between n22 e in
+          let lo : 19 ≤ c .number = b .0 in
+          let hi : c .number ≤ 21 = b .1 in
+          let p : c .number ≡ 21 → ⊥ = eqb-false (c .number) 21 n21 in
+          let q : c .number ≡ 20 → ⊥ = eqb-false (c .number) 20 n20 in
+          omega (arith, p, q)
+
+none-calm : noPatch .calm ≡ false
+unfolding noPatch
+none-calm = refl
+
+none-idle : noPatch .idle ≡ false
+unfolding noPatch
+none-idle = refl
+
+entry-calm : (x : View) (p : Plan) (r : Spot) (j : Landing) (e : ℕ) → patchBy x p r j e .calm ≡ false
+unfolding patchBy
+entry-calm x p r j e = refl
+
+entry-idle : (x : View) (p : Plan) (r : Spot) (j : Landing) (e : ℕ) → patchBy x p r j e .idle ≡ false
+unfolding patchBy
+entry-idle x p r j e = refl
+
+-- NO ACCESS, AND AT MOST LEVEL, CHANGE OF FLOW AND THE NUMBER OF EVENTS CHANGE
+pub calm-same : (m : Core) (c : RawCall) (s l : List ℕ) → goOf (viewOf m) c s l .patch .calm ≡ true
+    → outcome (world (calmOf m (goOf (viewOf m) c s l .patch)) (goOf (viewOf m) c s l .store) (goOf (viewOf m) c s l .log)) 0 (goOf (viewOf m) c s l .patch .answer) (goOf (viewOf m) c s l .patch .events)
+    ≡ rawCall (world m s l) c
+calm-same m c s l e =
+    let g : Silent (viewOf m) c s l = silent-by (λ q. q .calm) none-calm entry-calm (viewOf m) c s l e in
+    let q : Quietly m c s l (quietOf (viewOf m) c) = quietly m c s l (accepted m (length s) (length l) (g .accepts)) (g .silent) in
+    rw (g .same) (q .calm (ap (λ (i : Ended). i .patch .calm) (sym (g .same)) ∙ e))
+
+-- NO ACCESS, AND NOTHING CHANGES
+pub idle-same : (m : Core) (c : RawCall) (s l : List ℕ) → goOf (viewOf m) c s l .patch .idle ≡ true
+    → outcome (world m (goOf (viewOf m) c s l .store) (goOf (viewOf m) c s l .log)) 0 (goOf (viewOf m) c s l .patch .answer) (goOf (viewOf m) c s l .patch .events) ≡ rawCall (world m s l) c
+idle-same m c s l e =
+    let g : Silent (viewOf m) c s l = silent-by (λ q. q .idle) none-idle entry-idle (viewOf m) c s l e in
+    let q : Quietly m c s l (quietOf (viewOf m) c) = quietly m c s l (accepted m (length s) (length l) (g .accepts)) (g .silent) in
+    rw (g .same) (q .idle (ap (λ (i : Ended). i .patch .idle) (sym (g .same)) ∙ e))
