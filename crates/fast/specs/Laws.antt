@@ -18,8 +18,8 @@ use Rattle.fast.specs.declared.places.Spot.{Spot}
 use Rattle.fast.specs.declared.places.Landing.{Landing}
 use Rattle.fast.specs.declared.plans.EntryRow.{EntryRow}
 use Rattle.fast.specs.declared.plans.Plan.{Plan}
-use Rattle.fast.specs.Views.{acceptsOf, spanOf}
-use Rattle.fast.specs.Places.{noSpot, spot, spotOf, topOf, noLanding, landed, landingOf, queuedOf, vectorAt, fetchesOf}
+use Rattle.fast.specs.Views.{acceptsOf, isOther, spanOf}
+use Rattle.fast.specs.Places.{noSpot, spot, spotOf, topOf, noLanding, landed, landingOf, queuedOf, meets, vectorAt, fetchesOf}
 use Rattle.fast.specs.Plans.{noPlan, rowOf, entryPlan, entryOf, isLong, halts, interruptPlan, vectorOf, planOf, bytesOf, Shaped}
 use Rattle.fast.specs.Stacks.{Fits, layCount, clocksCount, waitingOf}
 
@@ -157,3 +157,62 @@ few x p = go (eqb (p .shape) 6) (eqb (p .shape) 2) (eqb (p .shape) 3) (eqb (p .s
     go false false false false true true k l = omega arith
     go false false false false true false k l = omega arith
     go false false false false false h k l = omega arith
+
+-- a jump that was found to an even handler: its second word has an address of 32 bits
+queued-fits : (x : View) (m : List ℕ) (a to s n : ℕ) → x .base + length m ≤ 0x100000000 → queuedOf x m a to s n .ok ≡ true → queuedOf x m a to s n .pc + 2 < 0x100000000
+unfolding queuedOf
+queued-fits x m a to s n b = go (eqb (to % 2) 1) (ltb to (x .base)) (ltb (length m) (to - x .base + 4)) (meets (to - x .base) s n) refl refl
+  where
+    go : (t u v w : Bool) → ltb to (x .base) ≡ u → ltb (length m) (to - x .base + 4) ≡ v
+        → pick t noLanding (pick u noLanding (pick v noLanding (pick w noLanding (landed a to (getWord m (to - x .base)) (getWord m (to - x .base + 2)))))) .ok ≡ true
+        → pick t noLanding (pick u noLanding (pick v noLanding (pick w noLanding (landed a to (getWord m (to - x .base)) (getWord m (to - x .base + 2)))))) .pc + 2 < 0x100000000
+    go true u v w d e h = absurd (clash′ h)
+    go false true v w d e h = absurd (clash′ h)
+    go false false true w d e h = absurd (clash′ h)
+    go false false false true d e h = absurd (clash′ h)
+    go false false false false d e h =
+        let p : x .base ≤ to = ltb-false to (x .base) d in
+        let q : to - x .base + 4 ≤ length m = ltb-false (length m) (to - x .base + 4) e in
+        omega arith
+
+pub landing-fits : (x : View) (m : List ℕ) (v s n : ℕ) → x .base + length m ≤ 0x100000000 → landingOf x m v s n .ok ≡ true → fetchesOf x ≡ true → landingOf x m v s n .pc + 2 < 0x100000000
+unfolding landingOf
+landing-fits x m v s n b = go (ltb (vectorAt x v) (x .base)) (ltb (length m) (vectorAt x v - x .base + 4)) (meets (vectorAt x v - x .base) s n) (fetchesOf x)
+  where
+    go : (t u w f : Bool)
+        → pick t noLanding (pick u noLanding (pick w noLanding (pick f (queuedOf x m (vectorAt x v) (getLong m (vectorAt x v - x .base)) s n) (landed (vectorAt x v) (getLong m (vectorAt x v - x .base)) 0 0)))) .ok ≡ true → f ≡ true
+        → pick t noLanding (pick u noLanding (pick w noLanding (pick f (queuedOf x m (vectorAt x v) (getLong m (vectorAt x v - x .base)) s n) (landed (vectorAt x v) (getLong m (vectorAt x v - x .base)) 0 0)))) .pc + 2 < 0x100000000
+    go true u w f h k = absurd (clash′ h)
+    go false true w f h k = absurd (clash′ h)
+    go false false true f h k = absurd (clash′ h)
+    go false false false true h k = queued-fits x m (vectorAt x v) (getLong m (vectorAt x v - x .base)) s n b h
+    go false false false false h k = absurd (clash′ k)
+
+span-small : (k : ℕ) → spanOf k ≤ 0x100000000
+unfolding spanOf
+span-small k = at (ltb k 3)
+  where
+    at : (t : Bool) → pick t 0x1000000 0x100000000 ≤ 0x100000000
+    at true = omega arith
+    at false = omega arith
+
+-- what was accepted has a log with room and a store below 2^32
+pub accepted-room : (x : View) (stored logged : ℕ) → acceptsOf x stored logged ≡ true → (192 ≤ logged) × (x .base + stored ≤ 0x100000000)
+unfolding acceptsOf
+accepted-room x stored logged = go (isOther (x .flags .«s_flag»)) (not (eqb (x .flags .«m_flag») 0)) (eqb (x .vbr % 2) 1) (x .overridden) (not (eqb (x .windows) 0)) (ltb 65536 stored) (ltb (spanOf (x .kind)) (x .base + stored)) (ltb logged 192) refl refl
+  where
+    go : (a b c d e f g h : Bool) → ltb (spanOf (x .kind)) (x .base + stored) ≡ g → ltb logged 192 ≡ h
+        → pick a false (pick b false (pick c false (pick d false (pick e false (pick f false (pick g false (pick h false (pick (ltb 11 (x .kind)) false (not (eqb (x .«run_mode») 1)))))))))) ≡ true
+        → (192 ≤ logged) × (x .base + stored ≤ 0x100000000)
+    go true b c d e f g h i j k = absurd (clash′ k)
+    go false true c d e f g h i j k = absurd (clash′ k)
+    go false false true d e f g h i j k = absurd (clash′ k)
+    go false false false true e f g h i j k = absurd (clash′ k)
+    go false false false false true f g h i j k = absurd (clash′ k)
+    go false false false false false true g h i j k = absurd (clash′ k)
+    go false false false false false false true h i j k = absurd (clash′ k)
+    go false false false false false false false true i j k = absurd (clash′ k)
+    go false false false false false false false false i j k =
+        let p : x .base + stored ≤ spanOf (x .kind) = ltb-false (spanOf (x .kind)) (x .base + stored) i in
+        let q : spanOf (x .kind) ≤ 0x100000000 = span-small (x .kind) in
+        (ltb-false logged 192 j, omega arith)

@@ -4,10 +4,10 @@ pub mod Plans
 pub mod Stacks
 pub mod Quiet
 pub mod Patches
+pub mod Laws
 pub mod Patched
 pub mod Accepts
 pub mod Supervised
-pub mod Laws
 pub mod Placed
 pub mod Tapes
 pub mod Ways

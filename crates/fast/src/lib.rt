@@ -16,9 +16,11 @@ pub mod stacks; // frames and events written
 
 ghost use mathlib.Core.Path.{_≡_};
 ghost use Prim.Native.Nat.{_+_, _≤_};
+ghost use lib.Dec.{ltb};
 ghost use lib.ListN.{length};
 ghost use Rattle.fast.specs.Views.{spanOf, isOther, acceptsOf};
 ghost use Rattle.fast.specs.Plans.{Shaped};
+ghost use Rattle.fast.specs.Quiet.{quiet};
 ghost use Rattle.fast.specs.Patches.{noPatch, patchBy, enterOf, goOf, ended};
 
 // What the fast way reads of a record and its bus.
@@ -35,7 +37,7 @@ pub struct View {
     pub stopped: u32,
     pub exception: bool,
     pub change_of_flow: bool,
-    pub cycles: i32,
+    pub room: bool,
     pub clocks: u32,
     pub precise: bool,
     pub overridden: bool,
@@ -65,7 +67,7 @@ pub struct Patch {
     pub stopped: u32,
     pub mask: u32,
     pub level: u32,
-    pub cycles: i32,
+    pub serviced: bool,
     pub flow: bool,
 }
 
@@ -79,6 +81,14 @@ fn span(kind: u8) -> usize
     0x100000000
 }
 
+// Whether so many bytes at a base end past the addresses of the kind.
+fn ends_past(kind: u8, base: u32, stored: usize) -> bool
+    requires { ⌜ stored ≤ 65536 ⌝ }
+    ensures { λ r. ⌜ r ≡ ltb (spanOf kind) (base + stored) ⌝ }
+{
+    span(kind) < base as usize + stored
+}
+
 // Whether the fast way takes such a record, store and log: none of the numbers 1, 2, 4 to 7 and 9 refuses the call, M is clear, no window counts,
 // and the record is not faulted.
 fn accepts(x: View, stored: usize, logged: usize) -> bool
@@ -87,16 +97,28 @@ fn accepts(x: View, stored: usize, logged: usize) -> bool
     if is_other(x.flags.s_flag) {
         return false;
     }
-    if x.flags.m_flag != 0 || x.vbr % 2 == 1 {
+    if x.flags.m_flag != 0 {
         return false;
     }
-    if x.overridden || x.windows != 0 {
+    if x.vbr % 2 == 1 {
         return false;
     }
-    if 65536 < stored || span(x.kind) < x.base as usize + stored {
+    if x.overridden {
         return false;
     }
-    if logged < 192 || 11 < x.kind {
+    if x.windows != 0 {
+        return false;
+    }
+    if 65536 < stored {
+        return false;
+    }
+    if ends_past(x.kind, x.base, stored) {
+        return false;
+    }
+    if logged < 192 {
+        return false;
+    }
+    if 11 < x.kind {
         return false;
     }
     x.run_mode != 1
@@ -106,19 +128,22 @@ fn accepts(x: View, stored: usize, logged: usize) -> bool
 fn is_other(s: u32) -> bool
     ensures { λ r. ⌜ r ≡ isOther s ⌝ }
 {
-    s != 0 && s != 4
+    if s == 0 {
+        return false;
+    }
+    s != 4
 }
 
-// The fast way does not take the call.
-pub fn none() -> Patch
-    ensures { λ r. ⌜ r ≡ noPatch ⌝ }
+// A patch of no entry.
+pub(crate) fn quiet_patch(idle: bool, calm: bool, answer: u32, level: u32, flow: bool) -> Patch
+    ensures { λ r. ⌜ r ≡ quiet idle calm answer level flow ⌝ }
 {
     Patch {
-        idle: false,
-        calm: false,
+        idle: idle,
+        calm: calm,
         fast: false,
         fetches: false,
-        answer: 0,
+        answer: answer,
         events: 0,
         user: 0,
         top: 0,
@@ -130,10 +155,17 @@ pub fn none() -> Patch
         vector: 0,
         stopped: 0,
         mask: 0,
-        level: 0,
-        cycles: 0,
-        flow: false,
+        level: level,
+        serviced: false,
+        flow: flow,
     }
+}
+
+// The fast way does not take the call.
+pub fn none() -> Patch
+    ensures { λ r. ⌜ r ≡ noPatch ⌝ }
+{
+    quiet_patch(false, false, 0, 0, false)
 }
 
 // What an entry leaves: its plan p, its frame at s, its jump to l and how many events there are.
@@ -158,7 +190,7 @@ fn patch_by(x: View, p: Plan, s: Spot, l: Landing, events: u32) -> Patch
         stopped: p.stopped,
         mask: p.mask,
         level: p.pending,
-        cycles: p.cycles,
+        serviced: p.serviced,
         flow: x.change_of_flow,
     }
 }

@@ -34,7 +34,7 @@ pub struct Plan {
     pub stopped: u32,
     pub mask: u32,
     pub pending: u32,
-    pub cycles: i32,
+    pub serviced: bool,
 }
 
 fn row(way: u8, vector: u32, rewound: bool) -> EntryRow
@@ -82,7 +82,10 @@ fn row_of(call: RawCall) -> EntryRow
     if n == 14 {
         return row(1, 32 + call.a % 16, false);
     }
-    if n == 15 || n == 16 {
+    if n == 15 {
+        return row(1, 4, true);
+    }
+    if n == 16 {
         return row(1, 4, true);
     }
     row(0, 0, false)
@@ -107,7 +110,7 @@ fn no_plan() -> Plan
         stopped: 0,
         mask: 0,
         pending: 0,
-        cycles: 0,
+        serviced: false,
     }
 }
 
@@ -115,17 +118,26 @@ fn no_plan() -> Plan
 fn cycles(v: u32) -> u32
     ensures { λ r. ⌜ r ≡ exceptionCycles v ⌝ }
 {
-    if v < 2 || v == 6 {
+    if v < 2 {
         return 40;
     }
-    if v == 2 || v == 3 {
+    if v == 6 {
+        return 40;
+    }
+    if v == 2 {
+        return 50;
+    }
+    if v == 3 {
         return 50;
     }
     if v == 5 {
         return 38;
     }
-    if 24 <= v && v <= 31 {
-        return 44;
+    if 24 <= v {
+        if v <= 31 {
+            return 44;
+        }
+        return 34;
     }
     34
 }
@@ -134,10 +146,19 @@ fn cycles(v: u32) -> u32
 fn stacks_next(v: u32) -> bool
     ensures { λ r. ⌜ r ≡ stacksNext v ⌝ }
 {
-    if v == types::ZERO_DIVIDE || v == types::TRAPV || v == types::TRACE {
+    if v == types::ZERO_DIVIDE {
         return true;
     }
-    24 <= v && v <= 47
+    if v == types::TRAPV {
+        return true;
+    }
+    if v == types::TRACE {
+        return true;
+    }
+    if 24 <= v {
+        return v <= 47;
+    }
+    false
 }
 
 fn choose8(b: bool, x: u8, y: u8) -> u8
@@ -176,7 +197,10 @@ fn address(x: View, r: EntryRow) -> u32
 fn halts(x: View, r: EntryRow) -> bool
     ensures { λ b. ⌜ b ≡ halts x r ⌝ }
 {
-    r.way == 1 && x.exception
+    if r.way == 1 {
+        return x.exception;
+    }
+    false
 }
 
 fn entry_plan(x: View, r: EntryRow) -> Plan
@@ -203,7 +227,7 @@ fn entry_plan(x: View, r: EntryRow) -> Plan
         stopped: places::choose(r.way == 3, x.stopped - x.stopped % 2, x.stopped),
         mask: x.flags.int_mask,
         pending: x.flags.int_level,
-        cycles: x.cycles,
+        serviced: false,
     }
 }
 
@@ -266,7 +290,7 @@ fn interrupt_plan(x: View) -> Plan
         stopped: 0,
         mask: level * 256,
         pending: 0,
-        cycles: pending::interrupts::less_cycles(x.cycles, ten),
+        serviced: true,
     }
 }
 
@@ -275,7 +299,7 @@ pub(crate) fn plan_of(x: View, call: RawCall) -> Plan
     ensures { λ p. ⌜ p ≡ planOf x call ⌝ }
 {
     if call.number == 22 {
-        if pending::interrupts::has_room(x.cycles) {
+        if x.room {
             return interrupt_plan(x);
         }
         return no_plan();

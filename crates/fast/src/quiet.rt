@@ -14,21 +14,19 @@ pub(crate) fn is_quiet(x: View, call: RawCall) -> bool
         if plans::takes(x) {
             return false;
         }
-        return pending::interrupts::has_room(x.cycles);
+        return x.room;
     }
-    19 <= call.number && call.number <= 21
+    if 19 <= call.number {
+        return call.number <= 21;
+    }
+    false
 }
 
 // At most the level and the change of flow change.
 fn calm(answer: u32, level: u32, flow: bool) -> Patch
     ensures { λ r. ⌜ r ≡ calmPatch answer level flow ⌝ }
 {
-    let mut p = crate::none();
-    p.calm = true;
-    p.answer = answer;
-    p.level = level;
-    p.flow = flow;
-    p
+    crate::quiet_patch(false, true, answer, level, flow)
 }
 
 // Nothing changes, but that the events of an earlier call are forgotten.
@@ -36,10 +34,7 @@ fn still(x: View, answer: u32) -> Patch
     ensures { λ r. ⌜ r ≡ stillPatch x answer ⌝ }
 {
     if x.events == 0 {
-        let mut p = crate::none();
-        p.idle = true;
-        p.answer = answer;
-        return p;
+        return crate::quiet_patch(true, false, answer, 0, false);
     }
     calm(answer, x.flags.int_level, x.change_of_flow)
 }

@@ -6,6 +6,7 @@ use crate::places::Landing;
 use crate::places::Spot;
 use crate::plans::Plan;
 ghost use mathlib.Core.Path.{_≡_};
+ghost use mathlib.Core.Bool.{true};
 ghost use Prim.Native.Nat.{_+_, _<_, _≤_};
 ghost use lib.ListN.{length};
 ghost use Rattle.types.specs.Kinds.{pick};
@@ -143,7 +144,7 @@ pub(crate) fn lay(x: View, store: &mut [u8], log: &mut [u32], s: Spot, p: Plan) 
 
 // The events of the jump, from event n on; how many there are then.
 pub(crate) fn tell_jump(log: &mut [u32], n: u32, l: Landing, fetched: bool) -> u32
-    requires { ⌜ (n + 5 ≤ 64) × (l .pc + 2 < 0x100000000) × (192 ≤ length (now log)) ⌝ }
+    requires { ⌜ (n + 5 ≤ 64) × (fetched ≡ true → l .pc + 2 < 0x100000000) × (192 ≤ length (now log)) ⌝ }
     ensures { λ r. ⌜ (r ≡ jumpCount n fetched) × (now (log .exit) ≡ jumpAt n l fetched (now (log .entry))) ⌝ }
 {
     bytes::event(log, n, 7, 0, 0);

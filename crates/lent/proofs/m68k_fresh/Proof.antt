@@ -1,12 +1,12 @@
 use mathlib.Core.Path.{_≡_, refl}
-use Rattle.lent.specs.Lent.{lentFresh}
+use Rattle.attempts.specs.Lent.{lentFresh}
 use borrow.Author.Needs.{needs}
 use Rattle.lent.proofs.m68k_fresh.Statement.{statement}
 use Rattle.lent.proofs.m68k_fresh.Tie as tie
 use Rattle.lent.proofs.m68k_fresh.Reads as reads
 use Rattle.lent.proofs.m68k_fresh.Lts as lts
 use Rattle.cpu.proofs.fresh.fresh.Reads as fresh-reads
-use Rattle.lent.proofs.lower.cpu.Reads as cpu-reads
+use Rattle.records.proofs.lower.cpu.Reads as cpu-reads
 
 fresh-requires : tie.Need-fresh-requires
 fresh-requires c κs = search needs

@@ -3,6 +3,7 @@ use native.Mathlib.Omega.{arith}
 use lib.ListN.{length-set}
 use borrow.Author.Tests.{lt-ltb, le-ltb, le-leb, lt-leb, eq-eqb, ne-eqb}
 use Rattle.memory.specs.Bytes.{putLong}
+use Rattle.fast.proofs.Writes.{put-long-way}
 use borrow.Author.Needs.{needs}
 use Rattle.fast.proofs.bytes.put_long.Statement.{statement}
 use Rattle.fast.proofs.bytes.put_long.Tie as tie
@@ -10,17 +11,11 @@ use Rattle.fast.proofs.bytes.put_long.Reads as reads
 use Rattle.fast.proofs.bytes.put_long.Lts as lts
 use Rattle.fast.proofs.bytes.put_word.Reads as put-word-reads
 
-cast-put-word : tie.Need-cast-put-word
-cast-put-word c = search needs
-
 put-word-requires : tie.Need-put-word-requires
 put-word-requires c κs = search needs
 
 add-put-word : tie.Need-add-put-word
 add-put-word c = search needs
-
-cast-put-word-2 : tie.Need-cast-put-word-2
-cast-put-word-2 c = search needs
 
 put-word-requires-2 : tie.Need-put-word-requires-2
 put-word-requires-2 c κs = search needs
@@ -29,17 +24,14 @@ same-length : tie.Need-same-length
 same-length c = search needs
 
 returns : tie.Need-returns
-unfolding putLong
-returns c = cc (c .before .before .before .before .before .before .put-word .ensures, c .before .before .put-word2 .ensures)
+returns c = put-long-way _ _ _ _ _ (c .before .before .before .before .before .before .put-word .ensures) (c .before .before .put-word2 .ensures)
 
 pub put-long-spec : {M : Type 1} → statement M
 put-long-spec =
     tie.close
     (tie.spec
-    cast-put-word
     put-word-requires
     add-put-word
-    cast-put-word-2
     put-word-requires-2
     same-length
     returns)

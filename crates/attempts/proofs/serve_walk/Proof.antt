@@ -1,0 +1,25 @@
+use mathlib.Core.Path.{_≡_, refl}
+use Rattle.attempts.specs.Lent.{lentWalk}
+use borrow.Author.Needs.{needs}
+use Rattle.attempts.proofs.serve_walk.Statement.{statement}
+use Rattle.attempts.proofs.serve_walk.Tie as tie
+use Rattle.attempts.proofs.serve_walk.Reads as reads
+use Rattle.attempts.proofs.serve_walk.Lts as lts
+use Rattle.records.proofs.raise.core.Reads as core-reads
+use Rattle.unwind.proofs.walk.Reads as walk-reads
+
+core-requires : tie.Need-core-requires
+core-requires c κs = search needs
+
+walk-requires : tie.Need-walk-requires
+walk-requires c κs = search needs
+
+same-length : tie.Need-same-length
+same-length c = search needs
+
+returns : tie.Need-returns
+unfolding lentWalk
+returns c = cc
+
+pub serve-walk-spec : {M : Type 1} → statement M
+serve-walk-spec = tie.close (tie.spec core-requires walk-requires same-length returns)

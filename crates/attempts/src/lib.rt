@@ -1,0 +1,218 @@
+// The calls over a lent record by value: the plain way of each, and the fast way that is tried first. What is tried tests everything and then
+// writes, or touches nothing; its patch is laid into the lent record by the exported call. It uses `fast`, `fast_return`, `boundary`, `unwind`, `records`
+// and `status`; `lent` exports the calls.
+use boundary::RawCall;
+use cpu::Cpu;
+use memory::Core;
+use records::LentCore;
+use records::LentCpu;
+use unwind::returns::Row;
+use unwind::returns::Walked;
+ghost use mathlib.Core.Path.{_≡_};
+ghost use Rattle.unwind.specs.Returns.{walk};
+ghost use Rattle.attempts.specs.Lent.{left, recordAfter, lentCall, servedReturn, lentReturn, lentWalk, lentSr, setSr, servedStatus, lentSetSr};
+ghost use Rattle.attempts.specs.Attempts.{calmedBy, patchedBy, Tried, restoredBy, TriedReturn};
+
+// What a call says. `refused` is 0, the number of the refusal, or 99 where the number names no call.
+#[repr(C)]
+pub struct Said {
+    pub refused: u32,
+    pub answer: u32,
+    pub events: u32,
+}
+
+// What a return says: 0 and its row, or the number of the refusal and a row of zeros.
+#[repr(C)]
+pub struct SaidReturn {
+    pub refused: u32,
+    pub row: Row,
+}
+
+// What the functions by value hand back: the lent record after a call, and what the call says.
+pub struct Served {
+    pub said: Said,
+    pub core: LentCore,
+}
+
+// What a fast entry leaves of the record.
+pub struct Patch {
+    pub a7: u32,
+    pub pc: u32,
+}
+
+// What an attempt hands back: whether it did the call, in one of two ways, and then what the call says and the patch of the record.
+pub struct Attempted {
+    pub said: Said,
+    pub calm: bool,
+    pub fast: bool,
+    pub patch: Patch,
+}
+
+pub struct ServedReturn {
+    pub said: SaidReturn,
+    pub core: LentCore,
+}
+
+// The same of a return, in one way.
+pub struct AttemptedReturn {
+    pub said: SaidReturn,
+    pub ok: bool,
+    pub patch: Patch,
+}
+
+pub struct ServedStatus {
+    pub status: u32,
+    pub cpu: LentCpu,
+}
+
+// The lent record after a call that was refused by n, every byte as it came, or that left the record m, its flags as 0 and 1.
+fn record_after(c: LentCore, n: u32, m: Core) -> LentCore
+    ensures { λ r. ⌜ r ≡ recordAfter c n m ⌝ }
+{
+    if n == 0 {
+        return records::lower::core(m);
+    }
+    c
+}
+
+// The call on a lent record by value.
+pub fn serve(c: LentCore, call: RawCall, store: &mut [u8], log: &mut [u32]) -> Served
+    ensures { λ r. ⌜ left (r .core) (now (store .exit)) (now (log .exit)) (r .said) ≡ lentCall c (now (store .entry)) (now (log .entry)) call ⌝ }
+{
+    let m = records::raise::core(c);
+    let x = boundary::raw_call(m, store, log, call);
+    let d = record_after(c, x.refused, x.core);
+    Served {
+        said: Said {
+            refused: x.refused,
+            answer: x.answer,
+            events: x.events,
+        },
+        core: d,
+    }
+}
+
+// The call by a fast way: it does all but the patch, or it leaves store and log alone and says so.
+pub fn attempt(c: LentCore, call: RawCall, store: &mut [u8], log: &mut [u32]) -> Attempted
+    ensures { λ r. ⌜ Tried c call (now (store .entry)) (now (log .entry)) r (now (store .exit)) (now (log .exit)) ⌝ }
+{
+    let s = Said {
+        refused: 0,
+        answer: 0,
+        events: 0,
+    };
+    let p = Patch { a7: 0, pc: 0 };
+    Attempted {
+        said: s,
+        calm: false,
+        fast: false,
+        patch: p,
+    }
+}
+
+// The lent record after an attempt that was calm.
+pub fn calmed(d: LentCore, x: Attempted) -> LentCore
+    ensures { λ r. ⌜ r ≡ calmedBy d x ⌝ }
+{
+    let m = records::raise::core(d);
+    let q = x.patch;
+    let c = cpu::fields::set_pc(m.cpu, q.pc);
+    let n = memory::with_cpu(m, c);
+    records::lower::core(n)
+}
+
+// The lent record after an attempt that was fast.
+pub fn patched(d: LentCore, x: Attempted) -> LentCore
+    ensures { λ r. ⌜ r ≡ patchedBy d x ⌝ }
+{
+    let m = records::raise::core(d);
+    let q = x.patch;
+    let c = cpu::fields::set_a7(m.cpu, q.a7);
+    let e = cpu::fields::set_pc(c, q.pc);
+    let n = memory::with_cpu(m, e);
+    records::lower::core(n)
+}
+
+// The return on a lent record by value.
+pub fn serve_return(c: LentCore, store: &[u8]) -> ServedReturn
+    ensures { λ r. ⌜ servedReturn (r .core) (r .said) ≡ lentReturn c (now (store .entry)) ⌝ }
+{
+    let m = records::raise::core(c);
+    let x = unwind::return_from(m, store);
+    let d = record_after(c, x.refused, x.core);
+    let w = x.row;
+    ServedReturn {
+        said: SaidReturn {
+            refused: x.refused,
+            row: w,
+        },
+        core: d,
+    }
+}
+
+// The return by a fast way, or no return.
+pub fn attempt_return(c: LentCore, store: &[u8]) -> AttemptedReturn
+    ensures { λ r. ⌜ TriedReturn c (now (store .entry)) r ⌝ }
+{
+    let w = Row {
+        format: 0,
+        status: 0,
+        address: 0,
+        offset: 0,
+    };
+    let s = SaidReturn { refused: 0, row: w };
+    let p = Patch { a7: 0, pc: 0 };
+    AttemptedReturn {
+        said: s,
+        ok: false,
+        patch: p,
+    }
+}
+
+// The lent record after it.
+pub fn restored(d: LentCore, x: AttemptedReturn) -> LentCore
+    ensures { λ r. ⌜ r ≡ restoredBy d x ⌝ }
+{
+    let m = records::raise::core(d);
+    let q = x.patch;
+    let c = cpu::fields::set_pc(m.cpu, q.pc);
+    let n = memory::with_cpu(m, c);
+    records::lower::core(n)
+}
+
+// The walk on a lent record by value.
+pub fn serve_walk(c: LentCore, n: u32, store: &[u8], rows: &mut [u32]) -> Walked
+    ensures { λ r. ⌜ walk (r .refused) (r .count) (now (rows .exit)) ≡ lentWalk c (now (store .entry)) n (now (rows .entry)) ⌝ }
+{
+    let m = records::raise::core(c);
+    unwind::walk(m, store, n, rows)
+}
+
+// The status register of a lent record by value.
+pub fn serve_sr(c: LentCpu) -> u32
+    ensures { λ r. ⌜ r ≡ lentSr c ⌝ }
+{
+    let d = records::raise::cpu(c);
+    status::get_sr(d) as u32
+}
+
+fn set_sr(c: Cpu, sr: u16) -> Cpu
+    ensures { λ r. ⌜ r ≡ setSr c sr ⌝ }
+{
+    let kept = status::banks::backup_sp(c);
+    let moved = status::set_sr_noint_nosp(kept, sr);
+    status::banks::restore_sp(moved)
+}
+
+// The status register set, on a lent record by value.
+pub fn serve_set_sr(c: LentCpu, sr: u16) -> ServedStatus
+    ensures { λ r. ⌜ servedStatus (r .cpu) (r .status) ≡ lentSetSr c sr ⌝ }
+{
+    let d = records::raise::cpu(c);
+    let e = set_sr(d, sr);
+    let f = records::lower::cpu(e);
+    ServedStatus {
+        status: status::get_sr(e) as u32,
+        cpu: f,
+    }
+}

@@ -1,3 +1,0 @@
-pub mod Records
-pub mod Lent
-pub mod Laws
