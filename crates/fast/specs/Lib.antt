@@ -5,3 +5,13 @@ pub mod Stacks
 pub mod Quiet
 pub mod Patches
 pub mod Laws
+pub mod Patched
+pub mod Accepts
+pub mod Supervised
+pub mod Placed
+pub mod Tapes
+pub mod Ways
+pub mod Taken
+pub mod Grouped
+pub mod Interrupted
+pub mod Matched
