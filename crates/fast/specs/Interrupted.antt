@@ -37,7 +37,7 @@ use Rattle.fast.specs.Views.{viewOf}
 use Rattle.fast.specs.Places.{fetchesOf, topOf, userOf, spot, spotOf, vectorAt, landingOf}
 use Rattle.fast.specs.Patches.{noPatch, patchBy, Ended, ended, writtenOf, landOf, placeOf, enterOf, goOf}
 use Rattle.fast.specs.Laws.{compose-fits}
-use Rattle.fast.specs.Patched.{patchCpu, patchOf, Words, Bytes}
+use Rattle.fast.specs.Patched.{patchCpu, patchOf, Words, Fetched}
 use Rattle.fast.specs.Accepts.{false-true, Accepted}
 use Rattle.fast.specs.Placed.{Spotted, spotted, handlerOf, Landed, landed-by, enters}
 use Rattle.status.specs.Status.{compose, getSr, mIsSet}
@@ -54,7 +54,7 @@ use Rattle.fast.specs.Plans.{takes, responseTo, vectorOf, interruptPlan}
 use Rattle.fast.specs.Stacks.{Tape, tape, wordAt, longAt, eventAt, shortAt, threeAt, fourAt, oldAt, oldFrom, syncAt, syncCount, waitingOf, clocksCount, clocksAt, layAt, layCount, jumpAt, jumpCount}
 use Rattle.fast.specs.Supervised.{topAt, userAt, Clear, Fitting, Interrupting, interrupt-patched}
 use Rattle.fast.specs.Tapes.{clocks-told, clocks-counted, jump-told, jump-counted, Laid, short-laid}
-use Rattle.fast.specs.Ways.{placeAt, spotFor, landingFor, Entered, entered-by, Says, same-world, clear-of, entering-of, fitting-of}
+use Rattle.fast.specs.Ways.{fetched-in, placeAt, spotFor, landingFor, Entered, entered-by, Says, same-world, clear-of, entering-of, fitting-of}
 
 served-said : (b : Bus) (c : Cpu) (e : ℕ) (s l : List ℕ) → ofPerformed (ofService (tried (closed b c e s l) true)) ≡ outcome (closed b c e s l) 0 1 e
 unfolding ofPerformed ofService flag closed refusedBy valueOf countOf
@@ -290,7 +290,7 @@ no-master : (c : Cpu) → c .flags .«m_flag» ≡ 0 → mIsSet c ≡ false
 unfolding mIsSet
 no-master c e = rw e
 
-module _ (m : Core) (s l : List ℕ) (w : Words m) (bs : Bytes s) (a : Accepted m (length s) (length l)) (c : RawCall) (takes : takesInterrupt (m .cpu) ≡ true)
+module _ (m : Core) (s l : List ℕ) (w : Words m) (a : Accepted m (length s) (length l)) (c : RawCall) (bs : Fetched (goOf (viewOf m) c s l .patch)) (takes : takesInterrupt (m .cpu) ≡ true)
   (e : goOf (viewOf m) c s l ≡ enterOf (viewOf m) (interruptPlan (viewOf m)) s l) (f : enterOf (viewOf m) (interruptPlan (viewOf m)) s l .patch .fast ≡ true)
   (r : rawCall (world m s l) c ≡ ofPerformed (ofService (checkAndService (closed (m .bus) (m .cpu) 0 s l)))) where
   abbrev p : Plan
@@ -307,7 +307,7 @@ module _ (m : Core) (s l : List ℕ) (w : Words m) (bs : Bytes s) (a : Accepted 
   plan-vector = refl
 
   entered : Entered (viewOf m) p s l
-  entered = entered-by (viewOf m) p s l bs f
+  entered = entered-by (viewOf m) p s l (fetched-in (goOf (viewOf m) c s l) (enterOf (viewOf m) p s l) e bs) f
 
   abbrev patch : Patch
   patch = patchBy (viewOf m) p (spotFor (viewOf m) p) (landingFor (viewOf m) p s) (jumpCount (layCount (viewOf m) p) (fetchesOf (viewOf m)))

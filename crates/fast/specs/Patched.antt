@@ -63,6 +63,6 @@ pub record Words (m : Core) : Type 0 where
   pub ppc : m .cpu .flow .ppc < 2 ^ 32
   pub clocks : m .cpu .queue .«pending_sync_clocks» < 2 ^ 32
 
--- every member of a store is a byte
-abbrev pub Bytes : List ℕ → Type 0
-Bytes s = (i : ℕ) → getD s i 0 < 256
+-- the two words of the queue are words
+abbrev pub Fetched : Patch → Type 0
+Fetched q = (q .first < 0x10000) × (q .second < 0x10000)
