@@ -148,9 +148,9 @@ module _ (m : Core) (s l : List ℕ) (w : Words m) (a : Accepted m (length s) (l
   -- d is the record before supervisor state, k the clocks that are told
   group-same : (d : Cpu) (k : ℕ) → waitingOf (viewOf m) (p .clocks) ≡ k
       → (let x : View = viewOf m in let j : Landing = landingFor x p s in let q : Patch = patchBy x p (spotFor x p) j (jumpCount (layCount x p) (fetchesOf x)) in
-         jumped (q .fetches) (setWdata (setA7 (setClocks (enterSupervisor d) 0) (q .a7)) (q .last)) (q .vector) (q .pc) (q .first) (q .second) ≡ patchCpu (m .cpu) q)
+      jumped (q .fetches) (setWdata (setA7 (setClocks (enterSupervisor d) 0) (q .a7)) (q .last)) (q .vector) (q .pc) (q .first) (q .second) ≡ patchCpu (m .cpu) q)
       → (let x : View = viewOf m in let j : Landing = landingFor x p s in
-         rawCall (world m s l) c ≡ ofPerformed (ofEntry (entry (arrived (m .bus) (enterSupervisor d) k 0 s l (topOf x - p .bytes) (group2Of (kindOf (m .cpu)) (getSr (m .cpu)) (pcOf (m .cpu)) (ppcOf (m .cpu)) v) (prefetchEnabled (m .cpu)) v (j .from) (j .pc) (j .pc) (j .first) (j .second)) (exceptionCycles v))))
+      rawCall (world m s l) c ≡ ofPerformed (ofEntry (entry (arrived (m .bus) (enterSupervisor d) k 0 s l (topOf x - p .bytes) (group2Of (kindOf (m .cpu)) (getSr (m .cpu)) (pcOf (m .cpu)) (ppcOf (m .cpu)) v) (prefetchEnabled (m .cpu)) v (j .from) (j .pc) (j .pc) (j .first) (j .second)) (exceptionCycles v))))
       → Says m c s l (goOf (viewOf m) c s l)
   unfolding arrived viewOf fetchesOf prefetchEnabled patchBy
   group-same d k z u r =

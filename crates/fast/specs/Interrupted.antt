@@ -166,17 +166,17 @@ module _ (m : Core) (s l : List ℕ) (p : Plan) where
       record {
         store = ap (λ (u : Tape). u .store) z ∙ g .store;
         log =
-          jump-told (layCount x p) j f (layAt x (spotFor x p) p (tape s l) .log)
-          ∙ ap (λ (u : List ℕ). told (layCount x p) u (jumpEvents f (j .from) (j .pc) (j .pc) (j .first) (j .second)))
-          (ap (λ (u : Tape). u .log) z ∙ g .log ∙ ap (λ (u : List ℕ). told (clocksCount 1 k) u (writesOf q ps)) (clocks-told 1 k acked))
-          ∙ sym (entry-log 1 acked k q ps f (j .from) (j .pc) (j .pc) (j .first) (j .second) (clocksCount 1 k) (layCount x p) (clocks-counted 1 k) c)
-          ∙ ap (λ (u : ℕ). told 1 acked (entryEvents u q ps f (j .from) (j .pc) (j .pc) (j .first) (j .second))) e
-          ∙ sym (other-log (m .bus) (m .cpu) 0 l q ps f (j .from) (j .pc) (j .pc) (j .first) (j .second));
+            jump-told (layCount x p) j f (layAt x (spotFor x p) p (tape s l) .log)
+            ∙ ap (λ (u : List ℕ). told (layCount x p) u (jumpEvents f (j .from) (j .pc) (j .pc) (j .first) (j .second)))
+            (ap (λ (u : Tape). u .log) z ∙ g .log ∙ ap (λ (u : List ℕ). told (clocksCount 1 k) u (writesOf q ps)) (clocks-told 1 k acked))
+            ∙ sym (entry-log 1 acked k q ps f (j .from) (j .pc) (j .pc) (j .first) (j .second) (clocksCount 1 k) (layCount x p) (clocks-counted 1 k) c)
+            ∙ ap (λ (u : ℕ). told 1 acked (entryEvents u q ps f (j .from) (j .pc) (j .pc) (j .first) (j .second))) e
+            ∙ sym (other-log (m .bus) (m .cpu) 0 l q ps f (j .from) (j .pc) (j .pc) (j .first) (j .second));
         count =
-          let i = clocks-counted 1 k in
-          let o = clocks-count k in
-          let r = entry-count 0 l (clocksOf (m .cpu)) q ps f (j .from) (j .pc) (j .pc) (j .first) (j .second) in
-          jump-counted (layCount x p) f ∙ rw (other-count (m .bus) (m .cpu) 0 l q ps f (j .from) (j .pc) (j .pc) (j .first) (j .second), r, ← e, c, i, o) (omega arith);
+            let i = clocks-counted 1 k in
+            let o = clocks-count k in
+            let r = entry-count 0 l (clocksOf (m .cpu)) q ps f (j .from) (j .pc) (j .pc) (j .first) (j .second) in
+            jump-counted (layCount x p) f ∙ rw (other-count (m .bus) (m .cpu) 0 l q ps f (j .from) (j .pc) (j .pc) (j .first) (j .second), r, ← e, c, i, o) (omega arith);
       }
 
   -- ---- kind 2
@@ -203,14 +203,14 @@ module _ (m : Core) (s l : List ℕ) (p : Plan) where
       record {
         store = ap (λ (u : Tape). u .store) z ∙ four-put (spotFor x p) n p t (h .status-fits) (h .address-fits) (h .format-fits);
         log =
-          jump-told (layCount x p) j f (layAt x (spotFor x p) p (tape s l) .log)
-          ∙ ap (λ (u : List ℕ). told (layCount x p) u (jumpEvents f (j .from) (j .pc) (j .pc) (j .first) (j .second)))
-          (ap (λ (u : Tape). u .log) z ∙ four-told (spotFor x p) n p t (h .status-fits) (h .address-fits)
-          ∙ rw (h .leveled, h .responded, clocks-told 0 k l, e))
-          ∙ sym (log68010 (m .bus) (m .cpu) 0 l q ps f (j .from) (j .pc) (j .pc) (j .first) (j .second) n (layCount x p) o (c ∙ omega arith));
+            jump-told (layCount x p) j f (layAt x (spotFor x p) p (tape s l) .log)
+            ∙ ap (λ (u : List ℕ). told (layCount x p) u (jumpEvents f (j .from) (j .pc) (j .pc) (j .first) (j .second)))
+            (ap (λ (u : Tape). u .log) z ∙ four-told (spotFor x p) n p t (h .status-fits) (h .address-fits)
+            ∙ rw (h .leveled, h .responded, clocks-told 0 k l, e))
+            ∙ sym (log68010 (m .bus) (m .cpu) 0 l q ps f (j .from) (j .pc) (j .pc) (j .first) (j .second) n (layCount x p) o (c ∙ omega arith));
         count =
-          let i = clocks-count (clocksAfter (m .cpu) 12) in
-          jump-counted (layCount x p) f ∙ rw (count68010 (m .bus) (m .cpu) 0 l q ps f (j .from) (j .pc) (j .pc) (j .first) (j .second), c, o, i) (omega arith);
+            let i = clocks-count (clocksAfter (m .cpu) 12) in
+            jump-counted (layCount x p) f ∙ rw (count68010 (m .bus) (m .cpu) 0 l q ps f (j .from) (j .pc) (j .pc) (j .first) (j .second), c, o, i) (omega arith);
       }
 
   -- ---- kind 1
@@ -249,12 +249,12 @@ module _ (m : Core) (s l : List ℕ) (p : Plan) where
       record {
         store = ap (λ (u : Tape). u .store) z ∙ old-put (spotFor x p) n p t (h .status-fits) (h .address-fits) f;
         log =
-          jump-told (layCount x p) j f (layAt x (spotFor x p) p (tape s l) .log)
-          ∙ ap (λ (u : Tape). told (layCount x p) (u .log) (jumpEvents f (j .from) (j .pc) (j .pc) (j .first) (j .second))) z
-          ∙ old-log h e f (layCount x p) c;
+            jump-told (layCount x p) j f (layAt x (spotFor x p) p (tape s l) .log)
+            ∙ ap (λ (u : Tape). told (layCount x p) (u .log) (jumpEvents f (j .from) (j .pc) (j .pc) (j .first) (j .second))) z
+            ∙ old-log h e f (layCount x p) c;
         count =
-          let i = clocks-count (clocksAfter (m .cpu) 6) in
-          jump-counted (layCount x p) f ∙ rw (count68000 (m .bus) (m .cpu) q (p .sr) (p .pc) f (j .from) (j .pc) (j .pc) (j .first) (j .second), c) (sum f n (pick (ltb 0 (clocksAfter (m .cpu) 6)) 1 0) (o ∙ rw i (omega arith)));
+            let i = clocks-count (clocksAfter (m .cpu) 6) in
+            jump-counted (layCount x p) f ∙ rw (count68000 (m .bus) (m .cpu) q (p .sr) (p .pc) f (j .from) (j .pc) (j .pc) (j .first) (j .second), c) (sum f n (pick (ltb 0 (clocksAfter (m .cpu) 6)) 1 0) (o ∙ rw i (omega arith)));
       }
     where
       sum : (f : Bool) (n i : ℕ) → n ≡ i → pick f (n + 6) (n + 4) + pick f 5 2 ≡ 0 + (i + pick f 11 6)
@@ -272,8 +272,8 @@ unfolding mIsSet
 no-master c e = rw e
 
 module _ (m : Core) (s l : List ℕ) (w : Words m) (bs : Bytes s) (a : Accepted m (length s) (length l)) (c : RawCall) (takes : takesInterrupt (m .cpu) ≡ true)
-  (e : goOf (viewOf m) c s l ≡ enterOf (viewOf m) (interruptPlan (viewOf m)) s l) (f : enterOf (viewOf m) (interruptPlan (viewOf m)) s l .patch .fast ≡ true)
-  (r : rawCall (world m s l) c ≡ ofPerformed (ofService (checkAndService (closed (m .bus) (m .cpu) 0 s l)))) where
+    (e : goOf (viewOf m) c s l ≡ enterOf (viewOf m) (interruptPlan (viewOf m)) s l) (f : enterOf (viewOf m) (interruptPlan (viewOf m)) s l .patch .fast ≡ true)
+    (r : rawCall (world m s l) c ≡ ofPerformed (ofService (checkAndService (closed (m .bus) (m .cpu) 0 s l)))) where
   abbrev p : Plan
   p = interruptPlan (viewOf m)
 

@@ -232,7 +232,7 @@ enters m s logged n v w a u p g h =
       landing = rw (supervisor-fetches c, supervisor-kind c, supervisor-vbr c) landing;
       vector-apart = apart-law (e - base) (q - base) n (h .apart) base q e (let z = g .low in omega arith) (let z = h .low in omega arith);
       queue-apart = rw (supervisor-fetches c)
-        (λ (i : prefetchEnabled c ≡ true). let k = h .queue (fetches-same m ∙ i) in apart-law (to - base) (q - base) n (k .apart) base q to (let z = g .low in omega arith) (let z = k .low in omega arith));
+          (λ (i : prefetchEnabled c ≡ true). let k = h .queue (fetches-same m ∙ i) in apart-law (to - base) (q - base) n (k .apart) base q to (let z = g .low in omega arith) (let z = k .low in omega arith));
     }
   where
     c : Cpu

@@ -103,8 +103,8 @@ module _ (m : Core) (s l : List ℕ) (w : Words m) (bs : Bytes s) (a : Accepted 
 
   take-cpu : (v : ℕ) (b : Bool) → v < 256 → (g : Entered (viewOf m) (way1 v b) s l)
       → (let x : View = viewOf m in let p : Plan = way1 v b in let j : Landing = landingFor x p s in
-         jumped (prefetchEnabled (m .cpu)) (setWdata (setA7 (setClocks (enterSupervisor (m .cpu)) 0) (topOf x - p .bytes)) (lastValue (shortOf (kindOf (m .cpu)) (getSr (m .cpu)) (addressOf x (row 1 v b)) (offsetWord v)))) v (j .pc) (j .first) (j .second)
-         ≡ patchCpu (m .cpu) (patchBy x p (spotFor x p) j (jumpCount (layCount x p) (fetchesOf x))))
+      jumped (prefetchEnabled (m .cpu)) (setWdata (setA7 (setClocks (enterSupervisor (m .cpu)) 0) (topOf x - p .bytes)) (lastValue (shortOf (kindOf (m .cpu)) (getSr (m .cpu)) (addressOf x (row 1 v b)) (offsetWord v)))) v (j .pc) (j .first) (j .second)
+      ≡ patchCpu (m .cpu) (patchBy x p (spotFor x p) j (jumpCount (layCount x p) (fetchesOf x))))
   unfolding fetchesOf viewOf prefetchEnabled patchBy entryPlan
   take-cpu v b h g =
       let x : View = viewOf m in
@@ -137,7 +137,7 @@ module _ (m : Core) (s l : List ℕ) (w : Words m) (bs : Bytes s) (a : Accepted 
 
   short-same : (c : RawCall) (v : ℕ) (b : Bool) → v < 256 → goOf (viewOf m) c s l ≡ enterOf (viewOf m) (way1 v b) s l → Entered (viewOf m) (way1 v b) s l
       → (let x : View = viewOf m in let p : Plan = way1 v b in let j : Landing = landingFor x p s in
-         rawCall (world m s l) c ≡ ofPerformed (ofEntry (entry (arrived (m .bus) (enterSupervisor (m .cpu)) (clocksAfter (m .cpu) 4) 0 s l (topOf x - p .bytes) (shortOf (kindOf (m .cpu)) (getSr (m .cpu)) (addressOf x (row 1 v b)) (offsetWord v)) (prefetchEnabled (m .cpu)) v (j .from) (j .pc) (j .pc) (j .first) (j .second)) (exceptionCycles v))))
+      rawCall (world m s l) c ≡ ofPerformed (ofEntry (entry (arrived (m .bus) (enterSupervisor (m .cpu)) (clocksAfter (m .cpu) 4) 0 s l (topOf x - p .bytes) (shortOf (kindOf (m .cpu)) (getSr (m .cpu)) (addressOf x (row 1 v b)) (offsetWord v)) (prefetchEnabled (m .cpu)) v (j .from) (j .pc) (j .pc) (j .first) (j .second)) (exceptionCycles v))))
       → Says m c s l (goOf (viewOf m) c s l)
   unfolding arrived entryPlan viewOf waitingOf clocksAfter fetchesOf prefetchEnabled clocksOf
   short-same c v b h e g r =

@@ -104,8 +104,8 @@ pub said : (m : Core) (c : RawCall) (s l : List ℕ) (p : Plan) (g : Ended) (ps 
     → d ≡ patchCpu (m .cpu) (patchBy (viewOf m) p (spotFor (viewOf m) p) (landingFor (viewOf m) p s) (jumpCount (layCount (viewOf m) p) (fetchesOf (viewOf m))))
     → p .answer ≡ n
     → (let x : View = viewOf m in let j : Landing = landingFor x p s in let q : ℕ = topOf x - p .bytes in
-       let es = entryEvents (waitingOf x (p .clocks)) q ps (fetchesOf x) (j .from) (j .pc) (j .pc) (j .first) (j .second) in
-       rawCall (world m s l) c ≡ ofPerformed (ofEntry (entry (closed (m .bus) d (0 + length es) (laid s (placeAt x p) ps) (told 0 l es)) n)))
+    let es = entryEvents (waitingOf x (p .clocks)) q ps (fetchesOf x) (j .from) (j .pc) (j .pc) (j .first) (j .second) in
+    rawCall (world m s l) c ≡ ofPerformed (ofEntry (entry (closed (m .bus) d (0 + length es) (laid s (placeAt x p) ps) (told 0 l es)) n)))
     → Says m c s l g
 unfolding writtenOf patchBy
 said m c s l p g ps d n z f k a r =
