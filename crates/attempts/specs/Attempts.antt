@@ -10,9 +10,8 @@ use Rattle.boundary.specs.declared.RawCall.{RawCall}
 use Rattle.records.specs.declared.LentCore.{LentCore}
 use Rattle.attempts.specs.declared.Patch.{Patch}
 use Rattle.attempts.specs.declared.Attempted.{Attempted}
-use Rattle.attempts.specs.declared.AttemptedReturn.{AttemptedReturn}
 use Rattle.records.specs.Records.{raised, lowered}
-use Rattle.attempts.specs.Lent.{left, lentCall, servedReturn, lentReturn}
+use Rattle.attempts.specs.Lent.{left, lentCall}
 
 -- the record of the core with a patch
 unfoldable pub calmOf : Core → Patch → Core
@@ -35,10 +34,3 @@ pub record Tried (c : LentCore) (call : RawCall) (s l : List ℕ) (x : Attempted
   pub fast : x .fast ≡ true → left (patchedBy c x) s′ l′ (x .said) ≡ lentCall c s l call
   pub store : x .idle ≡ false → x .calm ≡ false → x .fast ≡ false → s′ ≡ s
   pub log : x .idle ≡ false → x .calm ≡ false → x .fast ≡ false → l′ ≡ l
-
--- the same of a return
-unfoldable pub restoredBy : LentCore → AttemptedReturn → LentCore
-restoredBy c x = lowered (calmOf (raised c) (x .patch))
-
-pub record TriedReturn (c : LentCore) (s : List ℕ) (x : AttemptedReturn) : Type 0 where
-  pub ok : x .ok ≡ true → servedReturn (restoredBy c x) (x .said) ≡ lentReturn c s

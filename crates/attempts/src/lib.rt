@@ -3,15 +3,24 @@
 // and `status`; `lent` exports the calls.
 use boundary::RawCall;
 use cpu::Cpu;
+use fast::Patch;
+use fast_return::ReturnPatch;
 use memory::Core;
 use records::LentCore;
 use records::LentCpu;
+use records::LentResume;
 use unwind::returns::Row;
 use unwind::returns::Walked;
+
+mod patches; // a patch laid into the groups of a lent record
+mod views; // what the fast way reads of a lent record
+
 ghost use mathlib.Core.Path.{_≡_};
 ghost use Rattle.unwind.specs.Returns.{walk};
 ghost use Rattle.attempts.specs.Lent.{left, recordAfter, lentCall, servedReturn, lentReturn, lentWalk, lentSr, setSr, servedStatus, lentSetSr};
-ghost use Rattle.attempts.specs.Attempts.{calmedBy, patchedBy, Tried, restoredBy, TriedReturn};
+ghost use Rattle.attempts.specs.Attempts.{attemptedBy, calmedBy, patchedBy, Tried};
+ghost use Rattle.records.specs.Records.{raisedResume, loweredResume};
+ghost use Rattle.attempts.specs.Restored.{restoredBy, TriedReturn};
 
 // What a call says. `refused` is 0, the number of the refusal, or 99 where the number names no call.
 #[repr(C)]
@@ -34,15 +43,10 @@ pub struct Served {
     pub core: LentCore,
 }
 
-// What a fast entry leaves of the record.
-pub struct Patch {
-    pub a7: u32,
-    pub pc: u32,
-}
-
-// What an attempt hands back: whether it did the call, in one of two ways, and then what the call says and the patch of the record.
+// What an attempt hands back: whether it did the call, in one of three ways, and then what the call says and the patch of the record.
 pub struct Attempted {
     pub said: Said,
+    pub idle: bool,
     pub calm: bool,
     pub fast: bool,
     pub patch: Patch,
@@ -57,7 +61,7 @@ pub struct ServedReturn {
 pub struct AttemptedReturn {
     pub said: SaidReturn,
     pub ok: bool,
-    pub patch: Patch,
+    pub patch: ReturnPatch,
 }
 
 pub struct ServedStatus {
@@ -92,45 +96,61 @@ pub fn serve(c: LentCore, call: RawCall, store: &mut [u8], log: &mut [u32]) -> S
     }
 }
 
+fn attempted(q: Patch) -> Attempted
+    ensures { λ r. ⌜ r ≡ attemptedBy q ⌝ }
+{
+    let s = Said {
+        refused: 0,
+        answer: q.answer,
+        events: q.events,
+    };
+    Attempted {
+        said: s,
+        idle: q.idle,
+        calm: q.calm,
+        fast: q.fast,
+        patch: q,
+    }
+}
+
 // The call by a fast way: it does all but the patch, or it leaves store and log alone and says so.
 pub fn attempt(c: LentCore, call: RawCall, store: &mut [u8], log: &mut [u32]) -> Attempted
     ensures { λ r. ⌜ Tried c call (now (store .entry)) (now (log .entry)) r (now (store .exit)) (now (log .exit)) ⌝ }
 {
-    let s = Said {
-        refused: 0,
-        answer: 0,
-        events: 0,
-    };
-    let p = Patch { a7: 0, pc: 0 };
-    Attempted {
-        said: s,
-        calm: false,
-        fast: false,
-        patch: p,
+    if views::is_tidy(c) {
+        let known = views::fits(c);
+        let x = views::view(c);
+        let q = fast::go(x, call, store, log);
+        return attempted(q);
     }
+    let q = fast::none();
+    attempted(q)
 }
 
 // The lent record after an attempt that was calm.
 pub fn calmed(d: LentCore, x: Attempted) -> LentCore
     ensures { λ r. ⌜ r ≡ calmedBy d x ⌝ }
 {
-    let m = records::raise::core(d);
     let q = x.patch;
-    let c = cpu::fields::set_pc(m.cpu, q.pc);
-    let n = memory::with_cpu(m, c);
-    records::lower::core(n)
+    let flow = patches::calmed_flow(d.cpu.flow, q);
+    let flags = patches::calmed_flags(d.cpu.flags, q);
+    let mut c = d.cpu;
+    c.flow = flow;
+    c.flags = flags;
+    let mut b = d.bus;
+    b.events = 0;
+    LentCore { cpu: c, bus: b }
 }
 
 // The lent record after an attempt that was fast.
 pub fn patched(d: LentCore, x: Attempted) -> LentCore
     ensures { λ r. ⌜ r ≡ patchedBy d x ⌝ }
 {
-    let m = records::raise::core(d);
     let q = x.patch;
-    let c = cpu::fields::set_a7(m.cpu, q.a7);
-    let e = cpu::fields::set_pc(c, q.pc);
-    let n = memory::with_cpu(m, e);
-    records::lower::core(n)
+    let c = patches::patched_cpu(d.cpu, q);
+    let mut b = d.bus;
+    b.events = q.events;
+    LentCore { cpu: c, bus: b }
 }
 
 // The return on a lent record by value.
@@ -154,30 +174,39 @@ pub fn serve_return(c: LentCore, store: &[u8]) -> ServedReturn
 pub fn attempt_return(c: LentCore, store: &[u8]) -> AttemptedReturn
     ensures { λ r. ⌜ TriedReturn c (now (store .entry)) r ⌝ }
 {
-    let w = Row {
-        format: 0,
-        status: 0,
-        address: 0,
-        offset: 0,
-    };
-    let s = SaidReturn { refused: 0, row: w };
-    let p = Patch { a7: 0, pc: 0 };
+    let m = records::raise::core(c);
+    let q = fast_return::try_return(m, store);
+    let w = q.row;
     AttemptedReturn {
-        said: s,
-        ok: false,
-        patch: p,
+        said: SaidReturn { refused: 0, row: w },
+        ok: q.ok,
+        patch: q,
     }
 }
 
-// The lent record after it.
+// What a faulted instruction keeps, its flag as 0 or 1. It changes in place: made anew it would be copied.
+fn resume_after(x: LentResume) -> LentResume
+    ensures { λ r. ⌜ r ≡ loweredResume (raisedResume x) ⌝ }
+{
+    let mut r = x;
+    r.some = (x.some != 0) as u8;
+    r
+}
+
+// The lent record after a return that was attempted and goes.
 pub fn restored(d: LentCore, x: AttemptedReturn) -> LentCore
     ensures { λ r. ⌜ r ≡ restoredBy d x ⌝ }
 {
     let m = records::raise::core(d);
     let q = x.patch;
-    let c = cpu::fields::set_pc(m.cpu, q.pc);
-    let n = memory::with_cpu(m, c);
-    records::lower::core(n)
+    let e = fast_return::patched(m, q);
+    let l = records::lower::core(e);
+    let resume = resume_after(d.cpu.fault_resume);
+    let mut c = l.cpu;
+    c.fault_resume = resume;
+    let mut r = l;
+    r.cpu = c;
+    r
 }
 
 // The walk on a lent record by value.
@@ -185,7 +214,7 @@ pub fn serve_walk(c: LentCore, n: u32, store: &[u8], rows: &mut [u32]) -> Walked
     ensures { λ r. ⌜ walk (r .refused) (r .count) (now (rows .exit)) ≡ lentWalk c (now (store .entry)) n (now (rows .entry)) ⌝ }
 {
     let m = records::raise::core(c);
-    unwind::walk(m, store, n, rows)
+    fast_return::walk(m, store, n, rows)
 }
 
 // The status register of a lent record by value.

@@ -33,11 +33,11 @@ use Rattle.fast.specs.Plans.{row, isLong, addressOf, entryPlan}
 use Rattle.fast.specs.Stacks.{Tape, tape, waitingOf, layCount, jumpCount}
 use Rattle.fast.specs.Patches.{patchBy, enterOf, goOf}
 use Rattle.fast.specs.Laws.{compose-fits}
-use Rattle.fast.specs.Patched.{patchCpu, Words, Bytes}
+use Rattle.fast.specs.Patched.{patchCpu, Words, Fetched}
 use Rattle.fast.specs.Accepts.{false-true, Accepted}
 use Rattle.fast.specs.Supervised.{Plain, plain-patched, stop-clear, stop-fitting, stop-patched}
 use Rattle.fast.specs.Tapes.{Framed, framed-short, framed-three, framed-long}
-use Rattle.fast.specs.Ways.{waiting-none, spotFor, landingFor, Entered, entered-by, Says, said, clear-of, entering-of, fitting-of}
+use Rattle.fast.specs.Ways.{waiting-none, fetched-in, spotFor, landingFor, Entered, entered-by, Says, said, clear-of, entering-of, fitting-of}
 
 -- what the plan of a group 2 exception by vector v says
 pub record Group (m : Core) (p : Plan) (v : ℕ) : Type 0 where
@@ -163,7 +163,7 @@ module _ (m : Core) (s l : List ℕ) (w : Words m) (a : Accepted m (length s) (l
 
 -- ---- group 2
 
-module _ (m : Core) (s l : List ℕ) (w : Words m) (bs : Bytes s) (a : Accepted m (length s) (length l)) (c : RawCall) where
+module _ (m : Core) (s l : List ℕ) (w : Words m) (a : Accepted m (length s) (length l)) (c : RawCall) (bs : Fetched (goOf (viewOf m) c s l .patch)) where
   abbrev way2 : ℕ → Plan
   way2 v = entryPlan (viewOf m) (row 2 v false)
 
@@ -186,7 +186,7 @@ module _ (m : Core) (s l : List ℕ) (w : Words m) (bs : Bytes s) (a : Accepted 
       let p : Plan = way2 v in
       let j : Landing = landingFor x p s in
       let i : ℕ = jumpCount (layCount x p) (fetchesOf x) in
-      let g : Entered x p s l = entered-by x p s l bs f in
+      let g : Entered x p s l = entered-by x p s l (fetched-in (goOf x c s l) (enterOf x p s l) e bs) f in
       let t = group2-closed (m .bus) (m .cpu) 0 s l v (topOf x - p .bytes) (j .from) (j .pc) (j .pc) (j .first) (j .second) (group-entering m s l w a c p v h (group2-plan v) e g) (lit< tt) in
       group-same m s l w a c p v h (group2-plan v) e g (m .cpu) (clocksOf (m .cpu)) (group2-clocks v)
       (plain-patched (m .cpu) (patchBy x p (spotFor x p) j i) (clear-of m s l w a) (fitting-of m s l w a p i g) (group2-plain v i))
@@ -217,7 +217,7 @@ module _ (m : Core) (s l : List ℕ) (w : Words m) (bs : Bytes s) (a : Accepted 
       let j : Landing = landingFor x p s in
       let i : ℕ = jumpCount (layCount x p) (fetchesOf x) in
       let q : Patch = patchBy x p (spotFor x p) j i in
-      let g : Entered x p s l = entered-by x p s l bs f in
+      let g : Entered x p s l = entered-by x p s l (fetched-in (goOf x c s l) (enterOf x p s l) e bs) f in
       let t = trace-closed (m .bus) (m .cpu) 0 s l (topOf x - p .bytes) (j .from) (j .pc) (j .pc) (j .first) (j .second) (group-entering m s l w a c p 9 (lit< tt) trace-plan e g) (lit< tt) in
       group-same m s l w a c p 9 (lit< tt) trace-plan e g (leaveStop (m .cpu)) (clocksAfter (m .cpu) 4) trace-clocks
       (plain-patched (leaveStop (m .cpu)) q (stop-clear (m .cpu) (clear-of m s l w a)) (stop-fitting (m .cpu) q (fitting-of m s l w a p i g)) (trace-plain i) ∙ stop-patched (m .cpu) q)

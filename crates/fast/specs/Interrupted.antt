@@ -26,7 +26,7 @@ use Rattle.fast.specs.Views.{viewOf}
 use Rattle.fast.specs.Places.{fetchesOf, topOf}
 use Rattle.fast.specs.Patches.{patchBy, Ended, writtenOf, enterOf, goOf}
 use Rattle.fast.specs.Laws.{compose-fits, vector-fits}
-use Rattle.fast.specs.Patched.{patchCpu, Words, Bytes}
+use Rattle.fast.specs.Patched.{patchCpu, Words, Fetched}
 use Rattle.fast.specs.Accepts.{Accepted}
 use Rattle.status.specs.Status.{getSr, mIsSet}
 use Rattle.answers.specs.Answers.{flag, ofService, refusedBy, valueOf, countOf}
@@ -42,7 +42,7 @@ use Rattle.fast.specs.Plans.{takes, responseTo, vectorOf, interruptPlan}
 use Rattle.fast.specs.Stacks.{Tape, tape, wordAt, eventAt, shortAt, threeAt, fourAt, oldAt, oldFrom, syncAt, syncCount, waitingOf, clocksCount, clocksAt, layAt, layCount, jumpAt, jumpCount}
 use Rattle.fast.specs.Supervised.{Interrupting, interrupt-patched}
 use Rattle.fast.specs.Tapes.{clocks-told, clocks-counted, jump-told, jump-counted, Laid, short-laid}
-use Rattle.fast.specs.Ways.{waiting-none, placeAt, spotFor, landingFor, Entered, entered-by, Says, same-world, clear-of, entering-of, fitting-of}
+use Rattle.fast.specs.Ways.{waiting-none, fetched-in, placeAt, spotFor, landingFor, Entered, entered-by, Says, same-world, clear-of, entering-of, fitting-of}
 
 served-said : (b : Bus) (c : Cpu) (e : ℕ) (s l : List ℕ) → ofPerformed (ofService (tried (closed b c e s l) true)) ≡ outcome (closed b c e s l) 0 1 e
 unfolding ofPerformed ofService flag closed refusedBy valueOf countOf
@@ -271,7 +271,7 @@ no-master : (c : Cpu) → c .flags .«m_flag» ≡ 0 → mIsSet c ≡ false
 unfolding mIsSet
 no-master c e = rw e
 
-module _ (m : Core) (s l : List ℕ) (w : Words m) (bs : Bytes s) (a : Accepted m (length s) (length l)) (c : RawCall) (takes : takesInterrupt (m .cpu) ≡ true)
+module _ (m : Core) (s l : List ℕ) (w : Words m) (a : Accepted m (length s) (length l)) (c : RawCall) (bs : Fetched (goOf (viewOf m) c s l .patch)) (takes : takesInterrupt (m .cpu) ≡ true)
     (e : goOf (viewOf m) c s l ≡ enterOf (viewOf m) (interruptPlan (viewOf m)) s l) (f : enterOf (viewOf m) (interruptPlan (viewOf m)) s l .patch .fast ≡ true)
     (r : rawCall (world m s l) c ≡ ofPerformed (ofService (checkAndService (closed (m .bus) (m .cpu) 0 s l)))) where
   abbrev p : Plan
@@ -288,7 +288,7 @@ module _ (m : Core) (s l : List ℕ) (w : Words m) (bs : Bytes s) (a : Accepted 
   plan-vector = refl
 
   entered : Entered (viewOf m) p s l
-  entered = entered-by (viewOf m) p s l bs f
+  entered = entered-by (viewOf m) p s l (fetched-in (goOf (viewOf m) c s l) (enterOf (viewOf m) p s l) e bs) f
 
   abbrev patch : Patch
   patch = patchBy (viewOf m) p (spotFor (viewOf m) p) (landingFor (viewOf m) p s) (jumpCount (layCount (viewOf m) p) (fetchesOf (viewOf m)))

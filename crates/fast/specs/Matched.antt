@@ -39,7 +39,7 @@ use Rattle.fast.specs.Plans.{row, rowOf, noPlan, halts, entryPlan, entry
 use Rattle.fast.specs.Stacks.{tape}
 use Rattle.fast.specs.Quiet.{isQuiet, quiet, calmPatch, stillPatch, asks, checks, quietOf}
 use Rattle.fast.specs.Patches.{noPatch, patchBy, Ended, ended, writtenOf, landOf, placeOf, enterOf, goOf}
-use Rattle.fast.specs.Patched.{patchOf, calmOf, Words, Bytes}
+use Rattle.fast.specs.Patched.{patchOf, calmOf, Words, Fetched}
 use Rattle.fast.specs.Accepts.{false-true, Accepted, accepted, not-refused}
 use Rattle.fast.specs.Ways.{Says, raw-known}
 use Rattle.fast.specs.Taken.{taken-same, rewound-same}
@@ -177,7 +177,7 @@ pub record Given (c : RawCall) (call : Call) (n : ℕ) : Type 0 where
   pub vector : n ≤ 255 → matterOf call .vector ≤ 255
   pub interrupt : matterOf call .interrupt ≡ false
 
-module _ (m : Core) (c : RawCall) (s l : List ℕ) (w : Words m) (bs : Bytes s) (a : Accepted m (length s) (length l)) (g : Went (viewOf m) c s l) where
+module _ (m : Core) (c : RawCall) (s l : List ℕ) (w : Words m) (bs : Fetched (goOf (viewOf m) c s l .patch)) (a : Accepted m (length s) (length l)) (g : Went (viewOf m) c s l) where
   abbrev whole : World
   whole = closed (m .bus) (m .cpu) 0 s l
 
@@ -193,24 +193,24 @@ module _ (m : Core) (c : RawCall) (s l : List ℕ) (w : Words m) (bs : Bytes s) 
   take-number v call e f y u =
       let r : Rowed (viewOf m) c s l (row 1 v false) = rowed (viewOf m) c s l (row 1 v false) g e f in
       let h : v ≤ 255 = r .plan .vector in
-      taken-same m s l w bs a c v (omega arith) (idle-row v false (r .plan .running)) (r .same) (r .made) (given-run call v y h ∙ ap ofPerformed u)
+      taken-same m s l w a c v bs (omega arith) (idle-row v false (r .plan .running)) (r .same) (r .made) (given-run call v y h ∙ ap ofPerformed u)
 
   rewound-number : (v : ℕ) (call : Call) → eqb (c .number) 22 ≡ false → rowOf c ≡ row 1 v true → Given c call v → run whole call ≡ ofEntry (takeRewound whole v) → Says m c s l (goOf (viewOf m) c s l)
   rewound-number v call e f y u =
       let r : Rowed (viewOf m) c s l (row 1 v true) = rowed (viewOf m) c s l (row 1 v true) g e f in
       let h : v ≤ 255 = r .plan .vector in
-      rewound-same m s l w bs a c v (omega arith) (idle-row v true (r .plan .running)) (r .same) (r .made) (given-run call v y h ∙ ap ofPerformed u)
+      rewound-same m s l w a c v bs (omega arith) (idle-row v true (r .plan .running)) (r .same) (r .made) (given-run call v y h ∙ ap ofPerformed u)
 
   group2-number : (v : ℕ) (call : Call) → eqb (c .number) 22 ≡ false → rowOf c ≡ row 2 v false → Given c call v → run whole call ≡ ofEntry (takeGroup2 whole v) → Says m c s l (goOf (viewOf m) c s l)
   group2-number v call e f y u =
       let r : Rowed (viewOf m) c s l (row 2 v false) = rowed (viewOf m) c s l (row 2 v false) g e f in
       let h : v ≤ 255 = r .plan .vector in
-      group2-same m s l w bs a c v (omega arith) (r .same) (r .made) (given-run call v y h ∙ ap ofPerformed u)
+      group2-same m s l w a c bs v (omega arith) (r .same) (r .made) (given-run call v y h ∙ ap ofPerformed u)
 
   trace-number : (call : Call) → eqb (c .number) 22 ≡ false → rowOf c ≡ row 3 9 false → Given c call 9 → run whole call ≡ ofEntry (exceptionTrace whole) → Says m c s l (goOf (viewOf m) c s l)
   trace-number call e f y u =
       let r : Rowed (viewOf m) c s l (row 3 9 false) = rowed (viewOf m) c s l (row 3 9 false) g e f in
-      trace-same m s l w bs a c (r .same) (r .made) (given-run call 9 y (r .plan .vector) ∙ ap ofPerformed u)
+      trace-same m s l w a c bs (r .same) (r .made) (given-run call 9 y (r .plan .vector) ∙ ap ofPerformed u)
 
   number1 : c .number ≡ 1 → Says m c s l (goOf (viewOf m) c s l)
   unfolding rowOf decode run matterOf
@@ -295,7 +295,7 @@ module _ (m : Core) (c : RawCall) (s l : List ℕ) (w : Words m) (bs : Bytes s) 
   unfolding decode run matterOf badCycles
   number22 h =
       let r = room22 h in
-      interrupt-same m s l w bs a c (takes22 h (r .0)) (g .same ∙ ap (λ (p : Plan). enterOf (viewOf m) p s l) (r .1))
+      interrupt-same m s l w a c bs (takes22 h (r .0)) (g .same ∙ ap (λ (p : Plan). enterOf (viewOf m) p s l) (r .1))
       (ap (λ (p : Plan). enterOf (viewOf m) p s l .patch .fast) (sym (r .1)) ∙ g .made)
       (raw-run m c s l a CheckAndServiceInterrupts (rw h) refl (lit≤ tt) (rw (r .0)))
 
@@ -319,7 +319,7 @@ module _ (m : Core) (c : RawCall) (s l : List ℕ) (w : Words m) (bs : Bytes s) 
       R = Says m c s l (goOf (viewOf m) c s l)
 
 -- AN ENTRY: where the fast way makes one, the patched record and bus, store, log, answer and events are those of the plain call
-pub entry-same : (m : Core) (c : RawCall) (s l : List ℕ) → Words m → Bytes s → goOf (viewOf m) c s l .patch .fast ≡ true
+pub entry-same : (m : Core) (c : RawCall) (s l : List ℕ) → Words m → Fetched (goOf (viewOf m) c s l .patch) → goOf (viewOf m) c s l .patch .fast ≡ true
     → outcome (world (patchOf m (goOf (viewOf m) c s l .patch)) (goOf (viewOf m) c s l .store) (goOf (viewOf m) c s l .log)) 0 (goOf (viewOf m) c s l .patch .answer) (goOf (viewOf m) c s l .patch .events)
     ≡ rawCall (world m s l) c
 entry-same m c s l w bs e =

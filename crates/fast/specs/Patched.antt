@@ -1,10 +1,9 @@
 -- Record and bus after a call by the fast way, from the numbers of its patch.
-use Prim.Native.Nat.{ℕ, _<_, _^_}
+use Prim.Native.Nat.{_<_, _^_}
 use mathlib.Core.Bool.{true, false}
-use mathlib.Core.List.{List}
 use lib.Dec.{eqb}
 use lib.IntN.{ℤ}
-use lib.ListN.{length, set, getD}
+use lib.ListN.{length, set}
 use Rattle.types.specs.Kinds.{pick}
 use Rattle.cpu.specs.declared.Cpu.{Cpu}
 use Rattle.cpu.specs.declared.OptionalVector.{OptionalVector}
@@ -63,6 +62,6 @@ pub record Words (m : Core) : Type 0 where
   pub ppc : m .cpu .flow .ppc < 2 ^ 32
   pub clocks : m .cpu .queue .«pending_sync_clocks» < 2 ^ 32
 
--- every member of a store is a byte
-abbrev pub Bytes : List ℕ → Type 0
-Bytes s = (i : ℕ) → getD s i 0 < 256
+-- the two words of the queue are words
+abbrev pub Fetched : Patch → Type 0
+Fetched q = (q .first < 0x10000) × (q .second < 0x10000)

@@ -24,7 +24,7 @@ use Rattle.fast.specs.declared.places.Spot.{Spot}
 use Rattle.fast.specs.declared.places.Landing.{Landing}
 use Rattle.fast.specs.Views.{viewOf, spanOf}
 use Rattle.fast.specs.Places.{fetchesOf, topOf, noSpot, spot, spotOf, noLanding, landed, meets, queuedOf, vectorAt, landingOf}
-use Rattle.fast.specs.Patched.{Words, Bytes}
+use Rattle.fast.specs.Patched.{Words}
 use Rattle.fast.specs.Accepts.{false-true, Accepted}
 use Rattle.fast.specs.Supervised.{topAt, Clear, supervised-a7}
 
@@ -111,11 +111,7 @@ pub record Landed (x : View) (m : List ℕ) (v s n : ℕ) : Type 0 where
   pub first-word : landingOf x m v s n .first < 0x10000
   pub second-word : landingOf x m v s n .second < 0x10000
 
-word-small : (m : List ℕ) → Bytes m → (p : ℕ) → getWord m p < 0x10000
-unfolding getWord
-word-small m h p = let a = h p in let b = h (p + 1) in omega arith
-
-pub landed-by : (x : View) (m : List ℕ) (v s n : ℕ) → Bytes m → landingOf x m v s n .ok ≡ true → Landed x m v s n
+pub landed-by : (x : View) (m : List ℕ) (v s n : ℕ) → (landingOf x m v s n .first < 0x10000) × (landingOf x m v s n .second < 0x10000) → landingOf x m v s n .ok ≡ true → Landed x m v s n
 unfolding landingOf handlerOf
 landed-by x m v s n w e = go (fetchesOf x) refl (t3 .1)
   where
@@ -153,8 +149,8 @@ landed-by x m v s n w e = go (fetchesOf x) refl (t3 .1)
           queue = λ i. k;
           first = λ i. ap (λ (j : Landing). j .first) z;
           second = λ i. ap (λ (j : Landing). j .second) z;
-          first-word = rw z (word-small m w (to - x .base));
-          second-word = rw z (word-small m w (to - x .base + 2));
+          first-word = w .0;
+          second-word = w .1;
         }
     go false q o =
         let z : landingOf x m v s n ≡ landed a to 0 0 = whole ∙ ap after q in
@@ -167,8 +163,8 @@ landed-by x m v s n w e = go (fetchesOf x) refl (t3 .1)
           queue = λ i. false-true _ (sym q ∙ i);
           first = λ i. false-true _ (sym q ∙ i);
           second = λ i. false-true _ (sym q ∙ i);
-          first-word = rw z (omega arith);
-          second-word = rw z (omega arith);
+          first-word = w .0;
+          second-word = w .1;
         }
 
 -- ---- an entry

@@ -31,11 +31,11 @@ use Rattle.fast.specs.Plans.{row, isLong, addressOf, entryPlan}
 use Rattle.fast.specs.Stacks.{Tape, tape, waitingOf, layCount, jumpCount}
 use Rattle.fast.specs.Patches.{patchBy, enterOf, goOf}
 use Rattle.fast.specs.Laws.{compose-fits}
-use Rattle.fast.specs.Patched.{patchCpu, Words, Bytes}
+use Rattle.fast.specs.Patched.{patchCpu, Words, Fetched}
 use Rattle.fast.specs.Accepts.{Accepted}
 use Rattle.fast.specs.Supervised.{Plain, plain-patched}
 use Rattle.fast.specs.Tapes.{Framed, framed-short, framed-three}
-use Rattle.fast.specs.Ways.{spotFor, landingFor, Entered, entered-by, Says, said, clear-of, entering-of, fitting-of}
+use Rattle.fast.specs.Ways.{fetched-in, spotFor, landingFor, Entered, entered-by, Says, said, clear-of, entering-of, fitting-of}
 
 -- ---- the frame of `take_exception`
 
@@ -93,7 +93,7 @@ module _ (m : Core) (t : Tape) (v : ℕ) (b : Bool) (w : Words m) (h : v < 256) 
 
 -- ---- `take_exception`
 
-module _ (m : Core) (s l : List ℕ) (w : Words m) (bs : Bytes s) (a : Accepted m (length s) (length l)) where
+module _ (m : Core) (s l : List ℕ) (w : Words m) (a : Accepted m (length s) (length l)) where
   abbrev way1 : ℕ → Bool → Plan
   way1 v b = entryPlan (viewOf m) (row 1 v b)
 
@@ -149,22 +149,22 @@ module _ (m : Core) (s l : List ℕ) (w : Words m) (bs : Bytes s) (a : Accepted 
       (jumped (prefetchEnabled (m .cpu)) (setWdata (setA7 (setClocks (enterSupervisor (m .cpu)) 0) (topOf x - p .bytes)) (lastValue ps)) v (j .pc) (j .first) (j .second)) (exceptionCycles v)
       (e ∙ g .same) (take-framed m (tape s l) v b w h) (take-cpu v b h g) refl r
 
-  pub taken-same : (c : RawCall) (v : ℕ) → v < 256 → inException (m .cpu) ≡ false → goOf (viewOf m) c s l ≡ enterOf (viewOf m) (way1 v false) s l
+  pub taken-same : (c : RawCall) (v : ℕ) → Fetched (goOf (viewOf m) c s l .patch) → v < 256 → inException (m .cpu) ≡ false → goOf (viewOf m) c s l ≡ enterOf (viewOf m) (way1 v false) s l
       → enterOf (viewOf m) (way1 v false) s l .patch .fast ≡ true → rawCall (world m s l) c ≡ ofPerformed (ofEntry (takeException (closed (m .bus) (m .cpu) 0 s l) v)) → Says m c s l (goOf (viewOf m) c s l)
-  taken-same c v h i e f r =
+  taken-same c v bs h i e f r =
       let x : View = viewOf m in
       let p : Plan = way1 v false in
       let j : Landing = landingFor x p s in
-      let g : Entered x p s l = entered-by x p s l bs f in
+      let g : Entered x p s l = entered-by x p s l (fetched-in (goOf x c s l) (enterOf x p s l) e bs) f in
       let t = take-closed (m .bus) (m .cpu) 0 s l v (topOf x - p .bytes) (j .from) (j .pc) (j .pc) (j .first) (j .second) i (short-entering v false h g) (lit< tt) in
       short-same c v false h e g (rw (take-address v) (r ∙ ap (λ (z : Entry). ofPerformed (ofEntry z)) t))
 
-  pub rewound-same : (c : RawCall) (v : ℕ) → v < 256 → inException (m .cpu) ≡ false → goOf (viewOf m) c s l ≡ enterOf (viewOf m) (way1 v true) s l
+  pub rewound-same : (c : RawCall) (v : ℕ) → Fetched (goOf (viewOf m) c s l .patch) → v < 256 → inException (m .cpu) ≡ false → goOf (viewOf m) c s l ≡ enterOf (viewOf m) (way1 v true) s l
       → enterOf (viewOf m) (way1 v true) s l .patch .fast ≡ true → rawCall (world m s l) c ≡ ofPerformed (ofEntry (takeRewound (closed (m .bus) (m .cpu) 0 s l) v)) → Says m c s l (goOf (viewOf m) c s l)
-  rewound-same c v h i e f r =
+  rewound-same c v bs h i e f r =
       let x : View = viewOf m in
       let p : Plan = way1 v true in
       let j : Landing = landingFor x p s in
-      let g : Entered x p s l = entered-by x p s l bs f in
+      let g : Entered x p s l = entered-by x p s l (fetched-in (goOf x c s l) (enterOf x p s l) e bs) f in
       let t = rewound-closed (m .bus) (m .cpu) 0 s l v (topOf x - p .bytes) (j .from) (j .pc) (j .pc) (j .first) (j .second) i (short-entering v true h g) (lit< tt) in
       short-same c v true h e g (rw (rewound-address v) (r ∙ ap (λ (z : Entry). ofPerformed (ofEntry z)) t))

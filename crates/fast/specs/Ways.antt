@@ -27,9 +27,9 @@ use Rattle.fast.specs.declared.places.Landing.{Landing}
 use Rattle.fast.specs.declared.plans.Plan.{Plan}
 use Rattle.fast.specs.Views.{viewOf}
 use Rattle.fast.specs.Places.{fetchesOf, topOf, userOf, spot, spotOf, landingOf}
-use Rattle.fast.specs.Stacks.{tape, waitingOf, layAt, layCount, jumpAt, jumpCount}
+use Rattle.fast.specs.Stacks.{Tape, tape, waitingOf, layAt, layCount, jumpAt, jumpCount}
 use Rattle.fast.specs.Patches.{noPatch, patchBy, Ended, ended, writtenOf, landOf, placeOf, enterOf}
-use Rattle.fast.specs.Patched.{patchCpu, patchOf, Words, Bytes}
+use Rattle.fast.specs.Patched.{patchCpu, patchOf, Words, Fetched}
 use Rattle.fast.specs.Accepts.{false-true, Accepted}
 use Rattle.fast.specs.Supervised.{topAt, userAt, Clear, Fitting}
 use Rattle.fast.specs.Placed.{Spotted, spotted, Landed, landed-by, enters}
@@ -60,7 +60,15 @@ none-fast : (s l : List ℕ) → ended noPatch s l .patch .fast ≡ false
 unfolding noPatch
 none-fast s l = refl
 
-pub entered-by : (x : View) (p : Plan) (s l : List ℕ) → Bytes s → enterOf x p s l .patch .fast ≡ true → Entered x p s l
+-- the same words in an entry that is the whole call
+pub fetched-in : (a b : Ended) → a ≡ b → Fetched (a .patch) → Fetched (b .patch)
+fetched-in a b e h = rw e at h
+
+written-fetched : (x : View) (p : Plan) (s : Spot) (j : Landing) (t : Tape) → Fetched (writtenOf x p s j t .patch) → (j .first < 0x10000) × (j .second < 0x10000)
+unfolding writtenOf patchBy
+written-fetched x p s j t h = h
+
+pub entered-by : (x : View) (p : Plan) (s l : List ℕ) → Fetched (enterOf x p s l .patch) → enterOf x p s l .patch .fast ≡ true → Entered x p s l
 unfolding enterOf placeOf landOf
 entered-by x p s l w e =
     let S : Spot = spotOf x (length s) (p .bytes) in
@@ -68,11 +76,9 @@ entered-by x p s l w e =
     let a = ended-step (S .ok) (landOf x p S (landingOf x s (p .vector) (S .place) (p .bytes)) t) (ended noPatch s l) (none-fast s l) e in
     let g : Spotted x (length s) (p .bytes) = spotted x (length s) (p .bytes) (a .0) in
     let b = ended-step (landingFor x p s .ok) (writtenOf x p (spotFor x p) (landingFor x p s) t) (ended noPatch s l) (none-fast s l) (rw (g .same) at (a .1)) in
-    record {
-      spot = g;
-      landing = landed-by x s (p .vector) (placeAt x p) (p .bytes) w (b .0);
-      same = a .2 ∙ ap (λ (z : Spot). landOf x p z (landingOf x s (p .vector) (z .place) (p .bytes)) t) (g .same) ∙ b .2;
-    }
+    let z : enterOf x p s l ≡ writtenOf x p (spotFor x p) (landingFor x p s) t = a .2 ∙ ap (λ (z : Spot). landOf x p z (landingOf x s (p .vector) (z .place) (p .bytes)) t) (g .same) ∙ b .2 in
+    let v : (landingFor x p s .first < 0x10000) × (landingFor x p s .second < 0x10000) = written-fetched x p (spotFor x p) (landingFor x p s) t (fetched-in (enterOf x p s l) (writtenOf x p (spotFor x p) (landingFor x p s) t) z w) in
+    record { spot = g; landing = landed-by x s (p .vector) (placeAt x p) (p .bytes) v (b .0); same = z }
 
 -- ---- the plain call
 

@@ -1,17 +1,20 @@
-use mathlib.Core.Path.{_≡_, refl}
-use mathlib.Core.Bool.{Bool, true, false}
-use Prim.Native.Nat.{ℕ}
-use native.Mathlib.Omega.{arith}
+use Rattle.attempts.specs.Restored.{attempt-law}
+use borrow.Author.Needs.{needs}
 use Rattle.attempts.proofs.attempt_return.Statement.{statement}
 use Rattle.attempts.proofs.attempt_return.Tie as tie
 use Rattle.attempts.proofs.attempt_return.Reads as reads
 use Rattle.attempts.proofs.attempt_return.Lts as lts
+use Rattle.fast_return.proofs.try_return.Reads as try-return-reads
+use Rattle.records.proofs.raise.core.Reads as core-reads
 
-clash : false ≡ true → ⊥
-clash e = let z : _≡_ {A = ℕ} 0 1 = cc in omega arith
+core-requires : tie.Need-core-requires
+core-requires c κs = search needs
+
+try-return-requires : tie.Need-try-return-requires
+try-return-requires c κs = search needs
 
 returns : tie.Need-returns
-returns c = record { ok = λ e. absurd (clash e) }
+returns c = attempt-law _ _ _ _ (c .before .before .core .ensures) (c .before .try-return .ensures)
 
 pub attempt-return-spec : {M : Type 1} → statement M
-attempt-return-spec = tie.close (tie.spec returns)
+attempt-return-spec = tie.close (tie.spec core-requires try-return-requires returns)

@@ -1,26 +1,30 @@
-use mathlib.Core.Path.{_≡_, refl}
+use Rattle.attempts.specs.Restored.{restored-law}
 use borrow.Author.Needs.{needs}
-use Rattle.attempts.specs.Attempts.{calmOf, restoredBy}
 use Rattle.attempts.proofs.restored.Statement.{statement}
 use Rattle.attempts.proofs.restored.Tie as tie
 use Rattle.attempts.proofs.restored.Reads as reads
 use Rattle.attempts.proofs.restored.Lts as lts
+use Rattle.fast_return.proofs.patched.Reads as patched-reads
+use Rattle.records.proofs.lower.core.Reads as lower-core-reads
+use Rattle.records.proofs.raise.core.Reads as raise-core-reads
+use Rattle.attempts.proofs.resume_after.Reads as resume-after-reads
 
 core-requires : tie.Need-core-requires
 core-requires c κs = search needs
 
-set-pc-requires : tie.Need-set-pc-requires
-set-pc-requires c κs = search needs
-
-with-cpu-requires : tie.Need-with-cpu-requires
-with-cpu-requires c κs = search needs
+patched-requires : tie.Need-patched-requires
+patched-requires c κs = search needs
 
 core-requires-2 : tie.Need-core-requires-2
 core-requires-2 c κs = search needs
 
+resume-after-requires : tie.Need-resume-after-requires
+resume-after-requires c κs = search needs
+
 returns : tie.Need-returns
-unfolding restoredBy calmOf
-returns c = cc
+returns c = restored-law _ _ _ _ _ _ (c .before .before .before .before .before .core .ensures) (c .before .before .before .patched .ensures) (c .before .before .core2 .ensures) (c .before .resume-after .ensures)
 
 pub restored-spec : {M : Type 1} → statement M
-restored-spec = tie.close (tie.spec core-requires set-pc-requires with-cpu-requires core-requires-2 returns)
+restored-spec =
+    tie.close
+    (tie.spec core-requires patched-requires core-requires-2 resume-after-requires returns)

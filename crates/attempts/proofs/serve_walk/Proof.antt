@@ -6,7 +6,7 @@ use Rattle.attempts.proofs.serve_walk.Tie as tie
 use Rattle.attempts.proofs.serve_walk.Reads as reads
 use Rattle.attempts.proofs.serve_walk.Lts as lts
 use Rattle.records.proofs.raise.core.Reads as core-reads
-use Rattle.unwind.proofs.walk.Reads as walk-reads
+use Rattle.fast_return.proofs.walk.Reads as walk-reads
 
 core-requires : tie.Need-core-requires
 core-requires c κs = search needs

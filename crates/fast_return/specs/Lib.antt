@@ -1,0 +1,9 @@
+pub mod Accepted
+pub mod Quick
+pub mod Seen
+pub mod Rows
+pub mod Patch
+pub mod FoundLaws
+pub mod SeenLaws
+pub mod WalkLaws
+pub mod PatchLaws
