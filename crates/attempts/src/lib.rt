@@ -11,7 +11,6 @@ use records::LentCpu;
 use records::LentResume;
 use unwind::returns::Row;
 use unwind::returns::Walked;
-
 mod patches; // a patch laid into the groups of a lent record
 mod views; // what the fast way reads of a lent record
 
