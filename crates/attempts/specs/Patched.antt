@@ -24,7 +24,7 @@ use Rattle.fast.specs.Quiet.{quiet}
 use Rattle.fast.specs.Matched.{kept, entry-same, calm-same, idle-same}
 use Rattle.attempts.specs.declared.Attempted.{Attempted}
 use Rattle.attempts.specs.Lent.{Left, left, says, recordAfter, leftBy, lentCall}
-use Rattle.attempts.specs.Attempts.{isTidy, attemptedBy, chargedBy, patchedRegs, patchedFlow, patchedFlags, patchedQueue, patchedFault, patchedCpu, patchedBy, calmedFlow, calmedFlags, calmedBy, Tried}
+use Rattle.attempts.specs.Attempts.{isTidy, attemptedBy, chargedBy, patchedRegs, patchedFlow, patchedFlags, patchedQueue, patchedFault, patchedCpu, patchedBy, calmedFlow, calmedFlags, calmedCpu, calmedBy, Tried}
 
 -- a byte of 0 or 1 comes back
 tidy-byte : (n : ℕ) → ltb 1 n ≡ false → bit (flag n) ≡ n
@@ -91,7 +91,7 @@ patched-law c x t =
     rw (t .exception, t .change, t .precise, t .code, t .resume, queue-words (x .patch .fetches) (c .cpu .queue .«prefetch_queue») (x .patch .first) (x .patch .second)) refl
 
 pub calmed-law : (c : LentCore) (x : Attempted) → Tidy c → lowered (calmOf (raised c) (x .patch)) ≡ calmedBy c x
-unfolding lowered loweredCpu loweredFlow loweredQueue loweredFault loweredResume loweredVector loweredCode raised raisedCpu raisedFlow raisedQueue raisedFault raisedResume raisedVector raisedCode calmOf calmedBy calmedFlow calmedFlags
+unfolding lowered loweredCpu loweredFlow loweredQueue loweredFault loweredResume loweredVector loweredCode raised raisedCpu raisedFlow raisedQueue raisedFault raisedResume raisedVector raisedCode calmOf calmedBy calmedCpu calmedFlow calmedFlags
 calmed-law c x t = rw (t .exception, t .loop, t .precise, t .instruction, t .last, t .code, t .resume) refl
 
 pub lent-law : (c : LentCore) → Tidy c → lowered (raised c) ≡ c

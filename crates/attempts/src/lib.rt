@@ -95,7 +95,7 @@ pub fn serve(c: LentCore, call: RawCall, store: &mut [u8], log: &mut [u32]) -> S
     }
 }
 
-fn attempted(q: Patch) -> Attempted
+fn hand_over(q: Patch) -> Attempted
     ensures { λ r. ⌜ r ≡ attemptedBy q ⌝ }
 {
     let s = Said {
@@ -117,13 +117,14 @@ pub fn attempt(c: LentCore, call: RawCall, store: &mut [u8], log: &mut [u32]) ->
     ensures { λ r. ⌜ Tried c call (now (store .entry)) (now (log .entry)) r (now (store .exit)) (now (log .exit)) ⌝ }
 {
     if views::is_tidy(c) {
-        let known = views::fits(c);
+        let regs = c.cpu.regs;
+        let known = views::fits(c.cpu.flow.pc, c.cpu.flow.ppc, c.cpu.queue.pending_sync_clocks, regs.dar, regs.sp);
         let x = views::view(c);
         let q = fast::go(x, call, store, log);
-        return attempted(q);
+        return hand_over(q);
     }
     let q = fast::none();
-    attempted(q)
+    hand_over(q)
 }
 
 // The lent record after an attempt that was calm.
@@ -131,11 +132,7 @@ pub fn calmed(d: LentCore, x: Attempted) -> LentCore
     ensures { λ r. ⌜ r ≡ calmedBy d x ⌝ }
 {
     let q = x.patch;
-    let flow = patches::calmed_flow(d.cpu.flow, q);
-    let flags = patches::calmed_flags(d.cpu.flags, q);
-    let mut c = d.cpu;
-    c.flow = flow;
-    c.flags = flags;
+    let c = patches::calmed_cpu(d.cpu, q);
     let mut b = d.bus;
     b.events = 0;
     LentCore { cpu: c, bus: b }

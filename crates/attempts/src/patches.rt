@@ -9,7 +9,7 @@ use records::LentQueue;
 use records::LentVector;
 ghost use mathlib.Core.Path.{_≡_};
 ghost use Rattle.types.specs.Kinds.{pick};
-ghost use Rattle.attempts.specs.Attempts.{chargedBy, patchedRegs, patchedFlow, patchedFlags, patchedQueue, patchedFault, patchedCpu, calmedFlow, calmedFlags};
+ghost use Rattle.attempts.specs.Attempts.{chargedBy, patchedRegs, patchedFlow, patchedFlags, patchedQueue, patchedFault, patchedCpu, calmedFlow, calmedFlags, calmedCpu};
 
 // The cycles of an interrupt taken off, where one was serviced.
 fn charged(f: LentFlow, serviced: bool) -> i32
@@ -123,7 +123,7 @@ pub(crate) fn patched_cpu(d: LentCpu, q: Patch) -> LentCpu
     c
 }
 
-pub(crate) fn calmed_flow(f: LentFlow, q: Patch) -> LentFlow
+fn calmed_flow(f: LentFlow, q: Patch) -> LentFlow
     ensures { λ r. ⌜ r ≡ calmedFlow f q ⌝ }
 {
     let mut g = f;
@@ -131,10 +131,21 @@ pub(crate) fn calmed_flow(f: LentFlow, q: Patch) -> LentFlow
     g
 }
 
-pub(crate) fn calmed_flags(f: Flags, q: Patch) -> Flags
+fn calmed_flags(f: Flags, q: Patch) -> Flags
     ensures { λ r. ⌜ r ≡ calmedFlags f q ⌝ }
 {
     let mut g = f;
     g.int_level = q.level;
     g
+}
+
+pub(crate) fn calmed_cpu(d: LentCpu, q: Patch) -> LentCpu
+    ensures { λ r. ⌜ r ≡ calmedCpu d q ⌝ }
+{
+    let flow = calmed_flow(d.flow, q);
+    let flags = calmed_flags(d.flags, q);
+    let mut c = d;
+    c.flow = flow;
+    c.flags = flags;
+    c
 }

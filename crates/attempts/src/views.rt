@@ -3,10 +3,11 @@ use fast::View;
 use records::LentCore;
 use records::LentFlow;
 ghost use mathlib.Core.Path.{_≡_};
+ghost use Prim.Native.Nat.{_<_, _^_};
+ghost use lib.ListN.{length};
 ghost use Rattle.pending.specs.Interrupts.{hasRoom};
 ghost use Rattle.records.specs.Records.{raised};
 ghost use Rattle.fast.specs.Views.{viewOf};
-ghost use Rattle.fast.specs.Patched.{Words};
 ghost use Rattle.attempts.specs.Attempts.{isTidy};
 
 // Whether the cycles of an interrupt can be charged: what number 3 tests.
@@ -47,9 +48,9 @@ pub(crate) fn view(c: LentCore) -> View
     }
 }
 
-// What is true of a record by its types.
-pub(crate) fn fits(c: LentCore) -> bool
-    ensures { λ r. ⌜ Words (raised c) ⌝ }
+// What is true of these by their types.
+pub(crate) fn fits(pc: u32, ppc: u32, clocks: u32, dar: [u32; 16], sp: [u32; 8]) -> bool
+    ensures { λ r. ⌜ (pc < 2 ^ 32) × (ppc < 2 ^ 32) × (clocks < 2 ^ 32) × (15 < length dar) × (7 < length sp) ⌝ }
 {
     true
 }

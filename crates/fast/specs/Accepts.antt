@@ -1,20 +1,16 @@
 -- What the tests of the fast way tell.
-use Prim.Native.Nat.{ℕ, _+_, _-_, _*_, _/_, _%_, _^_, _<_, _≤_}
-use mathlib.Core.Path.{_≡_, refl, sym, ap, _∙_}
+use Prim.Native.Nat.{ℕ, _+_, _%_, _^_, _≤_}
+use mathlib.Core.Path.{_≡_, refl, sym}
 use mathlib.Core.Logic.{_⊎_, inl, inr}
 use mathlib.Core.Bool.{Bool, true, false, not}
-use mathlib.Core.List.{List, [], _∷_}
 use native.Mathlib.Omega.{arith}
-use lib.Dec.{eqb, ltb, leb}
-use lib.ListN.{length, getD}
-use borrow.Author.Tests.{ltb-true, ltb-false, leb-true, leb-false, eqb-true, eqb-false, not-true, not-false, lt-ltb, le-ltb, ne-eqb}
-use Rattle.types.specs.Kinds.{pick, either, both, isPre68020}
-use Rattle.cpu.specs.Fields.{kindOf, vbrOf, checksAlignment, hasFcOverride, fcOverrideOf, isFaulted}
-use Rattle.pending.specs.Interrupts.{hasCycles, hasRoom}
+use lib.Dec.{eqb, ltb}
+use borrow.Author.Tests.{ltb-false, eqb-true, eqb-false, not-true, not-false, le-ltb}
+use Rattle.types.specs.Kinds.{pick, both}
+use Rattle.cpu.specs.Fields.{kindOf, vbrOf, checksAlignment, hasFcOverride}
 use Rattle.memory.specs.declared.Core.{Core}
 use Rattle.refusals.specs.declared.Matter.{Matter}
 use Rattle.refusals.specs.Refusals.{badFlags, oddBase, badCycles, badCode, badStore, anyPast, badWindows, shortLog, badVector, badKind, testsOf, firstOf, refusalOf}
-use Rattle.fast.specs.declared.View.{View}
 use Rattle.fast.specs.Views.{viewOf, spanOf, isOther, acceptsOf}
 
 -- ---- tests

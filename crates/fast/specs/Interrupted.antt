@@ -1,60 +1,48 @@
 -- An interrupt that is taken: on every kind it says what the fast way says.
-use Prim.Native.Nat.{ℕ, _+_, _-_, _*_, _/_, _%_, _^_, _<_, _≤_}
+use Prim.Native.Nat.{ℕ, _+_, _-_, _*_, _/_, _%_, _^_, _<_}
 use mathlib.Core.Path.{_≡_, refl, sym, ap, _∙_}
-use mathlib.Core.Logic.{_⊎_, inl, inr}
-use mathlib.Core.Bool.{Bool, true, false, not}
+use mathlib.Core.Bool.{Bool, true, false}
 use mathlib.Core.List.{List}
 use native.Mathlib.Omega.{arith}
 use lib.Dec.{eqb, ltb, lit<}
 use lib.ListN.{length}
-use borrow.Author.Tests.{ltb-false}
-use Rattle.types.specs.Kinds.{pick, either, both, isPre68020}
-use Rattle.types.specs.Tables.{exceptionCycles}
-use Rattle.types.specs.Vectors.{trace}
+use Rattle.types.specs.Kinds.{pick}
 use Rattle.cpu.specs.declared.Cpu.{Cpu}
-use Rattle.cpu.specs.Fields.{kindOf, pcOf, ppcOf, vbrOf, inException, setWdata, setA7, leaveStop}
+use Rattle.cpu.specs.Fields.{kindOf, pcOf, setWdata, setA7}
 use Rattle.cpu.specs.Clocks.{clocksOf, setClocks, prefetchEnabled}
 use Rattle.status.specs.Banks.{enterSupervisor}
 use Rattle.memory.specs.declared.Bus.{Bus}
 use Rattle.memory.specs.declared.Core.{Core}
 use Rattle.memory.specs.LogLaws.{Event}
-use Rattle.steps.specs.Steps.{stacksNext as stacksNextOf, stackedAddress}
-use Rattle.formats.specs.Formats.{formatWord, offsetWord}
-use Rattle.exceptions.specs.Exceptions.{Entry, entry, takeException, takeGroup2, exceptionTrace, takeRewound}
-use Rattle.answers.specs.declared.Call.{Call}
-use Rattle.calls.specs.Calls.{run, restarted, begun, refusal, perform}
+use Rattle.formats.specs.Formats.{offsetWord}
 use Rattle.boundary.specs.declared.RawCall.{RawCall}
-use Rattle.boundary.specs.declared.Decoded.{Decoded}
-use Rattle.boundary.specs.declared.Decoded.the-variants.{Known, Unknown}
-use Rattle.boundary.specs.Calls.{Outcome, outcome, decode, ofPerformed, rawOf, rawCall}
+use Rattle.boundary.specs.Calls.{outcome, ofPerformed, rawCall}
 use Rattle.fast.specs.declared.View.{View}
 use Rattle.fast.specs.declared.Patch.{Patch}
 use Rattle.fast.specs.declared.places.Spot.{Spot}
 use Rattle.fast.specs.declared.places.Landing.{Landing}
-use Rattle.fast.specs.declared.plans.EntryRow.{EntryRow}
 use Rattle.fast.specs.declared.plans.Plan.{Plan}
 use Rattle.fast.specs.Views.{viewOf}
-use Rattle.fast.specs.Places.{fetchesOf, topOf, userOf, spot, spotOf, vectorAt, landingOf}
-use Rattle.fast.specs.Patches.{noPatch, patchBy, Ended, ended, writtenOf, landOf, placeOf, enterOf, goOf}
-use Rattle.fast.specs.Laws.{compose-fits}
-use Rattle.fast.specs.Patched.{patchCpu, patchOf, Words, Fetched}
-use Rattle.fast.specs.Accepts.{false-true, Accepted}
-use Rattle.fast.specs.Placed.{Spotted, spotted, handlerOf, Landed, landed-by, enters}
-use Rattle.status.specs.Status.{compose, getSr, mIsSet}
-use Rattle.answers.specs.Answers.{Performed, answered, flag, ofService, refusedBy, valueOf, countOf}
-use Rattle.memory.specs.World.{World, Attempt, world, tried, responseOf}
+use Rattle.fast.specs.Places.{fetchesOf, topOf}
+use Rattle.fast.specs.Patches.{patchBy, Ended, writtenOf, enterOf, goOf}
+use Rattle.fast.specs.Laws.{compose-fits, vector-fits}
+use Rattle.fast.specs.Patched.{patchCpu, Words, Fetched}
+use Rattle.fast.specs.Accepts.{Accepted}
+use Rattle.status.specs.Status.{getSr, mIsSet}
+use Rattle.answers.specs.Answers.{flag, ofService, refusedBy, valueOf, countOf}
+use Rattle.memory.specs.World.{Attempt, world, tried, responseOf}
 use Rattle.memory.specs.Log.{noteLog}
-use Rattle.pending.specs.Interrupts.{pendingLevel, maskLevel, takesInterrupt, clearLevel, lessCycles}
+use Rattle.pending.specs.Interrupts.{pendingLevel, takesInterrupt, clearLevel}
 use Rattle.steps.specs.Steps.{iackVector, enterLevel, closeInterrupt}
 use Rattle.interrupts.specs.Interrupts.{checkAndService}
 use Rattle.unfaulted.specs.Closed.{closed, told, Piece, laid, lastValue, writesOf, clockEvents, jumpEvents, shortPieces, threePieces, fourPieces, Entering, jumped, interrupted, entryEvents, clocksAfter, otherEvents, events68010, events68000}
 use Rattle.unfaulted.specs.Serviced.{interrupt-other, interrupt-68010, interrupt-68000}
 use Rattle.unfaulted.specs.Written.{four-store, three-store, four-log, entry-log, entry-count, other-log, other-count, log68010, count68010, log68000-off, log68000-on, count68000, clocks-count}
 use Rattle.fast.specs.Plans.{takes, responseTo, vectorOf, interruptPlan}
-use Rattle.fast.specs.Stacks.{Tape, tape, wordAt, longAt, eventAt, shortAt, threeAt, fourAt, oldAt, oldFrom, syncAt, syncCount, waitingOf, clocksCount, clocksAt, layAt, layCount, jumpAt, jumpCount}
-use Rattle.fast.specs.Supervised.{topAt, userAt, Clear, Fitting, Interrupting, interrupt-patched}
+use Rattle.fast.specs.Stacks.{Tape, tape, wordAt, eventAt, shortAt, threeAt, fourAt, oldAt, oldFrom, syncAt, syncCount, waitingOf, clocksCount, clocksAt, layAt, layCount, jumpAt, jumpCount}
+use Rattle.fast.specs.Supervised.{Interrupting, interrupt-patched}
 use Rattle.fast.specs.Tapes.{clocks-told, clocks-counted, jump-told, jump-counted, Laid, short-laid}
-use Rattle.fast.specs.Ways.{fetched-in, placeAt, spotFor, landingFor, Entered, entered-by, Says, same-world, clear-of, entering-of, fitting-of}
+use Rattle.fast.specs.Ways.{waiting-none, fetched-in, placeAt, spotFor, landingFor, Entered, entered-by, Says, same-world, clear-of, entering-of, fitting-of}
 
 served-said : (b : Bus) (c : Cpu) (e : ℕ) (s l : List ℕ) → ofPerformed (ofService (tried (closed b c e s l) true)) ≡ outcome (closed b c e s l) 0 1 e
 unfolding ofPerformed ofService flag closed refusedBy valueOf countOf
@@ -122,7 +110,7 @@ module _ (s : Spot) (n : ℕ) (p : Plan) (t : Tape) (f : p .sr < 0x10000) (h : p
       let g : n + 4 + 1 ≡ n + 5 = omega arith in
       rw (b, c, d, e, g)
 
--- ---- kinds other than 1 and 2
+-- ---- what each plan writes
 
 module _ (m : Core) (s l : List ℕ) (p : Plan) where
   abbrev x : View
@@ -144,36 +132,37 @@ module _ (m : Core) (s l : List ℕ) (p : Plan) where
   response = responseOf (m .bus) (pendingLevel (m .cpu))
 
   -- the plan's own numbers
-  pub record Asks (shape format : ℕ) : Type 0 where
-    pub shaped : p .shape ≡ shape
+  pub record Asks (n : ℕ) : Type 0 where
+    pub shaped : p .shape ≡ n
     pub status : p .sr ≡ getSr (m .cpu)
     pub address : p .pc ≡ pcOf (m .cpu)
-    pub formatted : p .format ≡ format
     pub leveled : p .level ≡ level
     pub responded : p .response ≡ response
     pub status-fits : p .sr < 0x10000
     pub address-fits : p .pc < 2 ^ 32
     pub format-fits : p .format < 0x10000
 
-  other-laid : (format : ℕ) → Asks 6 format → layAt x (spotFor x p) p (tape s l) ≡ shortAt (spotFor x p) (clocksCount 1 k) p (tape s (clocksAt 1 k (noteLog 0 l 6 level response)))
+  -- ---- kinds other than 1 and 2
+
+  other-laid : Asks 6 → layAt x (spotFor x p) p (tape s l) ≡ shortAt (spotFor x p) (clocksCount 1 k) p (tape s (clocksAt 1 k (noteLog 0 l 6 level response)))
   unfolding layAt
-  other-laid format h = rw (h .shaped, h .leveled, h .responded)
+  other-laid h = rw (h .shaped, h .leveled, h .responded)
 
-  other-counted : (format : ℕ) → Asks 6 format → layCount x p ≡ clocksCount 1 k + 3
+  other-counted : Asks 6 → layCount x p ≡ clocksCount 1 k + 3
   unfolding layCount
-  other-counted format h = rw (h .shaped)
+  other-counted h = rw (h .shaped)
 
-  other-told : (format : ℕ) → Asks 6 format → k ≡ clocksOf (m .cpu)
+  other-told : Asks 6 → k ≡ clocksOf (m .cpu)
       → Told x p s l (shortPieces (p .sr) (p .pc) (p .format)) (otherEvents (m .bus) (m .cpu) q (shortPieces (p .sr) (p .pc) (p .format)) (fetchesOf x) (j .from) (j .pc) (j .pc) (j .first) (j .second))
   unfolding shortPieces
-  other-told format h e =
+  other-told h e =
       let f : Bool = fetchesOf x in
       let ps : List Piece = shortPieces (p .sr) (p .pc) (p .format) in
       let acked : List ℕ = noteLog 0 l 6 level response in
       let t : Tape = tape s (clocksAt 1 k acked) in
       let g : Laid (spotFor x p) (clocksCount 1 k) t (shortAt (spotFor x p) (clocksCount 1 k) p t) ps = short-laid (spotFor x p) (clocksCount 1 k) p t (h .status-fits) (h .format-fits) in
-      let c : layCount x p ≡ clocksCount 1 k + 3 = other-counted format h in
-      let z : layAt x (spotFor x p) p (tape s l) ≡ shortAt (spotFor x p) (clocksCount 1 k) p t = other-laid format h in
+      let c : layCount x p ≡ clocksCount 1 k + 3 = other-counted h in
+      let z : layAt x (spotFor x p) p (tape s l) ≡ shortAt (spotFor x p) (clocksCount 1 k) p t = other-laid h in
       record {
         store = ap (λ (u : Tape). u .store) z ∙ g .store;
         log =
@@ -192,24 +181,24 @@ module _ (m : Core) (s l : List ℕ) (p : Plan) where
 
   -- ---- kind 2
 
-  ten-laid : (format : ℕ) → Asks 5 format → layAt x (spotFor x p) p (tape s l) ≡ fourAt (spotFor x p) (clocksCount 0 k) p (tape s (clocksAt 0 k l))
+  ten-laid : Asks 5 → layAt x (spotFor x p) p (tape s l) ≡ fourAt (spotFor x p) (clocksCount 0 k) p (tape s (clocksAt 0 k l))
   unfolding layAt
-  ten-laid format h = rw (h .shaped)
+  ten-laid h = rw (h .shaped)
 
-  ten-counted : (format : ℕ) → Asks 5 format → layCount x p ≡ clocksCount 0 k + 5
+  ten-counted : Asks 5 → layCount x p ≡ clocksCount 0 k + 5
   unfolding layCount
-  ten-counted format h = rw (h .shaped)
+  ten-counted h = rw (h .shaped)
 
-  ten-told : (format : ℕ) → Asks 5 format → k ≡ clocksAfter (m .cpu) 12
+  ten-told : Asks 5 → k ≡ clocksAfter (m .cpu) 12
       → Told x p s l (fourPieces (p .sr) (p .pc) (p .format)) (events68010 (m .bus) (m .cpu) q (fourPieces (p .sr) (p .pc) (p .format)) (fetchesOf x) (j .from) (j .pc) (j .pc) (j .first) (j .second))
   unfolding fourPieces
-  ten-told format h e =
+  ten-told h e =
       let f : Bool = fetchesOf x in
       let ps : List Piece = fourPieces (p .sr) (p .pc) (p .format) in
       let n : ℕ = clocksCount 0 k in
       let t : Tape = tape s (clocksAt 0 k l) in
-      let c : layCount x p ≡ n + 5 = ten-counted format h in
-      let z : layAt x (spotFor x p) p (tape s l) ≡ fourAt (spotFor x p) n p t = ten-laid format h in
+      let c : layCount x p ≡ n + 5 = ten-counted h in
+      let z : layAt x (spotFor x p) p (tape s l) ≡ fourAt (spotFor x p) n p t = ten-laid h in
       let o : n ≡ 0 + length (clockEvents (clocksAfter (m .cpu) 12)) = rw (← e) (clocks-counted 0 k) in
       record {
         store = ap (λ (u : Tape). u .store) z ∙ four-put (spotFor x p) n p t (h .status-fits) (h .address-fits) (h .format-fits);
@@ -226,43 +215,43 @@ module _ (m : Core) (s l : List ℕ) (p : Plan) where
 
   -- ---- kind 1
 
-  old-laid : (format : ℕ) → Asks 4 format → layAt x (spotFor x p) p (tape s l) ≡ oldAt (spotFor x p) (clocksCount 0 k) p (fetchesOf x) (tape s (clocksAt 0 k l))
+  old-laid : Asks 4 → layAt x (spotFor x p) p (tape s l) ≡ oldAt (spotFor x p) (clocksCount 0 k) p (fetchesOf x) (tape s (clocksAt 0 k l))
   unfolding layAt
-  old-laid format h = rw (h .shaped)
+  old-laid h = rw (h .shaped)
 
-  old-counted : (format : ℕ) → Asks 4 format → layCount x p ≡ pick (fetchesOf x) (clocksCount 0 k + 6) (clocksCount 0 k + 4)
+  old-counted : Asks 4 → layCount x p ≡ pick (fetchesOf x) (clocksCount 0 k + 6) (clocksCount 0 k + 4)
   unfolding layCount
-  old-counted format h = rw (h .shaped)
+  old-counted h = rw (h .shaped)
 
-  old-log : (format : ℕ) → Asks 4 format → k ≡ clocksAfter (m .cpu) 6 → (i : Bool) (c : ℕ) → c ≡ pick i (clocksCount 0 k + 6) (clocksCount 0 k + 4)
+  old-log : Asks 4 → k ≡ clocksAfter (m .cpu) 6 → (i : Bool) (c : ℕ) → c ≡ pick i (clocksCount 0 k + 6) (clocksCount 0 k + 4)
       → told c (oldAt (spotFor x p) (clocksCount 0 k) p i (tape s (clocksAt 0 k l)) .log) (jumpEvents i (j .from) (j .pc) (j .pc) (j .first) (j .second))
       ≡ told 0 l (events68000 (m .bus) (m .cpu) q (p .sr) (p .pc) i (j .from) (j .pc) (j .pc) (j .first) (j .second))
-  old-log format h e true c z =
+  old-log h e true c z =
       let n : ℕ = clocksCount 0 k in
       let t : Tape = tape s (clocksAt 0 k l) in
       rw (z, old-on (spotFor x p) n p t (h .status-fits) (h .address-fits), h .leveled, h .responded, clocks-told 0 k l, e)
       (sym (log68000-on (m .bus) (m .cpu) 0 l q (p .sr) (p .pc) (j .from) (j .pc) (j .pc) (j .first) (j .second) (clocksCount 0 (clocksAfter (m .cpu) 6)) (clocks-counted 0 (clocksAfter (m .cpu) 6))))
-  old-log format h e false c z =
+  old-log h e false c z =
       let n : ℕ = clocksCount 0 k in
       let t : Tape = tape s (clocksAt 0 k l) in
       rw (z, old-off (spotFor x p) n p t (h .status-fits) (h .address-fits), h .leveled, h .responded, clocks-told 0 k l, e)
       (sym (log68000-off (m .bus) (m .cpu) 0 l q (p .sr) (p .pc) (j .from) (j .pc) (j .pc) (j .first) (j .second) (clocksCount 0 (clocksAfter (m .cpu) 6)) (clocks-counted 0 (clocksAfter (m .cpu) 6))))
 
-  old-told : (format : ℕ) → Asks 4 format → k ≡ clocksAfter (m .cpu) 6
+  old-told : Asks 4 → k ≡ clocksAfter (m .cpu) 6
       → Told x p s l (threePieces (p .sr) (p .pc)) (events68000 (m .bus) (m .cpu) q (p .sr) (p .pc) (fetchesOf x) (j .from) (j .pc) (j .pc) (j .first) (j .second))
-  old-told format h e =
+  old-told h e =
       let f : Bool = fetchesOf x in
       let n : ℕ = clocksCount 0 k in
       let t : Tape = tape s (clocksAt 0 k l) in
-      let c : layCount x p ≡ pick f (n + 6) (n + 4) = old-counted format h in
-      let z : layAt x (spotFor x p) p (tape s l) ≡ oldAt (spotFor x p) n p f t = old-laid format h in
+      let c : layCount x p ≡ pick f (n + 6) (n + 4) = old-counted h in
+      let z : layAt x (spotFor x p) p (tape s l) ≡ oldAt (spotFor x p) n p f t = old-laid h in
       let o : n ≡ 0 + length (clockEvents (clocksAfter (m .cpu) 6)) = rw (← e) (clocks-counted 0 k) in
       record {
         store = ap (λ (u : Tape). u .store) z ∙ old-put (spotFor x p) n p t (h .status-fits) (h .address-fits) f;
         log =
             jump-told (layCount x p) j f (layAt x (spotFor x p) p (tape s l) .log)
             ∙ ap (λ (u : Tape). told (layCount x p) (u .log) (jumpEvents f (j .from) (j .pc) (j .pc) (j .first) (j .second))) z
-            ∙ old-log format h e f (layCount x p) c;
+            ∙ old-log h e f (layCount x p) c;
         count =
             let i = clocks-count (clocksAfter (m .cpu) 6) in
             jump-counted (layCount x p) f ∙ rw (count68000 (m .bus) (m .cpu) q (p .sr) (p .pc) f (j .from) (j .pc) (j .pc) (j .first) (j .second), c) (sum f n (pick (ltb 0 (clocksAfter (m .cpu) 6)) 1 0) (o ∙ rw i (omega arith)));
@@ -277,14 +266,6 @@ told-as : (x : View) (p : Plan) (s l : List ℕ) (ps qs : List Piece) (es fs : L
 told-as x p s l ps qs es fs e f h = rw (e, f) at h
 
 -- ---- an interrupt that is taken
-
-vector-fits : (r i : ℕ) → iackVector r i < 256
-unfolding iackVector
-vector-fits r i = go (eqb r 0xFFFFFFFF)
-  where
-    go : (t : Bool) → pick t (24 + i % 8) (r % 256) < 256
-    go true = omega arith
-    go false = omega arith
 
 no-master : (c : Cpu) → c .flags .«m_flag» ≡ 0 → mIsSet c ≡ false
 unfolding mIsSet
@@ -336,14 +317,13 @@ module _ (m : Core) (s l : List ℕ) (w : Words m) (a : Accepted m (length s) (l
   unfolding offsetWord
   offset-fits = rw offset-of (omega arith)
 
-  asks : (n : ℕ) → p .shape ≡ n → Asks m s l p n (p .format)
+  asks : (n : ℕ) → p .shape ≡ n → Asks m s l p n
   unfolding interruptPlan responseTo responseOf pendingLevel viewOf getSr pcOf
   asks n h =
       record {
         shaped = h;
         status = refl;
         address = refl;
-        formatted = refl;
         leveled = refl;
         responded = refl;
         status-fits = compose-fits (m .cpu .flags);
@@ -353,12 +333,8 @@ module _ (m : Core) (s l : List ℕ) (w : Words m) (a : Accepted m (length s) (l
 
   -- kinds other than 1 and 2
   other-clocks : eqb (kindOf (m .cpu)) 1 ≡ false → eqb (kindOf (m .cpu)) 2 ≡ false → waitingOf (viewOf m) (p .clocks) ≡ clocksOf (m .cpu)
-  unfolding interruptPlan viewOf kindOf waitingOf clocksOf
-  other-clocks h g = rw (h, g) (go (fetchesOf (viewOf m)))
-    where
-      go : (t : Bool) → pick t ((m .cpu .queue .«pending_sync_clocks» + 0) % 2 ^ 32) (m .cpu .queue .«pending_sync_clocks») ≡ m .cpu .queue .«pending_sync_clocks»
-      go true = let z = w .clocks in omega arith
-      go false = refl
+  unfolding interruptPlan viewOf kindOf
+  other-clocks h g = rw (h, g) (waiting-none m w)
 
   other-shape : eqb (kindOf (m .cpu)) 1 ≡ false → eqb (kindOf (m .cpu)) 2 ≡ false → p .shape ≡ 6
   unfolding interruptPlan viewOf kindOf
@@ -387,7 +363,7 @@ module _ (m : Core) (s l : List ℕ) (w : Words m) (a : Accepted m (length s) (l
       let es : List Event = otherEvents (m .bus) (m .cpu) q ps (prefetchEnabled (m .cpu)) (j .from) (j .pc) (j .pc) (j .first) (j .second) in
       let z : shortPieces (p .sr) (p .pc) (p .format) ≡ ps = rw (k .status, k .address, offset-of) in
       let u : Told x p s l ps es
-      = told-as x p s l _ ps _ es z (ap (λ (i : List Piece). otherEvents (m .bus) (m .cpu) q i (fetchesOf x) (j .from) (j .pc) (j .pc) (j .first) (j .second)) z) (other-told m s l p (p .format) k (other-clocks h g)) in
+      = told-as x p s l _ ps _ es z (ap (λ (i : List Piece). otherEvents (m .bus) (m .cpu) q i (fetchesOf x) (j .from) (j .pc) (j .pc) (j .first) (j .second)) z) (other-told m s l p k (other-clocks h g)) in
       let t = interrupt-other (m .bus) (m .cpu) 0 s l vector q (j .from) (j .pc) (j .pc) (j .first) (j .second) h g takes (no-master (m .cpu) (a .master)) refl (entering 8 (other-bytes h) (lit< tt)) (lit< tt) in
       serviced m c s l p (goOf x c s l) ps es
       (clearLevel (closeInterrupt (jumped (prefetchEnabled (m .cpu)) (setWdata (setA7 (setClocks (enterLevel (m .cpu) (pendingLevel (m .cpu))) 0) q) (getSr (m .cpu))) vector (j .pc) (j .first) (j .second))))
@@ -418,7 +394,7 @@ module _ (m : Core) (s l : List ℕ) (w : Words m) (a : Accepted m (length s) (l
       let es : List Event = events68010 (m .bus) (m .cpu) q ps (prefetchEnabled (m .cpu)) (j .from) (j .pc) (j .pc) (j .first) (j .second) in
       let z : fourPieces (p .sr) (p .pc) (p .format) ≡ ps = rw (k .status, k .address, offset-of) in
       let u : Told x p s l ps es
-      = told-as x p s l _ ps _ es z (ap (λ (i : List Piece). events68010 (m .bus) (m .cpu) q i (fetchesOf x) (j .from) (j .pc) (j .pc) (j .first) (j .second)) z) (ten-told m s l p (p .format) k (ten-clocks h g)) in
+      = told-as x p s l _ ps _ es z (ap (λ (i : List Piece). events68010 (m .bus) (m .cpu) q i (fetchesOf x) (j .from) (j .pc) (j .pc) (j .first) (j .second)) z) (ten-told m s l p k (ten-clocks h g)) in
       let t = interrupt-68010 (m .bus) (m .cpu) 0 s l vector q (j .from) (j .pc) (j .pc) (j .first) (j .second) h g takes (no-master (m .cpu) (a .master)) refl (entering 8 (other-bytes h) (lit< tt)) (lit< tt) in
       serviced m c s l p (goOf x c s l) ps es
       (clearLevel (closeInterrupt (jumped (prefetchEnabled (m .cpu)) (setWdata (setA7 (setClocks (enterLevel (m .cpu) (pendingLevel (m .cpu))) 0) q) (offsetWord vector)) vector (j .pc) (j .first) (j .second))))
@@ -457,7 +433,7 @@ module _ (m : Core) (s l : List ℕ) (w : Words m) (a : Accepted m (length s) (l
       = told-as x p s l _ ps _ es (rw (k .status, k .address))
       (ap (λ (i : ℕ). events68000 (m .bus) (m .cpu) q i (p .pc) (fetchesOf x) (j .from) (j .pc) (j .pc) (j .first) (j .second)) (k .status)
       ∙ ap (λ (i : ℕ). events68000 (m .bus) (m .cpu) q sr i (fetchesOf x) (j .from) (j .pc) (j .pc) (j .first) (j .second)) (k .address))
-      (old-told m s l p (p .format) k (old-clocks h)) in
+      (old-told m s l p k (old-clocks h)) in
       let t = interrupt-68000 (m .bus) (m .cpu) 0 s l vector q (j .from) (j .pc) (j .pc) (j .first) (j .second) h takes (no-master (m .cpu) (a .master)) refl (entering 6 (old-bytes h) (lit< tt)) (lit< tt) in
       serviced m c s l p (goOf x c s l) ps es
       (clearLevel (closeInterrupt (jumped (prefetchEnabled (m .cpu)) (setWdata (setA7 (setClocks (enterLevel (m .cpu) (pendingLevel (m .cpu))) 0) q) (pc / 0x10000)) vector (j .pc) (j .first) (j .second))))
@@ -467,7 +443,7 @@ module _ (m : Core) (s l : List ℕ) (w : Words m) (a : Accepted m (length s) (l
   pub interrupt-same : Says m c s l (goOf (viewOf m) c s l)
   interrupt-same = go (eqb (kindOf (m .cpu)) 1) (eqb (kindOf (m .cpu)) 2) refl refl
     where
-      go : (i k : Bool) → eqb (kindOf (m .cpu)) 1 ≡ i → eqb (kindOf (m .cpu)) 2 ≡ k → Says m c s l (goOf (viewOf m) c s l)
-      go true k h g = old-same h
+      go : (i t : Bool) → eqb (kindOf (m .cpu)) 1 ≡ i → eqb (kindOf (m .cpu)) 2 ≡ t → Says m c s l (goOf (viewOf m) c s l)
+      go true t h g = old-same h
       go false true h g = ten-same h g
       go false false h g = other-same h g

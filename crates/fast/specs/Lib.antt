@@ -15,3 +15,4 @@ pub mod Taken
 pub mod Grouped
 pub mod Interrupted
 pub mod Matched
+pub mod Met

@@ -1,25 +1,23 @@
 -- THE FAST WAY SAYS WHAT THE PLAIN CALL SAYS: record, bus, store, log and answer after it are those of the call by number; and where it makes no
 -- entry it has touched neither store nor log.
-use Prim.Native.Nat.{ℕ, _+_, _-_, _*_, _/_, _%_, _^_, _<_, _≤_}
+use Prim.Native.Nat.{ℕ, _+_, _%_, _≤_}
 use mathlib.Core.Path.{_≡_, refl, sym, ap, _∙_}
-use mathlib.Core.Bool.{Bool, true, false, not}
+use mathlib.Core.Bool.{Bool, true, false}
 use mathlib.Core.List.{List}
 use native.Mathlib.Omega.{arith}
 use lib.Dec.{eqb, ltb, leb, lit≤}
 use lib.ListN.{length}
 use borrow.Author.Tests.{ltb-false, leb-true, eqb-true, eqb-false}
-use Rattle.types.specs.Kinds.{pick, either, both}
-use Rattle.cpu.specs.declared.Cpu.{Cpu}
+use Rattle.types.specs.Kinds.{pick, both}
 use Rattle.cpu.specs.Fields.{inException}
 use Rattle.pending.specs.Trace.{asksTrace, setChangeOfFlow, checkTrace}
 use Rattle.pending.specs.Interrupts.{setIrq, checkInterrupts, hasCycles, pendingLevel, maskLevel, takesInterrupt}
 use Rattle.memory.specs.declared.Core.{Core}
 use Rattle.memory.specs.Log.{withEvents}
-use Rattle.memory.specs.World.{World, Attempt, world, tried, putCpu}
-use Rattle.exceptions.specs.Exceptions.{Entry, takeException, takeGroup2, trap, exceptionTrace, takeRewound}
+use Rattle.memory.specs.World.{World, world, putCpu}
+use Rattle.exceptions.specs.Exceptions.{takeException, takeGroup2, trap, exceptionTrace, takeRewound}
 use Rattle.interrupts.specs.Interrupts.{checkAndService}
-use Rattle.refusals.specs.declared.Matter.{Matter}
-use Rattle.refusals.specs.Refusals.{badCycles, refusalOf}
+use Rattle.refusals.specs.Refusals.{badCycles}
 use Rattle.answers.specs.declared.Call.{Call}
 use Rattle.answers.specs.declared.Call.the-variants.{TakeException, Trap, TakeGroup2Exception, ExceptionChk, ExceptionZeroDivide, ExceptionPrivilege, ExceptionTrace, TakeAlineException, TakeFlineException, TakeTrapException, TakeBkptException, TakeIllegalException, CheckTrace, SetIrq, CheckInterrupts, CheckAndServiceInterrupts}
 use Rattle.answers.specs.Matters.{matterOf}
@@ -38,7 +36,7 @@ use Rattle.fast.specs.declared.plans.Plan.{Plan}
 use Rattle.fast.specs.Views.{viewOf, acceptsOf}
 use Rattle.fast.specs.Places.{spotOf, landingOf}
 use Rattle.fast.specs.Plans.{row, rowOf, noPlan, halts, entryPlan, entryOf, takes, interruptPlan, planOf}
-use Rattle.fast.specs.Stacks.{Tape, tape}
+use Rattle.fast.specs.Stacks.{tape}
 use Rattle.fast.specs.Quiet.{isQuiet, quiet, calmPatch, stillPatch, asks, checks, quietOf}
 use Rattle.fast.specs.Patches.{noPatch, patchBy, Ended, ended, writtenOf, landOf, placeOf, enterOf, goOf}
 use Rattle.fast.specs.Patched.{patchOf, calmOf, Words, Fetched}

@@ -1,10 +1,9 @@
 -- Record and bus after a call by the fast way, from the numbers of its patch.
-use Prim.Native.Nat.{ℕ, _+_, _<_, _^_}
-use mathlib.Core.Bool.{Bool, true, false}
-use mathlib.Core.List.{List}
+use Prim.Native.Nat.{_<_, _^_}
+use mathlib.Core.Bool.{true, false}
 use lib.Dec.{eqb}
 use lib.IntN.{ℤ}
-use lib.ListN.{length, set, getD}
+use lib.ListN.{length, set}
 use Rattle.types.specs.Kinds.{pick}
 use Rattle.cpu.specs.declared.Cpu.{Cpu}
 use Rattle.cpu.specs.declared.OptionalVector.{OptionalVector}

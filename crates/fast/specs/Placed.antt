@@ -1,14 +1,14 @@
 -- What the places of a frame and a jump tell where the fast way takes them: an entry of crate unfaulted.
-use Prim.Native.Nat.{ℕ, _+_, _-_, _*_, _/_, _%_, _^_, _<_, _≤_}
+use Prim.Native.Nat.{ℕ, _+_, _-_, _*_, _%_, _^_, _<_, _≤_}
 use mathlib.Core.Path.{_≡_, refl, sym, ap, _∙_}
-use mathlib.Core.Logic.{_⊎_, inl, inr}
+use mathlib.Core.Logic.{inl, inr}
 use mathlib.Core.Bool.{Bool, true, false}
 use mathlib.Core.List.{List}
 use native.Mathlib.Omega.{arith}
 use lib.Dec.{eqb, ltb, leb}
-use lib.ListN.{length, getD}
-use borrow.Author.Tests.{ltb-true, ltb-false, leb-true, leb-false, eqb-true, eqb-false}
-use Rattle.types.specs.Kinds.{pick, maskAddress, isPrefetchKind}
+use lib.ListN.{length}
+use borrow.Author.Tests.{ltb-false, leb-true, leb-false, eqb-true, eqb-false}
+use Rattle.types.specs.Kinds.{pick, maskAddress}
 use Rattle.cpu.specs.declared.Cpu.{Cpu}
 use Rattle.cpu.specs.Fields.{kindOf, vbrOf, isFaulted}
 use Rattle.cpu.specs.Clocks.{prefetchEnabled}
@@ -23,7 +23,7 @@ use Rattle.fast.specs.declared.View.{View}
 use Rattle.fast.specs.declared.places.Spot.{Spot}
 use Rattle.fast.specs.declared.places.Landing.{Landing}
 use Rattle.fast.specs.Views.{viewOf, spanOf}
-use Rattle.fast.specs.Places.{fetchesOf, topOf, userOf, noSpot, spot, spotOf, noLanding, landed, meets, queuedOf, vectorAt, landingOf}
+use Rattle.fast.specs.Places.{fetchesOf, topOf, noSpot, spot, spotOf, noLanding, landed, meets, queuedOf, vectorAt, landingOf}
 use Rattle.fast.specs.Patched.{Words}
 use Rattle.fast.specs.Accepts.{false-true, Accepted}
 use Rattle.fast.specs.Supervised.{topAt, Clear, supervised-a7}

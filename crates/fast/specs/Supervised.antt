@@ -1,22 +1,21 @@
 -- The record of an entry: the change to the supervisor's stack with M clear, and what the patch leaves.
-use Prim.Native.Nat.{ℕ, _+_, _-_, _*_, _/_, _%_, _^_, _<_, _≤_}
-use mathlib.Core.Path.{_≡_, refl, sym, ap, _∙_}
+use Prim.Native.Nat.{ℕ, _*_, _%_, _<_}
+use mathlib.Core.Path.{_≡_, refl, ap, _∙_}
 use mathlib.Core.Logic.{_⊎_, inl, inr}
 use mathlib.Core.Bool.{Bool, true, false}
 use mathlib.Core.List.{List}
 use native.Mathlib.Omega.{arith}
 use lib.Dec.{eqb}
-use lib.IntN.{ℤ}
 use lib.ListN.{length, set, getD}
 use lib.Seq.{set-set, set-getD, getD-set-same, getD-set-other}
 use Rattle.types.specs.Kinds.{pick, is060}
 use Rattle.cpu.specs.declared.Cpu.{Cpu}
 use Rattle.cpu.specs.Setters.{withDar, withSp, withT1Flag, withT0Flag, withSFlag}
-use Rattle.cpu.specs.Fields.{kindOf, a7Of, setWdata, setA7, setPc, startVector, leaveStop, clearStopped}
+use Rattle.cpu.specs.Fields.{a7Of, setWdata, setA7, setPc, startVector, leaveStop, clearStopped}
 use Rattle.cpu.specs.Clocks.{setClocks, firstWord, secondWord}
 use Rattle.status.specs.Status.{clearTrace, setIntMask}
 use Rattle.status.specs.Banks.{enterSupervisor, setSFlag, restoreSp, putS, backupSp, spIndex}
-use Rattle.pending.specs.Interrupts.{clearLevel, lessCycles, charged, chargeInterrupt}
+use Rattle.pending.specs.Interrupts.{clearLevel, charged, chargeInterrupt}
 use Rattle.steps.specs.Steps.{enterLevel, closeInterrupt}
 use Rattle.unfaulted.specs.Closed.{jumped}
 use Rattle.fast.specs.declared.Patch.{Patch}
@@ -125,17 +124,17 @@ module _ (c : Cpu) (p : Patch) (h : Clear c) (g : Fitting c p) where
   abbrev framed : Cpu → Cpu
   framed d = jumped (p .fetches) (setWdata (setA7 (setClocks d 0) (p .a7)) (p .last)) (p .vector) (p .pc) (p .first) (p .second)
 
-  private-plain : (f : Bool) → p .fetches ≡ f → Plain c p → framed (supervised c) ≡ patchCpu c p
+  supervised-plain : (f : Bool) → p .fetches ≡ f → Plain c p → framed (supervised c) ≡ patchCpu c p
   unfolding patchCpu setWdata setA7 setClocks startVector setPc firstWord secondWord
-  private-plain true e k =
+  supervised-plain true e k =
       queued (p .fetches) (setWdata (setA7 (setClocks (supervised c) 0) (p .a7)) (p .last)) (p .vector) (p .pc) (p .first) (p .second) (g .first) (g .second)
       ∙ rw (e, k .stopped, k .mask, k .level, k .cycles, g .user, g .top, set-set (c .regs .dar) 15 (topAt c) (p .a7))
-  private-plain false e k =
+  supervised-plain false e k =
       queued (p .fetches) (setWdata (setA7 (setClocks (supervised c) 0) (p .a7)) (p .last)) (p .vector) (p .pc) (p .first) (p .second) (g .first) (g .second)
       ∙ rw (e, k .stopped, k .mask, k .level, k .cycles, g .user, g .top, set-set (c .regs .dar) 15 (topAt c) (p .a7))
 
   pub plain-patched : Plain c p → framed (enterSupervisor c) ≡ patchCpu c p
-  plain-patched k = rw (supervised-law c h) (private-plain (p .fetches) refl k)
+  plain-patched k = rw (supervised-law c h) (supervised-plain (p .fetches) refl k)
 
   -- an interrupt of a level
   pub record Interrupting (i : ℕ) : Type 0 where
@@ -144,18 +143,18 @@ module _ (c : Cpu) (p : Patch) (h : Clear c) (g : Fitting c p) where
     pub level : p .level ≡ 0
     pub cycles : p .serviced ≡ true
 
-  private-interrupt : (f : Bool) → p .fetches ≡ f → (level : ℕ) → Interrupting level → clearLevel (closeInterrupt (framed (setIntMask (supervised c) level))) ≡ patchCpu c p
+  supervised-interrupt : (f : Bool) → p .fetches ≡ f → (level : ℕ) → Interrupting level → clearLevel (closeInterrupt (framed (setIntMask (supervised c) level))) ≡ patchCpu c p
   unfolding patchCpu setWdata setA7 setClocks startVector setPc firstWord secondWord clearLevel closeInterrupt chargeInterrupt charged clearStopped setIntMask
-  private-interrupt true e level k =
+  supervised-interrupt true e level k =
       ap (λ (d : Cpu). clearLevel (closeInterrupt d)) (queued (p .fetches) (setWdata (setA7 (setClocks (setIntMask (supervised c) level) 0) (p .a7)) (p .last)) (p .vector) (p .pc) (p .first) (p .second) (g .first) (g .second))
       ∙ rw (e, k .stopped, k .mask, k .level, k .cycles, g .user, g .top, set-set (c .regs .dar) 15 (topAt c) (p .a7))
-  private-interrupt false e level k =
+  supervised-interrupt false e level k =
       ap (λ (d : Cpu). clearLevel (closeInterrupt d)) (queued (p .fetches) (setWdata (setA7 (setClocks (setIntMask (supervised c) level) 0) (p .a7)) (p .last)) (p .vector) (p .pc) (p .first) (p .second) (g .first) (g .second))
       ∙ rw (e, k .stopped, k .mask, k .level, k .cycles, g .user, g .top, set-set (c .regs .dar) 15 (topAt c) (p .a7))
 
   pub interrupt-patched : (level : ℕ) → Interrupting level → clearLevel (closeInterrupt (framed (enterLevel c level))) ≡ patchCpu c p
   unfolding enterLevel
-  interrupt-patched level k = rw (supervised-law c h) (private-interrupt (p .fetches) refl level k)
+  interrupt-patched level k = rw (supervised-law c h) (supervised-interrupt (p .fetches) refl level k)
 
 -- a trace ends a STOP before
 pub stop-clear : (c : Cpu) → Clear c → Clear (leaveStop c)

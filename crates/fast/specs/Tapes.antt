@@ -1,22 +1,22 @@
 -- Store and log after the writes of a plan, in the words of crate unfaulted.
-use Prim.Native.Nat.{ℕ, _+_, _-_, _*_, _/_, _%_, _^_, _<_, _≤_}
+use Prim.Native.Nat.{ℕ, _+_, _^_, _<_}
 use mathlib.Core.Path.{_≡_, refl, sym, ap, _∙_}
 use mathlib.Core.Bool.{Bool, true, false}
-use mathlib.Core.List.{List, [], _∷_}
+use mathlib.Core.List.{List}
 use native.Mathlib.Omega.{arith}
-use lib.Dec.{eqb, ltb}
+use lib.Dec.{ltb}
 use lib.ListN.{length}
 use Rattle.types.specs.Kinds.{pick}
 use Rattle.memory.specs.Log.{noteLog}
-use Rattle.memory.specs.Bytes.{putWord, putLong}
-use Rattle.unfaulted.specs.Closed.{event, told, Piece, laid, writesOf, clockEvents, shortPieces, longPieces, threePieces, fourPieces, jumpEvents, entryEvents}
-use Rattle.unfaulted.specs.Written.{short-store, three-store, four-store, long-store, short-log, three-log, four-log, long-log, clocks-log, clocks-count, jump-log-off, jump-log-on, jump-count, entry-log, entry-count}
+use Rattle.memory.specs.Bytes.{putLong}
+use Rattle.unfaulted.specs.Closed.{told, Piece, laid, writesOf, clockEvents, shortPieces, longPieces, threePieces, jumpEvents, entryEvents}
+use Rattle.unfaulted.specs.Written.{short-store, three-store, long-store, short-log, three-log, long-log, clocks-log, clocks-count, jump-log-off, jump-log-on, entry-log, entry-count}
 use Rattle.fast.specs.declared.View.{View}
 use Rattle.fast.specs.declared.places.Spot.{Spot}
 use Rattle.fast.specs.declared.places.Landing.{Landing}
 use Rattle.fast.specs.declared.plans.Plan.{Plan}
-use Rattle.fast.specs.Places.{fetchesOf, spot, landed}
-use Rattle.fast.specs.Stacks.{Tape, tape, wordAt, longAt, eventAt, shortAt, threeAt, fourAt, oldAt, oldFrom, syncAt, syncCount, waitingOf, clocksCount, clocksAt, layAt, layCount, jumpAt, jumpCount}
+use Rattle.fast.specs.Places.{fetchesOf}
+use Rattle.fast.specs.Stacks.{Tape, tape, wordAt, longAt, shortAt, threeAt, waitingOf, clocksCount, clocksAt, layAt, layCount, jumpAt, jumpCount}
 
 -- ---- clocks and the jump
 

@@ -1,54 +1,39 @@
 -- The plain call, entry by entry, where the fast way makes an entry.
-use Prim.Native.Nat.{ℕ, _+_, _-_, _*_, _/_, _%_, _^_, _<_, _≤_}
+use Prim.Native.Nat.{ℕ, _+_, _-_, _%_, _^_, _<_}
 use mathlib.Core.Path.{_≡_, refl, sym, ap, _∙_}
-use mathlib.Core.Logic.{_⊎_, inl, inr}
-use mathlib.Core.Bool.{Bool, true, false, not}
+use mathlib.Core.Bool.{Bool, true, false}
 use mathlib.Core.List.{List}
 use native.Mathlib.Omega.{arith}
-use lib.Dec.{eqb, ltb, lit<}
 use lib.ListN.{length}
-use borrow.Author.Tests.{ltb-false}
-use Rattle.types.specs.Kinds.{pick, either, both, isPre68020}
-use Rattle.types.specs.Tables.{exceptionCycles}
-use Rattle.types.specs.Vectors.{trace}
+use Rattle.types.specs.Kinds.{pick}
 use Rattle.cpu.specs.declared.Cpu.{Cpu}
-use Rattle.cpu.specs.Fields.{kindOf, pcOf, ppcOf, vbrOf, inException, setWdata, setA7, leaveStop}
-use Rattle.cpu.specs.Clocks.{clocksOf, setClocks, prefetchEnabled}
-use Rattle.status.specs.Status.{compose, getSr}
+use Rattle.cpu.specs.Clocks.{clocksOf}
 use Rattle.status.specs.Banks.{enterSupervisor}
 use Rattle.memory.specs.declared.Bus.{Bus}
 use Rattle.memory.specs.declared.Core.{Core}
-use Rattle.memory.specs.Log.{withEvents}
 use Rattle.memory.specs.World.{World, world}
-use Rattle.steps.specs.Steps.{stacksNext as stacksNextOf, stackedAddress}
-use Rattle.formats.specs.Formats.{formatWord, offsetWord}
-use Rattle.exceptions.specs.Exceptions.{Entry, entry, takeException, takeGroup2, exceptionTrace, takeRewound}
+use Rattle.exceptions.specs.Exceptions.{entry}
 use Rattle.answers.specs.declared.Call.{Call}
-use Rattle.answers.specs.Answers.{Performed, answered, cycles, ofEntry, refusedBy, valueOf, countOf}
+use Rattle.answers.specs.Answers.{cycles, ofEntry, refusedBy, valueOf, countOf}
 use Rattle.calls.specs.Calls.{run, restarted, begun, refusal, perform}
 use Rattle.boundary.specs.declared.RawCall.{RawCall}
-use Rattle.boundary.specs.declared.Decoded.{Decoded}
-use Rattle.boundary.specs.declared.Decoded.the-variants.{Known, Unknown}
-use Rattle.boundary.specs.Calls.{Outcome, outcome, decode, ofPerformed, rawOf, rawCall}
-use Rattle.unfaulted.specs.Closed.{closed, told, Piece, laid, lastValue, shortPieces, longPieces, threePieces, Entering, jumped, arrived, entryEvents, clocksAfter, shortBytes, shortOf, group2Bytes, group2Of}
-use Rattle.unfaulted.specs.Entries.{take-closed, group2-closed, trace-closed, rewound-closed}
+use Rattle.boundary.specs.declared.Decoded.the-variants.{Known}
+use Rattle.boundary.specs.Calls.{outcome, decode, ofPerformed, rawOf, rawCall}
+use Rattle.unfaulted.specs.Closed.{closed, told, Piece, laid, Entering, entryEvents}
 use Rattle.fast.specs.declared.View.{View}
 use Rattle.fast.specs.declared.Patch.{Patch}
 use Rattle.fast.specs.declared.places.Spot.{Spot}
 use Rattle.fast.specs.declared.places.Landing.{Landing}
-use Rattle.fast.specs.declared.plans.EntryRow.{EntryRow}
 use Rattle.fast.specs.declared.plans.Plan.{Plan}
 use Rattle.fast.specs.Views.{viewOf}
-use Rattle.fast.specs.Places.{fetchesOf, topOf, userOf, spot, spotOf, vectorAt, landingOf}
-use Rattle.fast.specs.Plans.{row, rowOf, noPlan, isLong, addressOf, halts, entryPlan, entryOf, planOf}
+use Rattle.fast.specs.Places.{fetchesOf, topOf, userOf, spot, spotOf, landingOf}
 use Rattle.fast.specs.Stacks.{Tape, tape, waitingOf, layAt, layCount, jumpAt, jumpCount}
-use Rattle.fast.specs.Patches.{noPatch, patchBy, Ended, ended, writtenOf, landOf, placeOf, enterOf, goOf}
-use Rattle.fast.specs.Laws.{compose-fits}
+use Rattle.fast.specs.Patches.{noPatch, patchBy, Ended, ended, writtenOf, landOf, placeOf, enterOf}
 use Rattle.fast.specs.Patched.{patchCpu, patchOf, Words, Fetched}
 use Rattle.fast.specs.Accepts.{false-true, Accepted}
-use Rattle.fast.specs.Supervised.{topAt, userAt, Clear, Fitting, Plain, plain-patched, stop-clear, stop-fitting, stop-patched}
-use Rattle.fast.specs.Placed.{Spotted, spotted, handlerOf, Landed, landed-by, enters}
-use Rattle.fast.specs.Tapes.{Framed, framed-short, framed-three, framed-long, entry-told, entry-counted}
+use Rattle.fast.specs.Supervised.{topAt, userAt, Clear, Fitting}
+use Rattle.fast.specs.Placed.{Spotted, spotted, Landed, landed-by, enters}
+use Rattle.fast.specs.Tapes.{Framed, entry-told, entry-counted}
 
 -- ---- where the fast way makes an entry, it writes it
 
@@ -155,3 +140,12 @@ module _ (m : Core) (s l : List ℕ) (w : Words m) (a : Accepted m (length s) (l
   pub fitting-of : (p : Plan) (e : ℕ) → Entered (viewOf m) p s l → Fitting (m .cpu) (patchBy (viewOf m) p (spotFor (viewOf m) p) (landingFor (viewOf m) p s) e)
   unfolding patchBy userOf userAt topOf topAt viewOf
   fitting-of p e g = record { user = refl; top = refl; first = g .landing .first-word; second = g .landing .second-word }
+
+-- the clocks that wait where none is added
+pub waiting-none : (m : Core) → Words m → waitingOf (viewOf m) 0 ≡ clocksOf (m .cpu)
+unfolding waitingOf viewOf clocksOf
+waiting-none m w = go (fetchesOf (viewOf m))
+  where
+    go : (f : Bool) → pick f ((m .cpu .queue .«pending_sync_clocks» + 0) % 2 ^ 32) (m .cpu .queue .«pending_sync_clocks») ≡ m .cpu .queue .«pending_sync_clocks»
+    go true = let z = w .clocks in omega arith
+    go false = refl

@@ -18,9 +18,9 @@ plainCpu c =
     (pick (ltb (c .fault .«mmu_fc_override» .value) 8)
     (pick (ltb (c .flow .«cpu_type») 12) (plainFlags c) false) false) false
 
--- no window, and a store that number 5 accepts
+-- a store that number 5 accepts, and no window
 unfoldable pub plainBus : Bus → ℕ → Bool
-plainBus b n = pick (eqb (b .windows) 0) (pick (leb n 65536) (leb (b .base + n) 0x100000000) false) false
+plainBus b n = pick (leb n 65536) (pick (leb (b .base + n) 0x100000000) (eqb (b .windows) 0) false) false
 
 unfoldable pub accepts : Core → ℕ → Bool
-accepts m n = pick (plainCpu (m .cpu)) (plainBus (m .bus) n) false
+accepts m n = pick (plainBus (m .bus) n) (plainCpu (m .cpu)) false

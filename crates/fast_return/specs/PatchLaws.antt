@@ -52,21 +52,21 @@ pub record Plain (m : Core) (n : ℕ) : Type 0 where
 pub plain-means : (m : Core) (n : ℕ) → accepts m n ≡ true → Plain m n
 unfolding accepts plainCpu plainBus plainFlags
 plain-means m n e =
-    let c : plainCpu (m .cpu) ≡ true = left _ _ e in
-    let b : plainBus (m .bus) n ≡ true = right (plainCpu (m .cpu)) _ e in
+    let b : plainBus (m .bus) n ≡ true = left _ _ e in
+    let c : plainCpu (m .cpu) ≡ true = right (plainBus (m .bus) n) _ e in
     let c1 : _ = right (eqb (m .cpu .flow .vbr % 2) 0) _ c in
     let c2 : _ = right (ltb (m .cpu .fault .«mmu_fc_override» .value) 8) _ c1 in
     let c3 : _ = right (ltb (m .cpu .flow .«cpu_type») 12) _ c2 in
-    let b1 : _ = right (eqb (m .bus .windows) 0) _ b in
+    let b1 : _ = right (leb n 65536) _ b in
     record {
       supervisor = left _ _ c3;
       m-is = right (eqb (m .cpu .flags .«s_flag») 4) _ c3;
       base-even = left _ _ c;
       code-small = left _ _ c1;
       kind-small = left _ _ c2;
-      windows-none = left _ _ b;
-      store-small = left _ _ b1;
-      store-ends = right (leb n 65536) _ b1;
+      windows-none = right (leb (m .bus .base + n) 0x100000000) _ b1;
+      store-small = left _ _ b;
+      store-ends = left _ _ b1;
     }
 
 -- so no number refuses it

@@ -42,13 +42,13 @@ fn plain_cpu(c: Cpu) -> bool
     false
 }
 
-// No window, and a store that ends below 2^32.
+// A store that number 5 accepts, and no window.
 fn plain_bus(b: Bus, stored: usize) -> bool
     ensures { λ r. ⌜ r ≡ plainBus b stored ⌝ }
 {
-    if b.windows == 0 {
-        if stored <= 65536 {
-            return b.base as usize + stored <= 0x100000000;
+    if stored <= 65536 {
+        if b.base as usize + stored <= 0x100000000 {
+            return b.windows == 0;
         }
     }
     false
@@ -57,8 +57,8 @@ fn plain_bus(b: Bus, stored: usize) -> bool
 pub fn accepted(m: Core, stored: usize) -> bool
     ensures { λ r. ⌜ r ≡ accepts m stored ⌝ }
 {
-    if plain_cpu(m.cpu) {
-        return plain_bus(m.bus, stored);
+    if plain_bus(m.bus, stored) {
+        return plain_cpu(m.cpu);
     }
     false
 }

@@ -1,5 +1,5 @@
 use Rattle.boundary.specs.Calls.{flag}
-use Rattle.attempts.proofs.Bits.{byte-bit}
+use Rattle.records.proofs.Bits.{byte-bit}
 use Rattle.records.specs.Records.{raisedResume, loweredResume}
 use borrow.Author.Needs.{needs}
 use Rattle.attempts.proofs.resume_after.Statement.{statement}

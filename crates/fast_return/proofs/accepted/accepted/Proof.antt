@@ -11,19 +11,19 @@ use Rattle.fast_return.proofs.accepted.accepted.Lts as lts
 use Rattle.fast_return.proofs.accepted.plain_bus.Reads as plain-bus-reads
 use Rattle.fast_return.proofs.accepted.plain_cpu.Reads as plain-cpu-reads
 
-plain-cpu-requires : tie.Need-plain-cpu-requires
-plain-cpu-requires c κs = search needs
-
 plain-bus-requires : tie.Need-plain-bus-requires
 plain-bus-requires c κs = search needs
 
+plain-cpu-requires : tie.Need-plain-cpu-requires
+plain-cpu-requires c κs = search needs
+
 returns : tie.Need-returns
 unfolding accepts
-returns c = simp (sym (c .before .before .plain-cpu .ensures) ∙ c .before .if1 .taken) (c .plain-bus .ensures)
+returns c = simp (sym (c .before .before .plain-bus .ensures) ∙ c .before .if1 .taken) (c .plain-cpu .ensures)
 
 returns-2 : tie.Need-returns-2
 unfolding accepts
-returns-2 c = simp (sym (c .before .plain-cpu .ensures) ∙ c .if1 .left)
+returns-2 c = simp (sym (c .before .plain-bus .ensures) ∙ c .if1 .left)
 
 pub accepted-spec : {M : Type 1} → statement M
-accepted-spec = tie.close (tie.spec plain-cpu-requires plain-bus-requires returns returns-2)
+accepted-spec = tie.close (tie.spec plain-bus-requires plain-cpu-requires returns returns-2)

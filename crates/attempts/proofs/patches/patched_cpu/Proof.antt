@@ -1,0 +1,37 @@
+use mathlib.Core.Path.{_≡_, refl, sym, ap, _∙_}
+use native.Mathlib.Omega.{arith}
+use lib.ListN.{length-set}
+use borrow.Author.Tests.{lt-ltb, le-ltb, eq-eqb, ne-eqb}
+use Rattle.attempts.specs.Attempts.{patchedCpu}
+use borrow.Author.Needs.{needs}
+use Rattle.attempts.proofs.patches.patched_cpu.Statement.{statement}
+use Rattle.attempts.proofs.patches.patched_cpu.Tie as tie
+use Rattle.attempts.proofs.patches.patched_cpu.Reads as reads
+use Rattle.attempts.proofs.patches.patched_cpu.Lts as lts
+use Rattle.attempts.proofs.patches.patched_fault.Reads as patched-fault-reads
+use Rattle.attempts.proofs.patches.patched_flags.Reads as patched-flags-reads
+use Rattle.attempts.proofs.patches.patched_flow.Reads as patched-flow-reads
+use Rattle.attempts.proofs.patches.patched_queue.Reads as patched-queue-reads
+use Rattle.attempts.proofs.patches.patched_regs.Reads as patched-regs-reads
+
+patched-regs-requires : tie.Need-patched-regs-requires
+patched-regs-requires c κs = search needs
+
+patched-flow-requires : tie.Need-patched-flow-requires
+patched-flow-requires c κs = search needs
+
+patched-flags-requires : tie.Need-patched-flags-requires
+patched-flags-requires c κs = search needs
+
+patched-queue-requires : tie.Need-patched-queue-requires
+patched-queue-requires c κs = search needs
+
+patched-fault-requires : tie.Need-patched-fault-requires
+patched-fault-requires c κs = search needs
+
+returns : tie.Need-returns
+unfolding patchedCpu
+returns c = cc
+
+pub patched-cpu-spec : {M : Type 1} → statement M
+patched-cpu-spec = tie.close (tie.spec patched-regs-requires patched-flow-requires patched-flags-requires patched-queue-requires patched-fault-requires returns)
