@@ -12,9 +12,10 @@ A reference stands in backticks, in one of these forms; paths count from the roo
 
 Anything else in backticks is an error, but for the commands of COMMANDS. Outside of them, a path into docs, tools, crates, host or oracle
 must be there too, and `docs/DECISIONS.md, N` a decision. The rows of ROWS must each begin a line of a table. And what the document says of
-contracts is looked at: every function of a crate, but for those of PROGRAMS, has one that is an equation under no condition, but for those of
-UNEQUAL; these have none, and the document names each. Prints what is missing; exit status 1 if anything is. Before that it is tried on
-references, lines and functions that are wrong and on a document without rows: if one of these passes, the exit status is 1 too.
+contracts is looked at: every function of a crate, but for those of PROGRAMS, has one that is an equation under no condition. But for those
+of UNEQUAL: these have none, and the document names each. And but for a function that is not public and whose body is
+`true`: it hands on what is true of its arguments by their types. Prints what is missing; exit status 1 if anything is. Before that it is
+tried on references, lines and functions that are wrong and on a document without rows: if one of these passes, the exit status is 1 too.
 """
 import functools
 import glob
@@ -26,10 +27,8 @@ ROOT = os.path.dirname(os.path.dirname(os.path.abspath(__file__)))
 DOCUMENT = "docs/ASSURANCE.md"
 COMMANDS = {"rt ci"}
 PROGRAMS = {"replay", "session"}
-# An attempt does the whole call or nothing: its contract is what the exported call's equation needs in each case. The others hand on what
-# is true of every record by its types.
-UNEQUAL = {"attempts/src/lib.rt: attempt", "attempts/src/lib.rt: attempt_return", "fast_return/src/lib.rt: try_return",
-           "attempts/src/views.rt: fits", "fast_return/src/seen.rt: has_registers", "fast_return/src/seen.rt: has_banks"}
+# An attempt does the whole call or nothing: its contract is what the exported call's equation needs in each case.
+UNEQUAL = {"attempts/src/lib.rt: attempt", "attempts/src/lib.rt: attempt_return", "fast_return/src/lib.rt: try_return"}
 
 NAME = r"[^\s,:`/()]+"
 SPEC = re.compile(rf"(\w+)/specs/(\w+): ({NAME}(?:, {NAME})*)")
@@ -50,7 +49,9 @@ WRONG = ["types/specs/Tables: exceptionCycle", "types/specs/Tables: exceptionCyc
          "types/specs/Tables:exceptionCycles", "Tables: exceptionCycles"]
 WRONG_LINES = ["see docs/NONE.md.", "see (docs/DECISIONS.md, 999)", "a `backtick", "`types/specs/Tables: exceptionCycles` and `docs/NONE.md`"]
 WRONG_SOURCES = ["fn f(a: u8) -> u8 {\n    a\n}\n", "pub fn f(\n    a: u8,\n) -> u8\n    ensures { λ r. ⌜ r < 9 ⌝ }\n{\n    a\n}\n",
-                 "fn f(a: u8) -> u8\n    ensures { λ r. ⌜ (r ≡ 1 → a ≡ 1) × (r < 9) ⌝ }\n{\n    a\n}\n"]
+                 "fn f(a: u8) -> u8\n    ensures { λ r. ⌜ (r ≡ 1 → a ≡ 1) × (r < 9) ⌝ }\n{\n    a\n}\n",
+                 "fn f(a: u8) -> bool\n    ensures { λ r. ⌜ a < 256 ⌝ }\n{\n    false\n}\n",
+                 "pub fn f(a: u8) -> bool\n    ensures { λ r. ⌜ a < 256 ⌝ }\n{\n    true\n}\n"]
 
 
 @functools.cache
@@ -116,8 +117,8 @@ def equal(head):
 
 def bare(source):
     """The functions of a source whose contract is no equation."""
-    heads = re.findall(r"^(?:pub(?:\(\w+\))? )?(?:extern \"C\" )?fn (\w+)(.*?)(?:^\{| \{)$", source, re.M | re.S)
-    return [name for name, head in heads if not equal(head)]
+    found = re.findall(r"^(pub )?(?:pub\(\w+\) )?(?:extern \"C\" )?fn (\w+)(.*?)(?:^\{| \{)$(\n    true\n\})?", source, re.M | re.S)
+    return [name for public, name, head, true in found if not equal(head) and (public or not true)]
 
 
 def contracts():
