@@ -45,39 +45,39 @@ use denote.Triple.Table.{entered, cited}
 use denote.Triple.Walked.{says, Stays, stay-ref, stay-none, stay-slice, walkOf, goes-ref, goes-none, goes-slice, Walks, ends-at, walked, walk-meets}
 use denote.Exit.{yes}
 use denote.Signature.{plain}
+use Rattle.attempts.specs.Attempts.{Tried, calmedBy, patchedBy}
+use Rattle.attempts.specs.Lent.{left, lentCall}
+use Rattle.attempts.specs.declared.Attempted.{Attempted}
+use Rattle.attempts.specs.declared.Said.{Said}
+use Rattle.attempts.specs.declared.Served.{Served}
 use Rattle.boundary.specs.declared.RawCall.{RawCall}
-use Rattle.lent.specs.Attempts.{Tried, calmedBy, patchedBy}
-use Rattle.lent.specs.Lent.{left, lentCall}
-use Rattle.lent.specs.declared.Attempted.{Attempted}
-use Rattle.lent.specs.declared.LentCore.{LentCore}
-use Rattle.lent.specs.declared.Said.{Said}
-use Rattle.lent.specs.declared.Served.{Served}
-use Rattle.lent.proofs.LentCore as LentCore·
-use Rattle.lent.proofs.LentCore.Laws as LentCore·′
+use Rattle.records.specs.declared.LentCore.{LentCore}
+use Rattle.records.proofs.LentCore as LentCore·
+use Rattle.records.proofs.LentCore.Laws as LentCore·′
 use Rattle.boundary.proofs.RawCall as RawCall·
 use Rattle.boundary.proofs.RawCall.Laws as RawCall·′
-use Rattle.lent.proofs.Said as Said·
-use Rattle.lent.proofs.Said.Laws as Said·′
-use Rattle.lent.proofs.Served as Served·
-use Rattle.lent.proofs.Served.Laws as Served·′
-use Rattle.lent.proofs.Attempted as Attempted·
-use Rattle.lent.proofs.Attempted.Laws as Attempted·′
-use Rattle.lent.proofs.attempt as attempt
-use Rattle.lent.proofs.attempt.Symbol as attempt-def
-use Rattle.lent.proofs.attempt.Symbol.{name as #attempt}
-use Rattle.lent.proofs.attempt.Met as attempt-thm
-use Rattle.lent.proofs.calmed as patch₀
-use Rattle.lent.proofs.calmed.Symbol as patch₀-def
-use Rattle.lent.proofs.calmed.Symbol.{name as #patch₀}
-use Rattle.lent.proofs.calmed.Met as patch₀-thm
-use Rattle.lent.proofs.patched as patch₁
-use Rattle.lent.proofs.patched.Symbol as patch₁-def
-use Rattle.lent.proofs.patched.Symbol.{name as #patch₁}
-use Rattle.lent.proofs.patched.Met as patch₁-thm
-use Rattle.lent.proofs.serve as core
-use Rattle.lent.proofs.serve.Symbol as core-def
-use Rattle.lent.proofs.serve.Symbol.{name as #core}
-use Rattle.lent.proofs.serve.Met as core-thm
+use Rattle.attempts.proofs.Said as Said·
+use Rattle.attempts.proofs.Said.Laws as Said·′
+use Rattle.attempts.proofs.Served as Served·
+use Rattle.attempts.proofs.Served.Laws as Served·′
+use Rattle.attempts.proofs.Attempted as Attempted·
+use Rattle.attempts.proofs.Attempted.Laws as Attempted·′
+use Rattle.attempts.proofs.attempt as attempt
+use Rattle.attempts.proofs.attempt.Symbol as attempt-def
+use Rattle.attempts.proofs.attempt.Symbol.{name as #attempt}
+use Rattle.attempts.proofs.attempt.Met as attempt-thm
+use Rattle.attempts.proofs.calmed as patch₀
+use Rattle.attempts.proofs.calmed.Symbol as patch₀-def
+use Rattle.attempts.proofs.calmed.Symbol.{name as #patch₀}
+use Rattle.attempts.proofs.calmed.Met as patch₀-thm
+use Rattle.attempts.proofs.patched as patch₁
+use Rattle.attempts.proofs.patched.Symbol as patch₁-def
+use Rattle.attempts.proofs.patched.Symbol.{name as #patch₁}
+use Rattle.attempts.proofs.patched.Met as patch₁-thm
+use Rattle.attempts.proofs.serve as core
+use Rattle.attempts.proofs.serve.Symbol as core-def
+use Rattle.attempts.proofs.serve.Symbol.{name as #core}
+use Rattle.attempts.proofs.serve.Met as core-thm
 use Rattle.lent.proofs.m68k_call.Key.{name as #f}
 use Rattle.lent.proofs.m68k_call as f
 use Rattle.lent.proofs.m68k_call.Statement as stated
@@ -354,7 +354,7 @@ m68k-call-spec 𝓤 H 𝓜 𝓖 𝓡 =
     entered 𝓤 H (tripleOf 𝓤 H (𝓖 .A) f.signature (f.spec 𝓤 H (𝓖 .A) (𝓜 .mem) (𝓡 .run)))
     (tables 𝓤 H 𝓜 𝓡 code.env .C) (tables 𝓤 H 𝓜 𝓡 code.env .Λ) #f code.function (code.unfolded 𝓤 H 𝓜 𝓡)
     (meets 𝓤 H (𝓖 .A) (givenOf 𝓤 H 𝓜 𝓖) (𝓜 .mem) (𝓡 .run) (tablesOf 𝓤 H 𝓜 (tables 𝓤 H 𝓜 𝓡 code.env))
-    (cited 𝓤 H (Attempt 𝓤 H (𝓖 .A) (𝓜 .mem) (𝓡 .run)) 𝓜 𝓡 code.env #attempt attempt-def.routine code.calls-lent·attempt (attempt-thm.met 𝓤 H 𝓜 𝓖 𝓡))
-    (cited 𝓤 H (Patch₀ 𝓤 H (𝓖 .A) (𝓜 .mem) (𝓡 .run)) 𝓜 𝓡 code.env #patch₀ patch₀-def.routine code.calls-lent·calmed (patch₀-thm.met 𝓤 H 𝓜 𝓖 𝓡))
-    (cited 𝓤 H (Patch₁ 𝓤 H (𝓖 .A) (𝓜 .mem) (𝓡 .run)) 𝓜 𝓡 code.env #patch₁ patch₁-def.routine code.calls-lent·patched (patch₁-thm.met 𝓤 H 𝓜 𝓖 𝓡))
-    (cited 𝓤 H (Core 𝓤 H (𝓖 .A) (𝓜 .mem) (𝓡 .run)) 𝓜 𝓡 code.env #core core-def.routine code.calls-lent·serve (core-thm.met 𝓤 H 𝓜 𝓖 𝓡)))
+    (cited 𝓤 H (Attempt 𝓤 H (𝓖 .A) (𝓜 .mem) (𝓡 .run)) 𝓜 𝓡 code.env #attempt attempt-def.routine code.calls-attempts·attempt (attempt-thm.met 𝓤 H 𝓜 𝓖 𝓡))
+    (cited 𝓤 H (Patch₀ 𝓤 H (𝓖 .A) (𝓜 .mem) (𝓡 .run)) 𝓜 𝓡 code.env #patch₀ patch₀-def.routine code.calls-attempts·calmed (patch₀-thm.met 𝓤 H 𝓜 𝓖 𝓡))
+    (cited 𝓤 H (Patch₁ 𝓤 H (𝓖 .A) (𝓜 .mem) (𝓡 .run)) 𝓜 𝓡 code.env #patch₁ patch₁-def.routine code.calls-attempts·patched (patch₁-thm.met 𝓤 H 𝓜 𝓖 𝓡))
+    (cited 𝓤 H (Core 𝓤 H (𝓖 .A) (𝓜 .mem) (𝓡 .run)) 𝓜 𝓡 code.env #core core-def.routine code.calls-attempts·serve (core-thm.met 𝓤 H 𝓜 𝓖 𝓡)))

@@ -44,32 +44,32 @@ use denote.Triple.Table.{entered, cited}
 use denote.Triple.Walked.{says, Stays, stay-ref, stay-none-slice, walkOf, goes-ref, goes-none-slice, Walks, ends-at, walked, walk-meets}
 use denote.Exit.{yes}
 use denote.Signature.{plain}
-use Rattle.lent.specs.Attempts.{TriedReturn, restoredBy}
-use Rattle.lent.specs.Lent.{lentReturn, servedReturn}
-use Rattle.lent.specs.declared.AttemptedReturn.{AttemptedReturn}
-use Rattle.lent.specs.declared.LentCore.{LentCore}
-use Rattle.lent.specs.declared.SaidReturn.{SaidReturn}
-use Rattle.lent.specs.declared.ServedReturn.{ServedReturn}
-use Rattle.lent.proofs.LentCore as LentCore·
-use Rattle.lent.proofs.LentCore.Laws as LentCore·′
-use Rattle.lent.proofs.SaidReturn as SaidReturn·
-use Rattle.lent.proofs.SaidReturn.Laws as SaidReturn·′
-use Rattle.lent.proofs.ServedReturn as ServedReturn·
-use Rattle.lent.proofs.ServedReturn.Laws as ServedReturn·′
-use Rattle.lent.proofs.AttemptedReturn as AttemptedReturn·
-use Rattle.lent.proofs.AttemptedReturn.Laws as AttemptedReturn·′
-use Rattle.lent.proofs.attempt_return as attempt
-use Rattle.lent.proofs.attempt_return.Symbol as attempt-def
-use Rattle.lent.proofs.attempt_return.Symbol.{name as #attempt}
-use Rattle.lent.proofs.attempt_return.Met as attempt-thm
-use Rattle.lent.proofs.restored as patch₀
-use Rattle.lent.proofs.restored.Symbol as patch₀-def
-use Rattle.lent.proofs.restored.Symbol.{name as #patch₀}
-use Rattle.lent.proofs.restored.Met as patch₀-thm
-use Rattle.lent.proofs.serve_return as core
-use Rattle.lent.proofs.serve_return.Symbol as core-def
-use Rattle.lent.proofs.serve_return.Symbol.{name as #core}
-use Rattle.lent.proofs.serve_return.Met as core-thm
+use Rattle.attempts.specs.Lent.{lentReturn, servedReturn}
+use Rattle.attempts.specs.Restored.{TriedReturn, restoredBy}
+use Rattle.attempts.specs.declared.AttemptedReturn.{AttemptedReturn}
+use Rattle.attempts.specs.declared.SaidReturn.{SaidReturn}
+use Rattle.attempts.specs.declared.ServedReturn.{ServedReturn}
+use Rattle.records.specs.declared.LentCore.{LentCore}
+use Rattle.records.proofs.LentCore as LentCore·
+use Rattle.records.proofs.LentCore.Laws as LentCore·′
+use Rattle.attempts.proofs.SaidReturn as SaidReturn·
+use Rattle.attempts.proofs.SaidReturn.Laws as SaidReturn·′
+use Rattle.attempts.proofs.ServedReturn as ServedReturn·
+use Rattle.attempts.proofs.ServedReturn.Laws as ServedReturn·′
+use Rattle.attempts.proofs.AttemptedReturn as AttemptedReturn·
+use Rattle.attempts.proofs.AttemptedReturn.Laws as AttemptedReturn·′
+use Rattle.attempts.proofs.attempt_return as attempt
+use Rattle.attempts.proofs.attempt_return.Symbol as attempt-def
+use Rattle.attempts.proofs.attempt_return.Symbol.{name as #attempt}
+use Rattle.attempts.proofs.attempt_return.Met as attempt-thm
+use Rattle.attempts.proofs.restored as patch₀
+use Rattle.attempts.proofs.restored.Symbol as patch₀-def
+use Rattle.attempts.proofs.restored.Symbol.{name as #patch₀}
+use Rattle.attempts.proofs.restored.Met as patch₀-thm
+use Rattle.attempts.proofs.serve_return as core
+use Rattle.attempts.proofs.serve_return.Symbol as core-def
+use Rattle.attempts.proofs.serve_return.Symbol.{name as #core}
+use Rattle.attempts.proofs.serve_return.Met as core-thm
 use Rattle.lent.proofs.m68k_return.Key.{name as #f}
 use Rattle.lent.proofs.m68k_return as f
 use Rattle.lent.proofs.m68k_return.Statement as stated
@@ -272,6 +272,6 @@ m68k-return-spec 𝓤 H 𝓜 𝓖 𝓡 =
     entered 𝓤 H (tripleOf 𝓤 H (𝓖 .A) f.signature (f.spec 𝓤 H (𝓖 .A) (𝓜 .mem) (𝓡 .run)))
     (tables 𝓤 H 𝓜 𝓡 code.env .C) (tables 𝓤 H 𝓜 𝓡 code.env .Λ) #f code.function (code.unfolded 𝓤 H 𝓜 𝓡)
     (meets 𝓤 H (𝓖 .A) (givenOf 𝓤 H 𝓜 𝓖) (𝓜 .mem) (𝓡 .run) (tablesOf 𝓤 H 𝓜 (tables 𝓤 H 𝓜 𝓡 code.env))
-    (cited 𝓤 H (Attempt 𝓤 H (𝓖 .A) (𝓜 .mem) (𝓡 .run)) 𝓜 𝓡 code.env #attempt attempt-def.routine code.calls-lent·attempt-return (attempt-thm.met 𝓤 H 𝓜 𝓖 𝓡))
-    (cited 𝓤 H (Patch₀ 𝓤 H (𝓖 .A) (𝓜 .mem) (𝓡 .run)) 𝓜 𝓡 code.env #patch₀ patch₀-def.routine code.calls-lent·restored (patch₀-thm.met 𝓤 H 𝓜 𝓖 𝓡))
-    (cited 𝓤 H (Core 𝓤 H (𝓖 .A) (𝓜 .mem) (𝓡 .run)) 𝓜 𝓡 code.env #core core-def.routine code.calls-lent·serve-return (core-thm.met 𝓤 H 𝓜 𝓖 𝓡)))
+    (cited 𝓤 H (Attempt 𝓤 H (𝓖 .A) (𝓜 .mem) (𝓡 .run)) 𝓜 𝓡 code.env #attempt attempt-def.routine code.calls-attempts·attempt-return (attempt-thm.met 𝓤 H 𝓜 𝓖 𝓡))
+    (cited 𝓤 H (Patch₀ 𝓤 H (𝓖 .A) (𝓜 .mem) (𝓡 .run)) 𝓜 𝓡 code.env #patch₀ patch₀-def.routine code.calls-attempts·restored (patch₀-thm.met 𝓤 H 𝓜 𝓖 𝓡))
+    (cited 𝓤 H (Core 𝓤 H (𝓖 .A) (𝓜 .mem) (𝓡 .run)) 𝓜 𝓡 code.env #core core-def.routine code.calls-attempts·serve-return (core-thm.met 𝓤 H 𝓜 𝓖 𝓡)))

@@ -39,18 +39,18 @@ use denote.Triple.Table.{entered, cited}
 use denote.Triple.Walked.{says, Stays, stay-none, stay-none-ref, stay-none-slice, gave-slice, walkOf, goes-none, goes-none-ref, goes-none-slice, goes-gave-slice, Walks, ends-at, walked, walk-meets}
 use denote.Exit.{yes}
 use denote.Signature.{plain}
-use Rattle.lent.specs.Lent.{lentWalk}
-use Rattle.lent.specs.declared.LentCore.{LentCore}
+use Rattle.attempts.specs.Lent.{lentWalk}
+use Rattle.records.specs.declared.LentCore.{LentCore}
 use Rattle.unwind.specs.Returns.{walk}
 use Rattle.unwind.specs.declared.returns.Walked.{Walked}
-use Rattle.lent.proofs.LentCore as LentCore·
-use Rattle.lent.proofs.LentCore.Laws as LentCore·′
+use Rattle.records.proofs.LentCore as LentCore·
+use Rattle.records.proofs.LentCore.Laws as LentCore·′
 use Rattle.unwind.proofs.returns.Walked as Walked·
 use Rattle.unwind.proofs.returns.Walked.Laws as Walked·′
-use Rattle.lent.proofs.serve_walk as core
-use Rattle.lent.proofs.serve_walk.Symbol as core-def
-use Rattle.lent.proofs.serve_walk.Symbol.{name as #core}
-use Rattle.lent.proofs.serve_walk.Met as core-thm
+use Rattle.attempts.proofs.serve_walk as core
+use Rattle.attempts.proofs.serve_walk.Symbol as core-def
+use Rattle.attempts.proofs.serve_walk.Symbol.{name as #core}
+use Rattle.attempts.proofs.serve_walk.Met as core-thm
 use Rattle.lent.proofs.m68k_walk.Key.{name as #f}
 use Rattle.lent.proofs.m68k_walk as f
 use Rattle.lent.proofs.m68k_walk.Statement as stated
@@ -157,4 +157,4 @@ m68k-walk-spec 𝓤 H 𝓜 𝓖 𝓡 =
     entered 𝓤 H (tripleOf 𝓤 H (𝓖 .A) f.signature (f.spec 𝓤 H (𝓖 .A) (𝓜 .mem) (𝓡 .run)))
     (tables 𝓤 H 𝓜 𝓡 code.env .C) (tables 𝓤 H 𝓜 𝓡 code.env .Λ) #f code.function (code.unfolded 𝓤 H 𝓜 𝓡)
     (meets 𝓤 H (𝓖 .A) (givenOf 𝓤 H 𝓜 𝓖) (𝓜 .mem) (𝓡 .run) (tablesOf 𝓤 H 𝓜 (tables 𝓤 H 𝓜 𝓡 code.env))
-    (cited 𝓤 H (Core 𝓤 H (𝓖 .A) (𝓜 .mem) (𝓡 .run)) 𝓜 𝓡 code.env #core core-def.routine code.calls-lent·serve-walk (core-thm.met 𝓤 H 𝓜 𝓖 𝓡)))
+    (cited 𝓤 H (Core 𝓤 H (𝓖 .A) (𝓜 .mem) (𝓡 .run)) 𝓜 𝓡 code.env #core core-def.routine code.calls-attempts·serve-walk (core-thm.met 𝓤 H 𝓜 𝓖 𝓡)))
