@@ -1,7 +1,7 @@
 #!/usr/bin/env python3
 """Writes what the Rust and the C side of the boundary are, from the Rattle sources:
 
-src/mirror.rs          the #[repr(C)] structs and the exported functions of the crate `lent`
+src/mirror.rs          the exported functions of the crate `lent`, and the #[repr(C)] structs of it and of the crates that it uses
 src/numbers.rs         the number of each call and what its answer is, from `decode` of boundary and `run` of calls
 include/m68k.h         both for C
 leaves/src/mirror.rs   the exported functions of the crate `leaves`, which take the record by value

@@ -12,9 +12,9 @@ A reference stands in backticks, in one of these forms; paths count from the roo
 
 Anything else in backticks is an error, but for the commands of COMMANDS. Outside of them, a path into docs, tools, crates, host or oracle
 must be there too, and `docs/DECISIONS.md, N` a decision. The rows of ROWS must each begin a line of a table. And what the document says of
-contracts is looked at: every function of a crate, but for those of PROGRAMS, has one that is an equation. Prints what is missing; exit
-status 1 if anything is. Before that it is tried on references, lines and functions that are wrong and on a document without rows: if one of
-these passes, the exit status is 1 too.
+contracts is looked at: every function of a crate, but for those of PROGRAMS, has one that is an equation under no condition, but for those of
+UNEQUAL; these have none, and the document names each. Prints what is missing; exit status 1 if anything is. Before that it is tried on
+references, lines and functions that are wrong and on a document without rows: if one of these passes, the exit status is 1 too.
 """
 import functools
 import glob
@@ -26,6 +26,10 @@ ROOT = os.path.dirname(os.path.dirname(os.path.abspath(__file__)))
 DOCUMENT = "docs/ASSURANCE.md"
 COMMANDS = {"rt ci"}
 PROGRAMS = {"replay", "session"}
+# An attempt does the whole call or nothing: its contract is what the exported call's equation needs in each case. The others hand on what
+# is true of every record by its types.
+UNEQUAL = {"attempts/src/lib.rt: attempt", "attempts/src/lib.rt: attempt_return", "fast_return/src/lib.rt: try_return",
+           "attempts/src/views.rt: fits", "fast_return/src/seen.rt: has_registers", "fast_return/src/seen.rt: has_banks"}
 
 NAME = r"[^\s,:`/()]+"
 SPEC = re.compile(rf"(\w+)/specs/(\w+): ({NAME}(?:, {NAME})*)")
@@ -45,7 +49,8 @@ WRONG = ["types/specs/Tables: exceptionCycle", "types/specs/Tables: exceptionCyc
          "host/tests/boundary.rs: no_such_test", "host/tests/none.rs: no_such_test", "docs/NONE.md", "noSuchWordAnywhere", "two words",
          "types/specs/Tables:exceptionCycles", "Tables: exceptionCycles"]
 WRONG_LINES = ["see docs/NONE.md.", "see (docs/DECISIONS.md, 999)", "a `backtick", "`types/specs/Tables: exceptionCycles` and `docs/NONE.md`"]
-WRONG_SOURCES = ["fn f(a: u8) -> u8 {\n    a\n}\n", "pub fn f(\n    a: u8,\n) -> u8\n    ensures { λ r. ⌜ r < 9 ⌝ }\n{\n    a\n}\n"]
+WRONG_SOURCES = ["fn f(a: u8) -> u8 {\n    a\n}\n", "pub fn f(\n    a: u8,\n) -> u8\n    ensures { λ r. ⌜ r < 9 ⌝ }\n{\n    a\n}\n",
+                 "fn f(a: u8) -> u8\n    ensures { λ r. ⌜ (r ≡ 1 → a ≡ 1) × (r < 9) ⌝ }\n{\n    a\n}\n"]
 
 
 @functools.cache
@@ -103,16 +108,30 @@ def line_faults(line):
     return found + [f"no decision {n}" for n in decisions if not re.search(rf"^{n}\. ", text("docs/DECISIONS.md"), re.M)]
 
 
+def equal(head):
+    """Whether one of the things that a function ensures is an equation under no condition."""
+    ensured = re.search(r"ensures (.*)", head)
+    return ensured is not None and any("≡" in part and "→" not in part for part in ensured[1].split("×"))
+
+
 def bare(source):
     """The functions of a source whose contract is no equation."""
     heads = re.findall(r"^(?:pub(?:\(\w+\))? )?(?:extern \"C\" )?fn (\w+)(.*?)(?:^\{| \{)$", source, re.M | re.S)
-    return [name for name, head in heads if not re.search(r"ensures .*≡", head)]
+    return [name for name, head in heads if not equal(head)]
 
 
 def contracts():
-    """Functions without a contract that is an equation, outside of the programs."""
-    files = sorted(glob.glob("crates/*/src/**/*.rt", root_dir=ROOT, recursive=True))
-    return [f"{path}: {name} has no equation" for path in files if path.split("/")[1] not in PROGRAMS for name in bare(text(path))]
+    """Functions without a contract that is an equation, outside of the programs: those of UNEQUAL and no others."""
+    files = [path for path in sorted(glob.glob("crates/*/src/**/*.rt", root_dir=ROOT, recursive=True)) if path.split("/")[1] not in PROGRAMS]
+    found = {f"{path.partition('/')[2]}: {name}" for path in files for name in bare(text(path))}
+    return ([f"{name} has no equation" for name in sorted(found - UNEQUAL)]
+            + [f"{name} is to have no equation and has one, or is not there" for name in sorted(UNEQUAL - found)])
+
+
+def unnamed(document):
+    """The functions of UNEQUAL that a document does not name."""
+    named = {f"{crate}/src/{file}: {name}" for crate, file, names in SOURCE.findall(document) for name in names.split(", ")}
+    return [f"{name} has no equation, and the document does not say so" for name in sorted(UNEQUAL - named)]
 
 
 def faults(document):
@@ -132,7 +151,7 @@ def main():
     path = sys.argv[2] if len(sys.argv) > 2 else os.path.join(ROOT, DOCUMENT)
     with open(path, encoding="utf-8") as file:
         document = file.read()
-    found = faults(document) + contracts()
+    found = faults(document) + unnamed(document) + contracts()
     for fault in found:
         print(f"{os.path.basename(path)}: {fault}")
     if found:

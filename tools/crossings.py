@@ -1,8 +1,8 @@
 #!/usr/bin/env python3
 """crossings.py [--most N]: counts how often one call crosses crates; with --most exit status 1 where it is more than N times.
 
-Walks the source (crates/*/src) from `serve`, which `m68k_call` is over the copy of the lent record, on the input of a recorded example,
-TRAP #15 on a 68010, and counts the calls from a function of one crate to a function of another. Calls of `std`, the toolchain's wrapping
+Walks the source (crates/*/src) from `serve` of `attempts`, the plain way that `m68k_call` takes where the fast way does not, on the input of
+a recorded example, TRAP #15 on a 68010, and counts the calls from a function of one crate to a function of another. Calls of `std`, the toolchain's wrapping
 functions, are counted apart. Prints both numbers, then a table by pair of crates. The answer, the log and the store must come out as the
 example says, else it prints no number and the exit status is 1.
 
@@ -324,7 +324,7 @@ def crossings():
     before, log = patched([0] * STORE, given["patch"]), [0] * LOG
     store = list(before)
     program.crossings.clear()
-    answer = program.call("lent", "lent::serve", {"cpu": cpu, "bus": bus}, call, store, log)["said"]
+    answer = program.call("attempts", "attempts::serve", {"cpu": cpu, "bus": bus}, call, store, log)["said"]
 
     events = [int(word, 16) for word in re.split("[:,]", said["ev"])]
     ends = {"answer": [answer[name] for name in ("refused", "answer", "events")], "log": log, "store": store}

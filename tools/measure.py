@@ -1,7 +1,8 @@
 #!/usr/bin/env python3
 """measure.py: counts instructions an entry with callgrind, both sides, and prints markdown tables. Run by measure.sh, which builds.
 
-Each program makes the call of one case so many times. Instructions an entry are those of 2,000 turns less those of 1,000, by 1,000,
+Each program makes the call of one case so many times. A return and a walk are ours and not the Rust's: the proved side alone is counted,
+and its answer compared with the oracle's own. Instructions an entry are those of 2,000 turns less those of 1,000, by 1,000,
 less the same of turns without the call. What happens once cancels; a count that does not divide is an error.
 """
 import collections
@@ -21,6 +22,10 @@ USUAL = 'status=2700 pc=1000 ppc=ffe a7=8000'
 BUS_ERROR = 'exception_bus_error:1234:0:0:4:0'
 INTERRUPT = 'check_and_service_interrupts'
 ENTERED = {'pc': '2000'}
+TRACED = {'ans': '1', 'nev': '0'}
+RETURNED, WALKED = {'pc': '3000'}, {'ans': '64'}
+# Frames at A7: status, address, and where the kind has it the word of format and vector.
+SHORT, LONG = '270000003000', '2700000030000080'
 CASES = [
     ('take_exception', 1, 'take_exception:20', 'patch=80:00002000', ENTERED),
     ('take_exception', 2, 'take_exception:20', 'patch=80:00002000', ENTERED),
@@ -30,11 +35,21 @@ CASES = [
     ('interrupt, level 7', 4, INTERRUPT, 'int_level=7 patch=7c:00002000', ENTERED),
     ('interrupt, not taken', 2, INTERRUPT, 'int_level=3', {'ans': '0', 'nev': '0'}),
     ('interrupt, not taken', 4, INTERRUPT, 'int_level=3', {'ans': '0', 'nev': '0'}),
+    ('check_trace', 2, 'check_trace', 'sr_save=a700', TRACED),
+    ('check_trace', 4, 'check_trace', 'sr_save=a700', TRACED),
     ('CHK', 4, 'exception_chk', 'patch=18:00002000', ENTERED),
     ('bus error', 4, BUS_ERROR, 'patch=8:00002000', ENTERED),
     ('bus error', 9, BUS_ERROR, 'patch=8:00002000', ENTERED),
     ('take_exception whose frame faults', 4, 'take_exception:20', 'a7=2', {'stopped': '1', 'run_mode': '1'}),
+    ('return', 1, 'return', 'patch=8000:' + SHORT, RETURNED),
+    ('return', 2, 'return', 'patch=8000:' + LONG, RETURNED),
+    ('return', 4, 'return', 'patch=8000:' + LONG, RETURNED),
+    ('walk of 64', 1, 'walk:40:100', 'patch=8000:' + SHORT * 64, WALKED),
+    ('walk of 64', 2, 'walk:40:100', 'patch=8000:' + LONG * 64, WALKED),
+    ('walk of 64', 4, 'walk:40:100', 'patch=8000:' + LONG * 64, WALKED),
 ]
+# What the Rust has not.
+OURS = 'return', 'walk'
 
 
 class Bad(Exception):
@@ -89,6 +104,14 @@ def each_turn(side, what, given, folder):
     return answer, *({k: n // TURNS for k, n in more.items() if n} for more in twice)
 
 
+def own_answer(given):
+    """What the oracle's own code answers."""
+    done = subprocess.run([os.path.join(ROOT, SIDES['Rust']), 'answer', given], capture_output=True, text=True)
+    if done.returncode != 0:
+        raise Bad('%s: %s' % (given, done.stderr.strip()))
+    return done.stdout.strip()
+
+
 def short(name):
     """The copy of the C library under one name, whichever it chose; the loops too; a function that calls itself under its own."""
     name = name.split("'")[0]
@@ -141,18 +164,21 @@ def main():
         split = None
         for what, kind, call, rest, want in CASES:
             given = 'call=%s kind=%d %s %s' % (call, kind, USUAL.replace(' a7=8000', '') if 'a7=' in rest else USUAL, rest)
-            found = {side: each_turn(side, 'call', given, folder) for side in SIDES}
-            if found['proved'][0] != found['Rust'][0]:
-                raise Bad('%s\n  proved %s\n  Rust   %s' % (given, found['proved'][0], found['Rust'][0]))
-            answer = dict(pair.split('=', 1) for pair in found['Rust'][0].split())
+            sides = ['proved'] if call.split(':')[0] in OURS else list(SIDES)
+            found = {side: each_turn(side, 'call', given, folder) for side in sides}
+            told = found['Rust'][0] if 'Rust' in found else own_answer(given)
+            if found['proved'][0] != told:
+                raise Bad('%s\n  proved %s\n  Rust   %s' % (given, found['proved'][0], told))
+            answer = dict(pair.split('=', 1) for pair in told.split())
             if answer['refused'] != '0' or any(answer.get(name) != value for name, value in want.items()):
-                raise Bad('%s: not what is to be measured: %s' % (given, found['Rust'][0]))
-            own = {side: without(found[side][1], empty[side][0]) for side in SIDES}
+                raise Bad('%s: not what is to be measured: %s' % (given, told))
+            own = {side: without(found[side][1], empty[side][0]) for side in sides}
             copies = without(found['proved'][2], empty['proved'][1])['memcpy']
-            rust, proved = sum(own['Rust'].values()), sum(own['proved'].values())
-            rows.append((what, kind, answer['nev'], rust, proved, '%.1f' % (proved / rust), copies, own['proved']['memcpy']))
+            rust, proved = sum(own['Rust'].values()) if 'Rust' in own else None, sum(own['proved'].values())
+            beside = (rust, proved, '%.1f' % (proved / rust)) if rust else ('-', proved, '-')
+            rows.append((what, kind, answer['nev'], *beside, copies, own['proved']['memcpy']))
             if kind == SHOWN:
-                for side in SIDES:
+                for side in sides:
                     named = ', '.join('`%s` %d' % pair for pair in own[side].most_common(NAMED))
                     wheres.append((what, kind, side, named))
             if kind == SHOWN and split is None:

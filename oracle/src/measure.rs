@@ -49,6 +49,12 @@ pub fn copies(line: &str, count: u32) -> Result<(), String> {
     Ok(())
 }
 
+/// The answer of a return or a walk, which the Rust has not: the oracle's own, to compare with and not to count.
+pub fn answer(line: &str) -> Result<String, String> {
+    let case = text::parse(line)?;
+    Ok(text::format(&case, &calls::run(&case)))
+}
+
 /// The call of a case so many times, and the last answer in the text of the cases. The calls that are
 /// measured go straight to the lifted function, as they do in the Rust.
 pub fn calls(line: &str, count: u32) -> Result<String, String> {
@@ -61,6 +67,7 @@ pub fn calls(line: &str, count: u32) -> Result<String, String> {
             turns(&case, count, |core, bus| core.take_exception(bus, v).into())
         }
         Call::ExceptionChk => turns(&case, count, |core, bus| core.exception_chk(bus).into()),
+        Call::CheckTrace => turns(&case, count, |core, _| core.check_trace().into()),
         Call::CheckAndServiceInterrupts => turns(&case, count, |core, bus| {
             execute::reach::check_and_service_interrupts(core, bus).into()
         }),

@@ -1,7 +1,7 @@
 // The fast way of a call: what an entry, an interrupt or a check between instructions leaves, computed from numbers where nothing is refused,
 // nothing faults and no window counts. Everything is tested first; then store and log are written, or nothing is. What the
 // record becomes is said as numbers (`Patch`), so that no record is copied. It uses `boundary` for the call by number, `status` and `types`;
-// `lent` tries it before the plain way.
+// `attempts` tries it before the plain way.
 use boundary::RawCall;
 use cpu::Flags;
 use places::Landing;

@@ -32,7 +32,7 @@ pub(crate) enum Wanted {
 pub struct Cases {
     pub(crate) core: Core,
     pub(crate) log: Vec<u32>,
-    rows: Vec<u32>,
+    pub(crate) rows: Vec<u32>,
     /// The bytes that a case says, 65,536 at most.
     pub(crate) store: Vec<u8>,
     before: Vec<u8>,

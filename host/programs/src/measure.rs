@@ -1,7 +1,7 @@
-//! One call over and over, so that its instructions can be counted from outside.
+//! One call, return or walk over and over, so that its instructions can be counted from outside.
 //!
 //! Each turn copies the core whole, as a caller does who has a fresh one each time, and lends it in place. Store and log
-//! are those of the first turn: an entry writes the same bytes and events every time.
+//! are those of the first turn: an entry writes the same bytes and events every time, a walk the same rows.
 
 use crate::cases::{Cases, Wanted};
 use m68k_host::Core;
@@ -15,18 +15,24 @@ pub fn copies(line: &str, turns: u32) -> Result<(), String> {
     Ok(())
 }
 
-/// The call of a case so many times, and then once more for its answer, in the text of the cases.
+/// What a case asks for so many times, and then once more for its answer, in the text of the cases.
 pub fn calls(line: &str, turns: u32) -> Result<String, String> {
     let mut cases = Cases::new();
-    let Wanted::Call(call) = cases.read(line)? else {
-        return Err("a return or a walk is not measured".into());
-    };
-    let Cases { core, store, log, .. } = &mut cases;
-    turn_by_turn(core, turns, |core| {
-        black_box(&core.call(call, store, log));
-    });
+    let wanted = cases.read(line)?;
+    let Cases { core, store, log, rows, .. } = &mut cases;
+    match wanted {
+        Wanted::Call(call) => turn_by_turn(core, turns, |core| {
+            black_box(&core.call(call, store, log));
+        }),
+        Wanted::Return => turn_by_turn(core, turns, |core| {
+            black_box(&core.return_from(store));
+        }),
+        Wanted::Walk { n, .. } => turn_by_turn(core, turns, |core| {
+            black_box(&core.walk(n, store, rows));
+        }),
+    }
     let mut out = vec![];
-    cases.perform(Wanted::Call(call), &mut out)?;
+    cases.perform(wanted, &mut out)?;
     String::from_utf8(out).map_err(|e| e.to_string())
 }
 

@@ -1,7 +1,8 @@
-//! Makes the call of one case over and over, for tools/measure.sh, and prints its answer.
-//! usage: measure call|copy INPUT TURNS
+//! Makes the call of one case over and over, for tools/measure.sh, and prints its answer. A return or a
+//! walk, which the Rust has not, is answered once.
+//! usage: measure call|copy INPUT TURNS, or measure answer INPUT
 
-use oracle::measure::{calls, copies};
+use oracle::measure::{answer, calls, copies};
 use std::process::ExitCode;
 
 fn main() -> ExitCode {
@@ -11,9 +12,10 @@ fn main() -> ExitCode {
         [what, input, turns] => match (what, turns.parse()) {
             ("call", Ok(turns)) => calls(input, turns),
             ("copy", Ok(turns)) => copies(input, turns).map(|()| String::new()),
-            _ => Err("usage: measure call|copy INPUT TURNS".into()),
+            _ => Err("usage: measure call|copy INPUT TURNS, or measure answer INPUT".into()),
         },
-        _ => Err("usage: measure call|copy INPUT TURNS".into()),
+        ["answer", input] => answer(input),
+        _ => Err("usage: measure call|copy INPUT TURNS, or measure answer INPUT".into()),
     };
     match done {
         Ok(answer) => {
