@@ -118,9 +118,12 @@ pub fn attempt(c: LentCore, call: RawCall, store: &mut [u8], log: &mut [u32]) ->
 {
     if views::is_tidy(c) {
         let regs = c.cpu.regs;
-        let known = views::fits(c.cpu.flow.pc, c.cpu.flow.ppc, c.cpu.queue.pending_sync_clocks, regs.dar, regs.sp);
+        let dar = regs.dar;
+        let sp = regs.sp;
+        let known = views::fits(c.cpu.flow.pc, c.cpu.flow.ppc, c.cpu.queue.pending_sync_clocks, dar, sp);
         let x = views::view(c);
         let q = fast::go(x, call, store, log);
+        let fetched = views::words(q.first, q.second);
         return hand_over(q);
     }
     let q = fast::none();

@@ -55,6 +55,12 @@ pub(crate) fn fits(pc: u32, ppc: u32, clocks: u32, dar: [u32; 16], sp: [u32; 8])
     true
 }
 
+pub(crate) fn words(first: u16, second: u16) -> bool
+    ensures { λ r. ⌜ (first < 0x10000) × (second < 0x10000) ⌝ }
+{
+    true
+}
+
 // Every flag byte is 0 or 1, as the core would lend it.
 pub(crate) fn is_tidy(c: LentCore) -> bool
     ensures { λ r. ⌜ r ≡ isTidy c ⌝ }

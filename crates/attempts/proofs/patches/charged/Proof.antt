@@ -17,11 +17,13 @@ less-cycles-requires c κs = search needs
 
 returns : tie.Need-returns
 unfolding chargedBy
-returns c = (let back = toZ-ofZ {w = w32} {z = c .before .before .before .before .args .f .«cycles_remaining»} (record { sfits = c .before .struct-told .given .1 .1 .1 .1 .1 .1 .1 .1 .1 .1 .1 .0 .1 }) in rw back at (c .less-cycles .ensures)) ∙ simp (c .before .before .before .if1 .taken)
+returns c =
+    let back = toZ-ofZ {w = w32} {z = c .before .before .before .before .args .f .«cycles_remaining»} (record { sfits = c .before .struct-told .given .1 .1 .1 .1 .1 .1 .1 .1 .1 .1 .1 .0 .1 }) in
+    rw (toZ-ofZ {w = w32} {z = c .less-cycles .result} (record { sfits = c .less-cycles .ok }), rw back at (c .less-cycles .ensures), c .before .before .before .if1 .taken) refl
 
 returns-2 : tie.Need-returns-2
 unfolding chargedBy
-returns-2 c = let back = toZ-ofZ {w = w32} {z = c .before .before .args .f .«cycles_remaining»} (record { sfits = c .struct-told .given .1 .1 .1 .1 .1 .1 .1 .1 .1 .1 .1 .0 .1 }) in rw back (simp (c .before .if1 .left))
+returns-2 c = let back = toZ-ofZ {w = w32} {z = c .before .before .args .f .«cycles_remaining»} (record { sfits = c .struct-told2 .given .1 .1 .1 .1 .1 .1 .1 .1 .1 .1 .1 .0 .1 }) in rw back (simp (c .before .if1 .left))
 
 pub charged-spec : {M : Type 1} → statement M
 charged-spec = tie.close (tie.spec less-cycles-requires returns returns-2)

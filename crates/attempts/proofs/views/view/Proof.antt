@@ -2,10 +2,7 @@ use mathlib.Core.Path.{_≡_, refl, sym, ap, _∙_}
 use native.Mathlib.Omega.{arith}
 use lib.ListN.{length-set}
 use borrow.Author.Tests.{lt-ltb, le-ltb, eq-eqb, ne-eqb}
-use Rattle.pending.specs.Interrupts.{hasCycles}
-use Rattle.boundary.specs.Calls.{flag}
-use Rattle.records.specs.Records.{raised, raisedCpu, raisedFlow, raisedQueue, raisedFault, raisedCode}
-use Rattle.fast.specs.Views.{viewOf}
+use Rattle.attempts.proofs.Tries.{view-way}
 use borrow.Author.Needs.{needs}
 use Rattle.attempts.proofs.views.view.Statement.{statement}
 use Rattle.attempts.proofs.views.view.Tie as tie
@@ -26,8 +23,7 @@ element-copy-out-t14 : tie.Need-element-copy-out-t14
 element-copy-out-t14 c = search needs
 
 returns : tie.Need-returns
-unfolding viewOf raised raisedCpu raisedFlow raisedQueue raisedFault raisedCode flag hasCycles
-returns c = cc
+returns c = view-way (c .before .before .before .before .before .before .before .before .before .before .before .args .c) (c .before .before .before .before .before .before .before .before .before .before .has-room .ensures)
 
 pub view-spec : {M : Type 1} → statement M
 view-spec = tie.close (tie.spec has-room-requires element-copy-out-t8 element-copy-out-t11 element-copy-out-t14 returns)
