@@ -84,8 +84,8 @@ unfoldable pub patchedQueue : LentQueue → Patch → LentQueue
 patchedQueue f q =
     record {
       «prefetch_queue» =
-        set (set (f .«prefetch_queue») 0 (pick (q .fetches) (q .first) (getD (f .«prefetch_queue») 0 0))) 1
-        (pick (q .fetches) (q .second) (getD (f .«prefetch_queue») 1 0));
+          set (set (f .«prefetch_queue») 0 (pick (q .fetches) (q .first) (getD (f .«prefetch_queue») 0 0))) 1
+          (pick (q .fetches) (q .second) (getD (f .«prefetch_queue») 1 0));
       «prefetch_count» = pick (q .fetches) 2 (f .«prefetch_count»);
       «pending_sync_clocks» = 0;
       «precise_bus» = f .«precise_bus»;

@@ -11,6 +11,7 @@ use records::LentCpu;
 use records::LentResume;
 use unwind::returns::Row;
 use unwind::returns::Walked;
+
 mod patches; // a patch laid into the groups of a lent record
 mod views; // what the fast way reads of a lent record
 
@@ -120,7 +121,13 @@ pub fn attempt(c: LentCore, call: RawCall, store: &mut [u8], log: &mut [u32]) ->
         let regs = c.cpu.regs;
         let dar = regs.dar;
         let sp = regs.sp;
-        let known = views::fits(c.cpu.flow.pc, c.cpu.flow.ppc, c.cpu.queue.pending_sync_clocks, dar, sp);
+        let known = views::fits(
+            c.cpu.flow.pc,
+            c.cpu.flow.ppc,
+            c.cpu.queue.pending_sync_clocks,
+            dar,
+            sp,
+        );
         let x = views::view(c);
         let q = fast::go(x, call, store, log);
         let fetched = views::words(q.first, q.second);
