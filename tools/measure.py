@@ -175,7 +175,7 @@ def main():
             own = {side: without(found[side][1], empty[side][0]) for side in sides}
             copies = without(found['proved'][2], empty['proved'][1])['memcpy']
             rust, proved = sum(own['Rust'].values()) if 'Rust' in own else None, sum(own['proved'].values())
-            beside = (rust, proved, '%.1f' % (proved / rust)) if rust else ('-', proved, '-')
+            beside = (rust, proved, '%.2f' % (proved / rust)) if rust else ('-', proved, '-')
             rows.append((what, kind, answer['nev'], *beside, copies, own['proved']['memcpy']))
             if kind == SHOWN:
                 for side in sides:
