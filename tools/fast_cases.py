@@ -1,8 +1,8 @@
 #!/usr/bin/env python3
-"""fast_cases.py SEED COUNT: how many generated cases take the fast way. Run after tools/compare.sh, which builds what it calls.
+"""fast_cases.py SEED COUNT [nests]: how many generated cases, or steps of generated nests, take the fast way. Run after tools/compare.sh, which builds what it calls.
 
 Which way a call goes does not show in what it leaves or says. But the plain way ends in `calls::run`, which the compiler leaves a function
-of its own, and callgrind counts its calls. Of the cases that `oracle gen SEED COUNT` gives, those that are accepted and are neither a return
+of its own, and callgrind counts its calls. Of the cases that `oracle gen SEED COUNT` gives, or `oracle nests`, those that are accepted and are neither a return
 nor a walk and do not call it went the fast way. The answers are held to the oracle's on the way.
 """
 import os
@@ -33,8 +33,8 @@ def answered(inputs, folder):
 
 
 def main():
-    seed, count = sys.argv[1:]
-    given = subprocess.run([ORACLE, 'gen', seed, count], capture_output=True, text=True, check=True).stdout.splitlines()
+    seed, count, *what = sys.argv[1:]
+    given = subprocess.run([ORACLE, *(what or ['gen']), seed, count], capture_output=True, text=True, check=True).stdout.splitlines()
     pairs = [line.split(' => ') for line in given if ' => ' in line]
     with tempfile.TemporaryDirectory() as folder:
         answers, plain = answered([x for x, _ in pairs], folder)
