@@ -67,6 +67,8 @@ C_SAYS = {
     "m68k_call": "Performs the call on the record, the bus and the lent store and log, or refuses it: then every field of the record,\n"
                  " * flags too, and store and log are as they came. A log has 192 words at least; each event is three of them. `answer` is the\n"
                  " * cycles of an entry, the value of a read, 0 or 1 of a check.",
+    "m68k_take_exception": "`take_exception` alone: what m68k_call says and leaves with M68K_TAKE_EXCEPTION and the vector.",
+    "m68k_check_and_service_interrupts": "The interrupt call alone: what m68k_call says and leaves with M68K_CHECK_AND_SERVICE_INTERRUPTS.",
     "m68k_return": "Returns from the entry whose frame lies at A7; `row` is what its frame held, zeros where `refused` is not 0.",
     "m68k_walk": "Makes n returns on a copy and lays what each read into `rows`, four words each: format, status, address, offset.",
     "m68k_fresh": "The record of a processor of that kind after it was made.",

@@ -28,7 +28,11 @@ DOCUMENT = "docs/ASSURANCE.md"
 COMMANDS = {"rt ci"}
 PROGRAMS = {"replay", "session"}
 # An attempt does the whole call or nothing: its contract is what the exported call's equation needs in each case.
-UNEQUAL = {"attempts/src/lib.rt: attempt", "attempts/src/lib.rt: attempt_return", "fast_return/src/lib.rt: try_return"}
+UNEQUAL = {
+    *(f"attempts/src/lib.rt: {name}" for name in ("attempt", "attempt_exception", "attempt_interrupt", "attempt_return")),
+    "fast_return/src/lib.rt: try_return",
+    "ways/src/lib.rt: m68k_way",
+}
 
 NAME = r"[^\s,:`/()]+"
 SPEC = re.compile(rf"(\w+)/specs/(\w+): ({NAME}(?:, {NAME})*)")

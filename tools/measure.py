@@ -37,6 +37,14 @@ CASES = [
     ('interrupt, not taken', 4, INTERRUPT, 'int_level=3', {'ans': '0', 'nev': '0'}),
     ('check_trace', 2, 'check_trace', 'sr_save=a700', TRACED),
     ('check_trace', 4, 'check_trace', 'sr_save=a700', TRACED),
+    ('take_exception, own export', 1, 'take_exception:20', 'patch=80:00002000', ENTERED),
+    ('take_exception, own export', 2, 'take_exception:20', 'patch=80:00002000', ENTERED),
+    ('take_exception, own export', 4, 'take_exception:20', 'patch=80:00002000', ENTERED),
+    ('interrupt, own export', 1, INTERRUPT, 'int_level=7 patch=7c:00002000', ENTERED),
+    ('interrupt, own export', 2, INTERRUPT, 'int_level=7 patch=7c:00002000', ENTERED),
+    ('interrupt, own export', 4, INTERRUPT, 'int_level=7 patch=7c:00002000', ENTERED),
+    ('interrupt not taken, own export', 2, INTERRUPT, 'int_level=3', {'ans': '0', 'nev': '0'}),
+    ('interrupt not taken, own export', 4, INTERRUPT, 'int_level=3', {'ans': '0', 'nev': '0'}),
     ('CHK', 4, 'exception_chk', 'patch=18:00002000', ENTERED),
     ('bus error', 4, BUS_ERROR, 'patch=8:00002000', ENTERED),
     ('bus error', 9, BUS_ERROR, 'patch=8:00002000', ENTERED),
@@ -144,7 +152,7 @@ def sorts(at):
             text[int(parts[0][:-1], 16)] = parts[1], parts[2] if len(parts) > 2 else ''
     out = collections.Counter()
     for (name, address), n in at.items():
-        if name.split('::')[0] in crates or name.startswith('m68k_call'):
+        if name.split('::')[0] in crates or name.startswith('m68k_') and '::' not in name:
             what, operands = text[address]
             moves = what.startswith(('mov', 'vmov'))
             wide = moves and 'mm' in operands
@@ -165,7 +173,8 @@ def main():
         for what, kind, call, rest, want in CASES:
             given = 'call=%s kind=%d %s %s' % (call, kind, USUAL.replace(' a7=8000', '') if 'a7=' in rest else USUAL, rest)
             sides = ['proved'] if call.split(':')[0] in OURS else list(SIDES)
-            found = {side: each_turn(side, 'call', given, folder) for side in sides}
+            way = {'proved': 'alone' if 'own export' in what else 'call', 'Rust': 'call'}
+            found = {side: each_turn(side, way[side], given, folder) for side in sides}
             told = found['Rust'][0] if 'Rust' in found else own_answer(given)
             if found['proved'][0] != told:
                 raise Bad('%s\n  proved %s\n  Rust   %s' % (given, found['proved'][0], told))

@@ -283,6 +283,12 @@ enum m68k_number {
  * cycles of an entry, the value of a read, 0 or 1 of a check. */
 struct m68k_said m68k_call(struct m68k_core *core, struct m68k_raw_call call, uint8_t *store, size_t store_len, uint32_t *log, size_t log_len);
 
+/* `take_exception` alone: what m68k_call says and leaves with M68K_TAKE_EXCEPTION and the vector. */
+struct m68k_said m68k_take_exception(struct m68k_core *core, uint32_t vector, uint8_t *store, size_t store_len, uint32_t *log, size_t log_len);
+
+/* The interrupt call alone: what m68k_call says and leaves with M68K_CHECK_AND_SERVICE_INTERRUPTS. */
+struct m68k_said m68k_check_and_service_interrupts(struct m68k_core *core, uint8_t *store, size_t store_len, uint32_t *log, size_t log_len);
+
 /* Returns from the entry whose frame lies at A7; `row` is what its frame held, zeros where `refused` is not 0. */
 struct m68k_said_return m68k_return(struct m68k_core *core, const uint8_t *store, size_t store_len);
 

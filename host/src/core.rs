@@ -125,6 +125,74 @@ impl Core {
         }
     }
 
+    /// The Rust's `take_exception` by an export of its own: what [`Core::call`] says and leaves with
+    /// [`Call::TakeException`], in fewer instructions.
+    ///
+    /// # Errors
+    ///
+    /// As in [`Core::call`].
+    ///
+    /// ```
+    /// use m68k_host::{Answer, Core, Kind, Refusal};
+    ///
+    /// let mut core = Core::fresh(Kind::M68010);
+    /// core.dar_mut()[15] = 0x1000;
+    /// let (mut store, mut log) = (vec![0; 0x1000], vec![0; 192]);
+    /// let done = core.take_exception(47, &mut store, &mut log);
+    /// assert_eq!(done, Ok(Answer::Cycles { cycles: 34, events: 9 }));
+    /// assert_eq!(core.take_exception(256, &mut store, &mut log), Err(Refusal::Vector));
+    /// ```
+    pub fn take_exception(
+        &mut self,
+        vector: u32,
+        store: &mut [u8],
+        log: &mut [u32],
+    ) -> Result<Answer, Refusal> {
+        let (store_len, log_len) = (store.len(), log.len());
+        // Sound as in `call`.
+        let said = unsafe {
+            let (store, log) = (store.as_mut_ptr(), log.as_mut_ptr());
+            mirror::m68k_take_exception(&mut self.0, vector, store, store_len, log, log_len)
+        };
+        match Refusal::from_number(said.refused) {
+            Some(refusal) => Err(refusal),
+            None => Ok(Answer::Cycles { cycles: said.answer, events: said.events }),
+        }
+    }
+
+    /// The Rust's `check_and_service_interrupts` by an export of its own, for the loop of an emulator, which asks after
+    /// every instruction: what [`Core::call`] says and leaves with [`Call::CheckAndServiceInterrupts`], in fewer
+    /// instructions.
+    ///
+    /// # Errors
+    ///
+    /// As in [`Core::call`].
+    ///
+    /// ```
+    /// use m68k_host::{Answer, Core, Kind};
+    ///
+    /// let mut core = Core::fresh(Kind::M68010);
+    /// let done = core.check_and_service_interrupts(&mut [], &mut [0; 192]);
+    /// assert_eq!(done, Ok(Answer::Flag { set: false, events: 0 }));
+    /// ```
+    pub fn check_and_service_interrupts(
+        &mut self,
+        store: &mut [u8],
+        log: &mut [u32],
+    ) -> Result<Answer, Refusal> {
+        let (store_len, log_len) = (store.len(), log.len());
+        // Sound as in `call`.
+        let said = unsafe {
+            let (store, log) = (store.as_mut_ptr(), log.as_mut_ptr());
+            let core = &mut self.0;
+            mirror::m68k_check_and_service_interrupts(core, store, store_len, log, log_len)
+        };
+        match Refusal::from_number(said.refused) {
+            Some(refusal) => Err(refusal),
+            None => Ok(Answer::Flag { set: said.answer != 0, events: said.events }),
+        }
+    }
+
     /// Returns from the entry whose frame lies at A7, and says what the frame held.
     ///
     /// A7, the program counter, the status and the stack in use become what the frame says, and the words fetched

@@ -58,6 +58,8 @@ mod random;
 mod record;
 mod refusal;
 mod row;
+#[cfg(feature = "ways")]
+mod ways;
 
 pub use crate::core::{Core, Window};
 pub use answer::Answer;

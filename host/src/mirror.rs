@@ -260,6 +260,21 @@ unsafe extern "C" {
         log: *mut u32,
         log_len: usize,
     ) -> Said;
+    pub fn m68k_take_exception(
+        core: *mut LentCore,
+        vector: u32,
+        store: *mut u8,
+        store_len: usize,
+        log: *mut u32,
+        log_len: usize,
+    ) -> Said;
+    pub fn m68k_check_and_service_interrupts(
+        core: *mut LentCore,
+        store: *mut u8,
+        store_len: usize,
+        log: *mut u32,
+        log_len: usize,
+    ) -> Said;
     pub fn m68k_return(core: *mut LentCore, store: *const u8, store_len: usize) -> SaidReturn;
     pub fn m68k_walk(
         core: *const LentCore,

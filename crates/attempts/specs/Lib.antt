@@ -1,5 +1,6 @@
 pub mod Lent
 pub mod Attempts
 pub mod Patched
+pub mod Framed
 pub mod Restored
 pub mod Laws

@@ -98,23 +98,24 @@ pub lent-law : (c : LentCore) → Tidy c → lowered (raised c) ≡ c
 unfolding lowered loweredCpu loweredFlow loweredQueue loweredFault loweredResume loweredVector loweredCode raised raisedCpu raisedFlow raisedQueue raisedFault raisedResume raisedVector raisedCode
 lent-law c t = rw (t .exception, t .change, t .loop, t .precise, t .instruction, t .last, t .code, t .resume) refl
 
+-- an outcome that is the call's, over the lent record
+pub lent-by : (c : LentCore) (call : RawCall) (s l : List ℕ) (m : LentCore) (o : Outcome) → lowered (o .after .core) ≡ m → o .refused ≡ 0 → o ≡ rawCall (world (raised c) s l) call
+    → left m (o .after .store) (o .after .log) (says 0 (o .answer) (o .events)) ≡ lentCall c s l call
+unfolding lentCall leftBy recordAfter
+lent-by c call s l m o h z k = rw (← k, z, ← h) refl
+
 -- what the fast way did is the call over the lent record
 module _ (c : LentCore) (call : RawCall) (s l : List ℕ) (g : Ended) (t : Tidy c) (w : Words (raised c)) (q : Fetched (g .patch)) (e : g ≡ goOf (viewOf (raised c)) call s l) where
-  lent-by : (m : LentCore) (o : Outcome) → lowered (o .after .core) ≡ m → o .refused ≡ 0 → o ≡ rawCall (world (raised c) s l) call
-      → left m (o .after .store) (o .after .log) (says 0 (o .answer) (o .events)) ≡ lentCall c s l call
-  unfolding lentCall leftBy recordAfter
-  lent-by m o h z k = rw (← k, z, ← h) refl
-
   pub tried : Tried c call s l (attemptedBy (g .patch)) (g .store) (g .log)
   unfolding attemptedBy
   tried =
       record {
-        idle = λ h. lent-by c (outcome (world (raised c) (g .store) (g .log)) 0 (g .patch .answer) (g .patch .events)) (lent-law c t) refl (rw (← e) at (idle-same (raised c) call s l (rw e at h)));
+        idle = λ h. lent-by c call s l c (outcome (world (raised c) (g .store) (g .log)) 0 (g .patch .answer) (g .patch .events)) (lent-law c t) refl (rw (← e) at (idle-same (raised c) call s l (rw e at h)));
         calm = λ h.
-            lent-by (calmedBy c (attemptedBy (g .patch))) (outcome (world (calmOf (raised c) (g .patch)) (g .store) (g .log)) 0 (g .patch .answer) (g .patch .events)) (calmed-law c (attemptedBy (g .patch)) t) refl
+            lent-by c call s l (calmedBy c (attemptedBy (g .patch))) (outcome (world (calmOf (raised c) (g .patch)) (g .store) (g .log)) 0 (g .patch .answer) (g .patch .events)) (calmed-law c (attemptedBy (g .patch)) t) refl
             (rw (← e) at (calm-same (raised c) call s l (rw e at h)));
         fast = λ h.
-            lent-by (patchedBy c (attemptedBy (g .patch))) (outcome (world (patchOf (raised c) (g .patch)) (g .store) (g .log)) 0 (g .patch .answer) (g .patch .events)) (patched-law c (attemptedBy (g .patch)) t) refl
+            lent-by c call s l (patchedBy c (attemptedBy (g .patch))) (outcome (world (patchOf (raised c) (g .patch)) (g .store) (g .log)) 0 (g .patch .answer) (g .patch .events)) (patched-law c (attemptedBy (g .patch)) t) refl
             (rw (← e) at (entry-same (raised c) call s l w (rw e at q) (rw e at h)));
         store = λ i j h. rw e (kept (viewOf (raised c)) call s l (rw e at h) .0);
         log = λ i j h. rw e (kept (viewOf (raised c)) call s l (rw e at h) .1);

@@ -1,6 +1,6 @@
 // The calls over a lent record by value: the plain way of each, and the fast way that is tried first. What is tried tests everything and then
-// writes, or touches nothing; its patch is laid into the lent record by the exported call. It uses `fast`, `fast_return`, `boundary`, `unwind`, `records`
-// and `status`; `lent` exports the calls.
+// writes, or touches nothing; its patch is laid into the lent record by the exported call. It uses `fast`, `fast_frames`, `fast_return`, `boundary`,
+// `unwind`, `records` and `status`; `lent` exports the calls.
 use boundary::RawCall;
 use cpu::Cpu;
 use fast::Patch;
@@ -16,6 +16,7 @@ mod patches; // a patch laid into the groups of a lent record
 mod views; // what the fast way reads of a lent record
 
 ghost use mathlib.Core.Path.{_≡_};
+ghost use Rattle.boundary.specs.Calls.{exceptionCall, interruptCall};
 ghost use Rattle.unwind.specs.Returns.{walk};
 ghost use Rattle.attempts.specs.Lent.{left, recordAfter, lentCall, servedReturn, lentReturn, lentWalk, lentSr, setSr, servedStatus, lentSetSr};
 ghost use Rattle.attempts.specs.Attempts.{attemptedBy, calmedBy, patchedBy, Tried};
@@ -96,6 +97,36 @@ pub fn serve(c: LentCore, call: RawCall, store: &mut [u8], log: &mut [u32]) -> S
     }
 }
 
+// `take_exception` alone.
+pub fn serve_exception(c: LentCore, vector: u32, store: &mut [u8], log: &mut [u32]) -> Served
+    ensures { λ r. ⌜ left (r .core) (now (store .exit)) (now (log .exit)) (r .said) ≡ lentCall c (now (store .entry)) (now (log .entry)) (exceptionCall vector) ⌝ }
+{
+    let call = RawCall {
+        number: 1,
+        a: vector,
+        b: 0,
+        c: 0,
+        d: 0,
+        e: 0,
+    };
+    serve(c, call, store, log)
+}
+
+// The interrupt call alone.
+pub fn serve_interrupt(c: LentCore, store: &mut [u8], log: &mut [u32]) -> Served
+    ensures { λ r. ⌜ left (r .core) (now (store .exit)) (now (log .exit)) (r .said) ≡ lentCall c (now (store .entry)) (now (log .entry)) interruptCall ⌝ }
+{
+    let call = RawCall {
+        number: 22,
+        a: 0,
+        b: 0,
+        c: 0,
+        d: 0,
+        e: 0,
+    };
+    serve(c, call, store, log)
+}
+
 fn hand_over(q: Patch) -> Attempted
     ensures { λ r. ⌜ r ≡ attemptedBy q ⌝ }
 {
@@ -129,7 +160,67 @@ pub fn attempt(c: LentCore, call: RawCall, store: &mut [u8], log: &mut [u32]) ->
             sp,
         );
         let x = views::view(c);
+        if fast_frames::rows::is_framed(call.number) {
+            let q = fast_frames::go(
+                x,
+                c.cpu.fault.pending_fault_wdata,
+                c.cpu.fault.mmu_fc_override.value,
+                call,
+                store,
+                log,
+            );
+            let fetched = views::words(q.first, q.second);
+            return hand_over(q);
+        }
         let q = fast::go(x, call, store, log);
+        let fetched = views::words(q.first, q.second);
+        return hand_over(q);
+    }
+    let q = fast::none();
+    hand_over(q)
+}
+
+// `take_exception` alone by a fast way, the same.
+pub fn attempt_exception(c: LentCore, vector: u32, store: &mut [u8], log: &mut [u32]) -> Attempted
+    ensures { λ r. ⌜ Tried c (exceptionCall vector) (now (store .entry)) (now (log .entry)) r (now (store .exit)) (now (log .exit)) ⌝ }
+{
+    if views::is_tidy(c) {
+        let regs = c.cpu.regs;
+        let dar = regs.dar;
+        let sp = regs.sp;
+        let known = views::fits(
+            c.cpu.flow.pc,
+            c.cpu.flow.ppc,
+            c.cpu.queue.pending_sync_clocks,
+            dar,
+            sp,
+        );
+        let x = views::view(c);
+        let q = fast::own::take_exception(x, vector, store, log);
+        let fetched = views::words(q.first, q.second);
+        return hand_over(q);
+    }
+    let q = fast::none();
+    hand_over(q)
+}
+
+// The interrupt call alone, the same.
+pub fn attempt_interrupt(c: LentCore, store: &mut [u8], log: &mut [u32]) -> Attempted
+    ensures { λ r. ⌜ Tried c interruptCall (now (store .entry)) (now (log .entry)) r (now (store .exit)) (now (log .exit)) ⌝ }
+{
+    if views::is_tidy(c) {
+        let regs = c.cpu.regs;
+        let dar = regs.dar;
+        let sp = regs.sp;
+        let known = views::fits(
+            c.cpu.flow.pc,
+            c.cpu.flow.ppc,
+            c.cpu.queue.pending_sync_clocks,
+            dar,
+            sp,
+        );
+        let x = views::view(c);
+        let q = fast::own::check_and_service(x, store, log);
         let fetched = views::words(q.first, q.second);
         return hand_over(q);
     }

@@ -90,3 +90,10 @@ rawOf w Unknown = outcome w 99 0 0
 
 unfoldable pub rawCall : World → RawCall → Outcome
 rawCall w c = rawOf w (decode c)
+
+-- the calls that have an export of their own: `take_exception` by vector v, and the interrupt call
+abbrev pub exceptionCall : ℕ → RawCall
+exceptionCall v = record { number = 1; a = v; b = 0; c = 0; d = 0; e = 0 }
+
+abbrev pub interruptCall : RawCall
+interruptCall = record { number = 22; a = 0; b = 0; c = 0; d = 0; e = 0 }

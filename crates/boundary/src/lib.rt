@@ -1,6 +1,6 @@
 // The calls by number: a call given as numbers, on a record and a bus by value and lent slices, and its answer as numbers. The numbers are
-// those of the case format. It uses `calls` and `answers`; `lent`, which exports the calls for programs in other languages, and `replay` use
-// it.
+// those of the case format. It uses `calls` and `answers`; `fast`, `fast_calls`, `sessions`, `records`, `attempts`,
+// `lent`, which exports the calls for programs in other languages, and `replay` use it.
 use answers::Answer;
 use answers::Call;
 use answers::Performed;

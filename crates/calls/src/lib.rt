@@ -1,6 +1,5 @@
 // The public calls: one function that refuses a call by number, with nothing touched, or performs it. It uses `answers` for calls and
-// answers, `refusals`, `interrupts`, `exceptions`, `access` and everything below; `boundary` takes it by number, and `sessions`
-// acts through it.
+// answers, `refusals`, `interrupts`, `exceptions`, `access` and everything below; `boundary` takes it by number.
 use answers::Call;
 use answers::Performed;
 use memory::Core;

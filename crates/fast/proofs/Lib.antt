@@ -1,2 +1,3 @@
+pub mod OwnWays
 pub mod Ways
 pub mod Writes

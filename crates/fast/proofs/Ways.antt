@@ -3,12 +3,14 @@ use Prim.Native.Nat.{ℕ, _+_, _-_, _*_, _/_, _%_, _<_, _≤_}
 use mathlib.Core.Path.{_≡_, refl, sym, ap, _∙_}
 use mathlib.Core.Bool.{Bool, true, false, not}
 use mathlib.Core.List.{List}
-use lib.Dec.{eqb, ltb}
+use native.Mathlib.Omega.{arith}
+use borrow.Author.Tests.{lt-ltb, le-ltb, le-leb, lt-leb, eqb-true, eqb-false, ne-eqb}
+use lib.Dec.{eqb, ltb, leb}
 use lib.ListN.{length}
-use Rattle.types.specs.Kinds.{pick, isPre68020}
+use Rattle.types.specs.Kinds.{pick, either, isPre68020}
 use Rattle.types.specs.Tables.{exceptionCycles}
 use Rattle.status.specs.Status.{compose}
-use Rattle.steps.specs.Steps.{iackVector}
+use Rattle.steps.specs.Steps.{iackVector, stacksNext as stacks}
 use Rattle.fast.specs.declared.View.{View}
 use Rattle.fast.specs.declared.plans.EntryRow.{EntryRow}
 use Rattle.fast.specs.declared.plans.Plan.{Plan}
@@ -19,8 +21,8 @@ use Rattle.fast.specs.declared.Patch.{Patch}
 use Rattle.fast.specs.declared.places.Spot.{Spot}
 use Rattle.fast.specs.declared.places.Landing.{Landing}
 use Rattle.fast.specs.Views.{isOther, spanOf, acceptsOf}
-use Rattle.fast.specs.Places.{fetchesOf, topOf, userOf, spotOf, landingOf}
-use Rattle.fast.specs.Plans.{stacksNext, isLong, addressOf, entryPlan, responseTo, vectorOf, interruptPlan, noPlan, rowOf, entryOf, planOf, Shaped}
+use Rattle.fast.specs.Places.{meets, fetchesOf, topOf, userOf, spotOf, landingOf}
+use Rattle.fast.specs.Plans.{row, takes, stacksNext, isLong, addressOf, entryPlan, responseTo, vectorOf, interruptPlan, noPlan, rowOf, entryOf, planOf, Shaped}
 use Rattle.fast.specs.Quiet.{checks, asks, stillPatch, calmPatch, isQuiet, quietOf}
 use Rattle.fast.specs.Stacks.{Tape, tape, Fits, layAt, layCount, jumpAt, jumpCount}
 use Rattle.fast.specs.Patches.{noPatch, patchBy, Ended, ended, writtenOf, landOf, placeOf, enterOf, goOf}
@@ -133,3 +135,61 @@ shaped-way x c e h = rw e (shaped x c (rw (sym e) h))
 
 pub ends-past-way : (kind base stored : ℕ) {n : ℕ} → n ≡ spanOf kind → ltb n (base + stored) ≡ ltb (spanOf kind) (base + stored)
 ends-past-way kind base stored e = rw e refl
+
+-- a vector of 24 and above is none of those below
+above : (v k : ℕ) → 24 ≤ v → k < 24 → eqb v k ≡ false
+above v k h l = ne-eqb v k (λ e. omega arith)
+
+cycles-above : (v : ℕ) → 24 ≤ v → pick (leb v 31) 44 34 ≡ exceptionCycles v
+unfolding exceptionCycles
+cycles-above v h = rw (le-ltb v 2 (omega arith), above v 6 h (omega arith), above v 2 h (omega arith), above v 3 h (omega arith), above v 5 h (omega arith), le-leb 24 v h) refl
+
+pub cycles-above-1 : (v : ℕ) → 24 ≤ v → v ≤ 31 → 44 ≡ exceptionCycles v
+cycles-above-1 v h k = rw (sym (cycles-above v h), le-leb v 31 k) refl
+
+pub cycles-above-2 : (v : ℕ) → 24 ≤ v → 31 < v → 34 ≡ exceptionCycles v
+cycles-above-2 v h k = rw (sym (cycles-above v h), lt-leb v 31 k) refl
+
+pub stacks-above : (v : ℕ) → 24 ≤ v → leb v 47 ≡ stacksNext v
+unfolding stacks
+stacks-above v h = rw (above v 5 h (omega arith), above v 7 h (omega arith), above v 9 h (omega arith), le-leb 24 v h) refl
+
+pub stacks-below : (v : ℕ) → v < 24 → (v ≡ 5 → ⊥) → (v ≡ 7 → ⊥) → eqb v 9 ≡ stacksNext v
+unfolding stacks
+stacks-below v h i j = rw (ne-eqb v 5 i, ne-eqb v 7 j, lt-leb 24 v h) (go (eqb v 9))
+  where
+    go : (t : Bool) → t ≡ pick t true false
+    go true = refl
+    go false = refl
+
+-- level 7 is taken whatever the mask is
+pub takes-way : (x : View) {m : ℕ} → m ≡ pick (eqb (x .flags .«int_mask» / 256 % 8) 7) 6 (x .flags .«int_mask» / 256 % 8) → ltb m (x .flags .«int_level» % 8) ≡ takes x
+unfolding takes
+takes-way x e = rw e (go (x .flags .«int_mask» / 256 % 8) (x .flags .«int_level» % 8) (omega arith) (omega arith))
+  where
+    below : (n : ℕ) → n < 8 → (n ≡ 7 → ⊥) → n ≤ 6
+    below n h z = omega (arith, z)
+
+    at : (k n : ℕ) (t u v : Bool) → eqb k 7 ≡ t → eqb n 7 ≡ u → ltb k n ≡ v → k < 8 → n < 8 → ltb (pick t 6 k) n ≡ pick u true v
+    at k n true true v e f g h i = let q : n ≡ 7 = eqb-true n 7 f in lt-ltb 6 n (omega arith)
+    at k n true false v e f g h i =
+        let p : k ≡ 7 = eqb-true k 7 e in
+        let q : n ≤ 6 = below n i (eqb-false n 7 f) in
+        le-ltb 6 n q ∙ sym (le-ltb k n (omega arith)) ∙ g
+    at k n false true v e f g h i =
+        let p : k ≤ 6 = below k h (eqb-false k 7 e) in
+        let q : n ≡ 7 = eqb-true n 7 f in
+        lt-ltb k n (omega arith)
+    at k n false false v e f g h i = g
+
+    go : (k n : ℕ) → k < 8 → n < 8 → ltb (pick (eqb k 7) 6 k) n ≡ either (eqb n 7) (ltb k n)
+    go k n h i = at k n (eqb k 7) (eqb n 7) (ltb k n) refl refl refl h i
+
+-- 4 bytes at p and n bytes at s
+pub meets-below : (p s n : ℕ) → p + 4 ≤ s → false ≡ meets p s n
+unfolding meets
+meets-below p s n h = rw (le-leb p s (omega arith), le-ltb (s - p) 4 (omega arith)) refl
+
+pub meets-at : (p s n : ℕ) → s < p + 4 → p ≤ s → true ≡ meets p s n
+unfolding meets
+meets-at p s n h i = rw (le-leb p s i, lt-ltb (s - p) 4 (omega arith)) refl

@@ -65,3 +65,7 @@ landingOf x m v s n =
     (pick (meets (vectorAt x v - x .base) s n) noLanding
     (pick (fetchesOf x) (queuedOf x m (vectorAt x v) (getLong m (vectorAt x v - x .base)) s n)
     (landed (vectorAt x v) (getLong m (vectorAt x v - x .base)) 0 0))))
+
+-- the same in a store that may end anywhere
+unfoldable pub landingIn : View → List ℕ → ℕ → ℕ → ℕ → Landing
+landingIn x m v s n = pick (ltb 0x100000000 (length m)) noLanding (pick (ltb 0x100000000 (x .base + length m)) noLanding (landingOf x m v s n))

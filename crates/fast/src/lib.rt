@@ -1,7 +1,7 @@
 // The fast way of a call: what an entry, an interrupt or a check between instructions leaves, computed from numbers where nothing is refused,
 // nothing faults and no window counts. Everything is tested first; then store and log are written, or nothing is. What the
 // record becomes is said as numbers (`Patch`), so that no record is copied. It uses `boundary` for the call by number, `status` and `types`;
-// `attempts` tries it before the plain way.
+// `attempts` and `fast_calls` try it before the plain way, and `fast_frames` uses its tests.
 use boundary::RawCall;
 use cpu::Flags;
 use places::Landing;
@@ -9,6 +9,7 @@ use places::Spot;
 use plans::Plan;
 
 mod bytes; // words, longs and events at places that are there
+pub mod own; // `take_exception` and the interrupt call, which have exports of their own
 pub mod places; // where a frame lies and where a jump lands
 pub mod plans; // a call as data
 mod quiet; // calls that make no access
@@ -91,7 +92,7 @@ fn ends_past(kind: u8, base: u32, stored: usize) -> bool
 
 // Whether the fast way takes such a record, store and log: none of the numbers 1, 2, 4 to 7 and 9 refuses the call, M is clear, no window counts,
 // and the record is not faulted.
-fn accepts(x: View, stored: usize, logged: usize) -> bool
+pub fn accepts(x: View, stored: usize, logged: usize) -> bool
     ensures { λ r. ⌜ r ≡ acceptsOf x stored logged ⌝ }
 {
     if is_other(x.flags.s_flag) {
@@ -169,7 +170,7 @@ pub fn none() -> Patch
 }
 
 // What an entry leaves: its plan p, its frame at s, its jump to l and how many events there are.
-fn patch_by(x: View, p: Plan, s: Spot, l: Landing, events: u32) -> Patch
+pub(crate) fn patch_by(x: View, p: Plan, s: Spot, l: Landing, events: u32) -> Patch
     ensures { λ r. ⌜ r ≡ patchBy x p s l events ⌝ }
 {
     Patch {

@@ -3,9 +3,10 @@ use crate::View;
 use crate::bytes;
 ghost use mathlib.Core.Path.{_≡_};
 ghost use Prim.Native.Nat.{_+_, _≤_};
+ghost use lib.Dec.{ltb};
 ghost use lib.ListN.{length};
 ghost use Rattle.types.specs.Kinds.{pick};
-ghost use Rattle.fast.specs.Places.{fetchesOf, topOf, userOf, noSpot, spotOf, noLanding, landed, meets, queuedOf, landingOf};
+ghost use Rattle.fast.specs.Places.{fetchesOf, topOf, userOf, noSpot, spotOf, noLanding, landed, meets, queuedOf, landingOf, landingIn};
 
 // A frame of n bytes: its lowest address, A7 then, and the place of it in the store.
 pub struct Spot {
@@ -24,7 +25,7 @@ pub struct Landing {
 }
 
 // `prefetch_enabled`.
-pub(crate) fn fetches(x: View) -> bool
+pub fn fetches(x: View) -> bool
     ensures { λ r. ⌜ r ≡ fetchesOf x ⌝ }
 {
     if x.precise {
@@ -46,14 +47,14 @@ pub(crate) fn choose(b: bool, x: u32, y: u32) -> u32
 }
 
 // The supervisor stack pointer, M being clear.
-pub(crate) fn top(x: View) -> u32
+pub fn top(x: View) -> u32
     ensures { λ r. ⌜ r ≡ topOf x ⌝ }
 {
     choose(x.flags.s_flag == 0, x.interrupt, x.a7)
 }
 
 // The user stack pointer.
-pub(crate) fn user(x: View) -> u32
+pub fn user(x: View) -> u32
     ensures { λ r. ⌜ r ≡ userOf x ⌝ }
 {
     choose(x.flags.s_flag == 0, x.a7, x.user)
@@ -70,7 +71,7 @@ fn no_spot() -> Spot
 }
 
 // A frame of n bytes below the supervisor's pointer, within the store and at an even address.
-pub(crate) fn spot_of(x: View, stored: usize, n: u32) -> Spot
+pub fn spot_of(x: View, stored: usize, n: u32) -> Spot
     ensures { λ r. ⌜ r ≡ spotOf x stored n ⌝ }
 {
     let t = top(x);
@@ -121,10 +122,14 @@ fn landed(from: u32, pc: u32, first: u16, second: u16) -> Landing
 
 // The 4 bytes at place p and the n bytes at place s have a byte in common.
 fn meets(p: usize, s: usize, n: u32) -> bool
+    requires { ⌜ p ≤ 0x500000000 ⌝ }
     ensures { λ r. ⌜ r ≡ meets p s n ⌝ }
 {
+    if p + 4 <= s {
+        return false;
+    }
     if p <= s {
-        return s - p < 4;
+        return true;
     }
     p - s < n as usize
 }
@@ -172,4 +177,25 @@ pub(crate) fn landing_of(x: View, store: &[u8], v: u32, s: usize, n: u32) -> Lan
         return queued(x, store, a as u32, to, s, n);
     }
     landed(a as u32, to, 0, 0)
+}
+
+// Whether so many bytes at a base end past the addresses of 32 bits.
+fn ends_far(base: u32, stored: usize) -> bool
+    requires { ⌜ stored ≤ 0x100000000 ⌝ }
+    ensures { λ r. ⌜ r ≡ ltb 0x100000000 (base + stored) ⌝ }
+{
+    0x100000000 < base as usize + stored
+}
+
+// The same for a caller that has not tested where the store ends.
+pub fn landing_in(x: View, store: &[u8], v: u32, s: usize, n: u32) -> Landing
+    ensures { λ r. ⌜ r ≡ landingIn x (now (store .entry)) v s n ⌝ }
+{
+    if 0x100000000 < store.len() {
+        return no_landing();
+    }
+    if ends_far(x.base, store.len()) {
+        return no_landing();
+    }
+    landing_of(x, store, v, s, n)
 }

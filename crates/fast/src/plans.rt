@@ -91,7 +91,7 @@ fn row_of(call: RawCall) -> EntryRow
     row(0, 0, false)
 }
 
-fn no_plan() -> Plan
+pub(crate) fn no_plan() -> Plan
     ensures { λ r. ⌜ r ≡ noPlan ⌝ }
 {
     Plan {
@@ -114,10 +114,16 @@ fn no_plan() -> Plan
     }
 }
 
-// Cycles of an exception, by tests: an index into the table would copy it.
-fn cycles(v: u32) -> u32
+// Cycles of an exception, by tests: an index into the table would copy it. The vectors that are taken most are tested first.
+pub(crate) fn cycles(v: u32) -> u32
     ensures { λ r. ⌜ r ≡ exceptionCycles v ⌝ }
 {
+    if 24 <= v {
+        if v <= 31 {
+            return 44;
+        }
+        return 34;
+    }
     if v < 2 {
         return 40;
     }
@@ -133,35 +139,26 @@ fn cycles(v: u32) -> u32
     if v == 5 {
         return 38;
     }
-    if 24 <= v {
-        if v <= 31 {
-            return 44;
-        }
-        return 34;
-    }
     34
 }
 
 // The vectors for which `take_exception` stacks PC.
-fn stacks_next(v: u32) -> bool
+pub(crate) fn stacks_next(v: u32) -> bool
     ensures { λ r. ⌜ r ≡ stacksNext v ⌝ }
 {
+    if 24 <= v {
+        return v <= 47;
+    }
     if v == types::ZERO_DIVIDE {
         return true;
     }
     if v == types::TRAPV {
         return true;
     }
-    if v == types::TRACE {
-        return true;
-    }
-    if 24 <= v {
-        return v <= 47;
-    }
-    false
+    v == types::TRACE
 }
 
-fn choose8(b: bool, x: u8, y: u8) -> u8
+pub(crate) fn choose8(b: bool, x: u8, y: u8) -> u8
     ensures { λ r. ⌜ r ≡ pick b x y ⌝ }
 {
     if b {
@@ -246,15 +243,13 @@ fn entry_of(x: View, r: EntryRow) -> Plan
     entry_plan(x, r)
 }
 
-// The decision of the interrupt call.
+// The decision of the interrupt call, in one test: level 7 is taken whatever the mask is, as if no mask were above 6.
 pub(crate) fn takes(x: View) -> bool
     ensures { λ r. ⌜ r ≡ takes x ⌝ }
 {
     let level = x.flags.int_level % 8;
-    if level == 7 {
-        return true;
-    }
-    x.flags.int_mask / 256 % 8 < level
+    let mask = x.flags.int_mask / 256 % 8;
+    places::choose(mask == 7, 6, mask) < level
 }
 
 // The response of a level.
@@ -265,7 +260,7 @@ fn response_to(x: View, level: u32) -> u32
     responses[(level % 8) as usize]
 }
 
-fn interrupt_plan(x: View) -> Plan
+pub(crate) fn interrupt_plan(x: View) -> Plan
     ensures { λ p. ⌜ p ≡ interruptPlan x ⌝ }
 {
     let level = x.flags.int_level % 8;

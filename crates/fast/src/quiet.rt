@@ -30,7 +30,7 @@ fn calm(answer: u32, level: u32, flow: bool) -> Patch
 }
 
 // Nothing changes, but that the events of an earlier call are forgotten.
-fn still(x: View, answer: u32) -> Patch
+pub(crate) fn still(x: View, answer: u32) -> Patch
     ensures { λ r. ⌜ r ≡ stillPatch x answer ⌝ }
 {
     if x.events == 0 {

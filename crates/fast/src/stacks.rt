@@ -32,7 +32,7 @@ fn long(store: &mut [u8], log: &mut [u32], s: Spot, o: u32, n: u32, v: u32)
 }
 
 // Status, address and format word, from the last down to the first.
-fn short(store: &mut [u8], log: &mut [u32], s: Spot, n: u32, p: Plan)
+pub(crate) fn short(store: &mut [u8], log: &mut [u32], s: Spot, n: u32, p: Plan)
     requires { ⌜ Fits s 8 (now store) × Shaped p × (n + 3 ≤ 64) × (192 ≤ length (now log)) ⌝ }
     ensures { λ _. ⌜ tape (now (store .exit)) (now (log .exit)) ≡ shortAt s n p (tape (now (store .entry)) (now (log .entry))) ⌝ }
 {
@@ -42,7 +42,7 @@ fn short(store: &mut [u8], log: &mut [u32], s: Spot, n: u32, p: Plan)
 }
 
 // The frame of the 68000: PC low, the status, PC high.
-fn three(store: &mut [u8], log: &mut [u32], s: Spot, n: u32, p: Plan)
+pub(crate) fn three(store: &mut [u8], log: &mut [u32], s: Spot, n: u32, p: Plan)
     requires { ⌜ Fits s 6 (now store) × Shaped p × (n + 3 ≤ 64) × (192 ≤ length (now log)) ⌝ }
     ensures { λ _. ⌜ tape (now (store .exit)) (now (log .exit)) ≡ threeAt s n p (tape (now (store .entry)) (now (log .entry))) ⌝ }
 {
@@ -52,7 +52,7 @@ fn three(store: &mut [u8], log: &mut [u32], s: Spot, n: u32, p: Plan)
 }
 
 // An interrupt of the 68010: the acknowledge, then PC low, the status, PC high and the format word.
-fn four(store: &mut [u8], log: &mut [u32], s: Spot, n: u32, p: Plan)
+pub(crate) fn four(store: &mut [u8], log: &mut [u32], s: Spot, n: u32, p: Plan)
     requires { ⌜ Fits s 8 (now store) × Shaped p × (n + 5 ≤ 64) × (192 ≤ length (now log)) ⌝ }
     ensures { λ _. ⌜ tape (now (store .exit)) (now (log .exit)) ≡ fourAt s n p (tape (now (store .entry)) (now (log .entry))) ⌝ }
 {
@@ -74,7 +74,7 @@ fn sync(log: &mut [u32], n: u32, precise: bool) -> u32
 }
 
 // An interrupt of the 68000: PC low, the acknowledge between 4 clocks each, the status, PC high.
-fn old(store: &mut [u8], log: &mut [u32], s: Spot, n: u32, p: Plan, precise: bool) -> u32
+pub(crate) fn old(store: &mut [u8], log: &mut [u32], s: Spot, n: u32, p: Plan, precise: bool) -> u32
     requires { ⌜ Fits s 6 (now store) × Shaped p × (n + 6 ≤ 64) × (192 ≤ length (now log)) ⌝ }
     ensures { λ r. ⌜ (r ≡ pick precise (n + 6) (n + 4)) × (tape (now (store .exit)) (now (log .exit)) ≡ oldAt s n p precise (tape (now (store .entry)) (now (log .entry)))) ⌝ }
 {
@@ -88,7 +88,7 @@ fn old(store: &mut [u8], log: &mut [u32], s: Spot, n: u32, p: Plan, precise: boo
 }
 
 // The clocks that wait before the first write of an entry.
-fn waiting(x: View, n: u32) -> u32
+pub(crate) fn waiting(x: View, n: u32) -> u32
     ensures { λ r. ⌜ r ≡ waitingOf x n ⌝ }
 {
     if places::fetches(x) {
@@ -98,7 +98,7 @@ fn waiting(x: View, n: u32) -> u32
 }
 
 // Clocks that wait are told; how many events there are then.
-fn tell_clocks(log: &mut [u32], n: u32, clocks: u32) -> u32
+pub(crate) fn tell_clocks(log: &mut [u32], n: u32, clocks: u32) -> u32
     requires { ⌜ (n < 64) × (192 ≤ length (now log)) ⌝ }
     ensures { λ r. ⌜ (r ≡ clocksCount n clocks) × (now (log .exit) ≡ clocksAt n clocks (now (log .entry))) ⌝ }
 {

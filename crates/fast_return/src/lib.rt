@@ -1,7 +1,7 @@
 // Return and walk for the usual case: no windows, and a frame that lies in one run of the store. What is not usual goes the plain way of
 // `unwind`, and both are proved equal to it. A return is tried on a record that is only read, and says what changes in a few numbers, so
 // that the record stays where it is; a walk goes over the six numbers that tell where the next frame lies. It uses `unwind`, `memory`,
-// `cpu` and `types`, and the definitions of `refusals` and `status`; `attempts` uses it.
+// `cpu` and `types`, and the definitions of `refusals` and `status`; `attempts`, `fast_calls` and `sessions` use it.
 use cpu::Cpu;
 use cpu::Flags;
 use cpu::Regs;

@@ -9,6 +9,7 @@ use records::LentCore;
 use records::LentCpu;
 use unwind::returns::Walked;
 ghost use mathlib.Core.Path.{_≡_};
+ghost use Rattle.boundary.specs.Calls.{exceptionCall, interruptCall};
 ghost use Rattle.unwind.specs.Returns.{walk};
 ghost use Rattle.attempts.specs.Lent.{left, lentCall, servedReturn, lentReturn, lentWalk, lentFresh, lentSr, servedStatus, lentSetSr};
 
@@ -39,6 +40,67 @@ pub extern "C" fn m68k_call(
     }
     let d = *core;
     let done = attempts::serve(d, call, store, log);
+    *core = done.core;
+    done.said
+}
+
+// `take_exception` alone: what call number 1 is, for a caller that makes no other.
+#[no_mangle]
+pub extern "C" fn m68k_take_exception(
+    core: &mut LentCore,
+    vector: u32,
+    store: &mut [u8],
+    log: &mut [u32],
+) -> Said
+    ensures { λ r. ⌜ left (now (core .exit)) (now (store .exit)) (now (log .exit)) r ≡ lentCall (now (core .entry)) (now (store .entry)) (now (log .entry)) (exceptionCall vector) ⌝ }
+{
+    let c = *core;
+    let x = attempts::attempt_exception(c, vector, store, log);
+    if x.idle {
+        return x.said;
+    }
+    if x.calm {
+        let d = *core;
+        *core = attempts::calmed(d, x);
+        return x.said;
+    }
+    if x.fast {
+        let d = *core;
+        *core = attempts::patched(d, x);
+        return x.said;
+    }
+    let d = *core;
+    let done = attempts::serve_exception(d, vector, store, log);
+    *core = done.core;
+    done.said
+}
+
+// The interrupt call alone, call number 22: what an emulator asks after every instruction.
+#[no_mangle]
+pub extern "C" fn m68k_check_and_service_interrupts(
+    core: &mut LentCore,
+    store: &mut [u8],
+    log: &mut [u32],
+) -> Said
+    ensures { λ r. ⌜ left (now (core .exit)) (now (store .exit)) (now (log .exit)) r ≡ lentCall (now (core .entry)) (now (store .entry)) (now (log .entry)) interruptCall ⌝ }
+{
+    let c = *core;
+    let x = attempts::attempt_interrupt(c, store, log);
+    if x.idle {
+        return x.said;
+    }
+    if x.calm {
+        let d = *core;
+        *core = attempts::calmed(d, x);
+        return x.said;
+    }
+    if x.fast {
+        let d = *core;
+        *core = attempts::patched(d, x);
+        return x.said;
+    }
+    let d = *core;
+    let done = attempts::serve_interrupt(d, store, log);
     *core = done.core;
     done.said
 }

@@ -1,18 +1,19 @@
 -- What each command does: a law an arm of `act`, whose premises are what its calls ensure.
-use Prim.Native.Nat.{ℕ}
+use Prim.Native.Nat.{ℕ, _<_}
 use mathlib.Core.Path.{_≡_, refl, sym, ap, _∙_}
 use mathlib.Core.List.{List}
 use Rattle.cpu.specs.declared.Cpu.{Cpu}
 use Rattle.cpu.specs.Fields.{setPc, setPpc, setA7}
 use Rattle.memory.specs.declared.Core.{Core}
 use Rattle.memory.specs.World.{World, world, putCpu, pokeLong}
-use Rattle.answers.specs.declared.Call.the-variants.{TakeException, Trap}
+use Rattle.boundary.specs.declared.RawCall.{RawCall}
 use Rattle.lines.specs.declared.Command.{Command}
 use Rattle.lines.specs.declared.Command.the-variants as command
 use Rattle.lines.specs.Commands.{commandOf}
 use Rattle.prints.specs.Prints.{before, more, refusedLine}
 use Rattle.sessions.specs.Walks.{walked}
-use Rattle.sessions.specs.Sessions.{Session, session, freshCore, cleared, longTold, entered, interrupted, returned, act, step}
+use Rattle.sessions.specs.Sessions.{Session, session, freshCore, cleared, longTold, interrupted, returned, act, step}
+use Rattle.sessions.specs.Numbered.{numbered, enteredBy, exc-same, trap-same}
 
 module _ (x : Command) (m d : Core) (s l b u : List ℕ) where
   pub act-wrong : x ≡ command.Wrong → d ≡ m → u ≡ more b (refusedLine 14) → session (world d s l) u ≡ act (session (world m s l) b) x
@@ -45,13 +46,13 @@ module _ (x : Command) (m d : Core) (s l o : List ℕ) (at to : ℕ) where
   act-a7 c v p e f g = rw (p, f, e, g)
 
 module _ (x : Command) (q r : Session) where
-  pub act-exc : (v : ℕ) → x ≡ command.Exc v → r ≡ entered q (TakeException v) → r ≡ act q x
+  pub act-exc : (v : ℕ) (c : RawCall) → x ≡ command.Exc v → c ≡ numbered 1 v → r ≡ enteredBy q c → r ≡ act q x
   unfolding act
-  act-exc v p e = rw p e
+  act-exc v c p i e = rw p (e ∙ ap (enteredBy q) i ∙ exc-same q v)
 
-  pub act-trap : (n : ℕ) → x ≡ command.Trap n → r ≡ entered q (Trap n) → r ≡ act q x
+  pub act-trap : (n : ℕ) (c : RawCall) → x ≡ command.Trap n → (c ≡ numbered 2 n) × (n < 256) → r ≡ enteredBy q c → r ≡ act q x
   unfolding act
-  act-trap n p e = rw p e
+  act-trap n c p i e = rw p (e ∙ ap (enteredBy q) (i .0) ∙ trap-same q n (i .1))
 
   pub act-irq : (n : ℕ) → x ≡ command.Irq n → r ≡ interrupted q n → r ≡ act q x
   unfolding act

@@ -1,7 +1,7 @@
 -- The ways through the functions of a session: premises are what the calls on the way ensure and how the tests went.
 use Prim.Native.Nat.{ℕ, zero, suc, _+_, _-_, _<_, _≤_}
 use mathlib.Core.Path.{_≡_, refl, sym, ap, _∙_}
-use mathlib.Core.Bool.{Bool, true, false}
+use mathlib.Core.Bool.{Bool, true, false, not}
 use mathlib.Core.List.{List, [], _∷_, _++_, append-nil}
 use native.Mathlib.Omega.{arith}
 use native.Mathlib.Numerals.{add-one}
@@ -16,17 +16,15 @@ use Rattle.memory.specs.declared.Bus.{Bus}
 use Rattle.memory.specs.declared.Core.{Core}
 use Rattle.memory.specs.World.{World, world}
 use Rattle.memory.specs.Served.{servedOf}
-use Rattle.answers.specs.declared.Call.{Call}
-use Rattle.answers.specs.declared.Call.the-variants.{SetIrq, CheckAndServiceInterrupts}
-use Rattle.answers.specs.declared.Answer.{Answer}
-use Rattle.answers.specs.declared.Answer.the-variants.{Cycles, Flag, Value, Done, Refused}
-use Rattle.answers.specs.Answers.{answered}
-use Rattle.calls.specs.Calls.{perform}
+use Rattle.boundary.specs.declared.RawCall.{RawCall}
+use Rattle.boundary.specs.Calls.{outcome, flag, rawCall}
 use Rattle.unwind.specs.declared.Returned.{Returned}
 use Rattle.unwind.specs.Unwind.{returnFrom}
 use Rattle.prints.specs.Prints.{before, more, laid, stateLine, refusedLine}
 use Rattle.prints.specs.Laws.{laid-room, more-more, more-none}
-use Rattle.sessions.specs.Sessions.{Session, session, chargeOf, stateOf, answerTold, entered, interrupted, returned, returnTold, longTold, cleared}
+use Rattle.sessions.specs.declared.Shown.{Shown}
+use Rattle.sessions.specs.Sessions.{Session, session, chargeOf, stateOf, interrupted, returned, returnTold, longTold, cleared}
+use Rattle.sessions.specs.Numbered.{numbered, cyclesOf, shownOf, told, enteredBy, interrupt-same}
 
 pub charge-46 : (m : Core) (t : Bool) (k : ℕ) → t ≡ true → k ≡ kindOf (m .cpu) → k ≡ 2 → 46 ≡ chargeOf m t
 unfolding chargeOf
@@ -40,48 +38,40 @@ pub charge-0 : (m : Core) (t : Bool) → t ≡ false → 0 ≡ chargeOf m t
 unfolding chargeOf
 charge-0 m t e = rw e
 
-pub report-way : (m : Core) (n sr a7 at : ℕ) (o u : List ℕ) → at + 34 ≤ length o → sr ≡ getSr (m .cpu) → a7 ≡ a7Of (m .cpu) → u ≡ laid at o (stateLine n (m .cpu .flow .pc) sr a7) → u ≡ more (before at o) (stateOf m n)
-unfolding stateOf pcOf
-report-way m n sr a7 at o u room f g h = rw (f, g) at (laid-room at o _ u room h)
+pub show-way : (m : Core) (sr a7 : ℕ) → sr ≡ getSr (m .cpu) → a7 ≡ a7Of (m .cpu) → _≡_ {A = Shown} (record { pc = m .cpu .flow .pc; sr = sr; a7 = a7 }) (shownOf m)
+unfolding shownOf pcOf
+show-way m sr a7 f g = rw (f, g)
 
-module _ (m : Core) (a : Answer) (s u : List ℕ) where
-  pub told-cycles : (n e : ℕ) → a ≡ Cycles n e → u ≡ more s (stateOf m n) → u ≡ more s (answerTold m a)
-  unfolding answerTold
-  told-cycles n e p f = rw p f
+pub cycles-charge : (m : Core) (n a k : ℕ) → n ≡ 22 → k ≡ chargeOf m (not (eqb a 0)) → k ≡ cyclesOf m n a
+unfolding cyclesOf flag
+cycles-charge m n a k h e = rw (eq-eqb n 22 h) e
 
-  pub told-flag : (b : Bool) (e k : ℕ) → a ≡ Flag b e → k ≡ chargeOf m b → u ≡ more s (stateOf m k) → u ≡ more s (answerTold m a)
-  unfolding answerTold
-  told-flag b e k p q f = rw (p, ← q) f
+pub cycles-answer : (m : Core) (n a : ℕ) → (n ≡ 22 → ⊥) → a ≡ cyclesOf m n a
+unfolding cyclesOf
+cycles-answer m n a h = rw (ne-eqb n 22 h)
 
-  pub told-value : (n e : ℕ) → a ≡ Value n e → u ≡ more s (stateOf m 0) → u ≡ more s (answerTold m a)
-  unfolding answerTold
-  told-value n e p f = rw p f
+module _ (x : Shown) (u o : List ℕ) (at n k : ℕ) where
+  pub tell-way : at + 34 ≤ length o → n ≡ 0 → u ≡ laid at o (stateLine k (x .pc) (x .sr) (x .a7)) → u ≡ more (before at o) (told x n k)
+  unfolding told
+  tell-way room h e = rw (eq-eqb n 0 h) (laid-room at o _ u room e)
 
-  pub told-done : (e : ℕ) → a ≡ Done e → u ≡ more s (stateOf m 0) → u ≡ more s (answerTold m a)
-  unfolding answerTold
-  told-done e p f = rw p f
+  pub tell-way-2 : (n ≡ 0 → ⊥) → u ≡ more (before at o) (refusedLine n) → u ≡ more (before at o) (told x n k)
+  unfolding told
+  tell-way-2 h e = rw (ne-eqb n 0 h) e
 
-  pub told-refused : (n : ℕ) → a ≡ Refused n → u ≡ more s (refusedLine n) → u ≡ more s (answerTold m a)
-  unfolding answerTold
-  told-refused n p f = rw p f
+pub enter-way : (w w2 : World) (s u : List ℕ) (c : RawCall) (n a e k : ℕ) (v : Shown) → outcome w2 n a e ≡ rawCall w c → k ≡ cyclesOf (w2 .core) (c .number) a → v ≡ shownOf (w2 .core) → u ≡ more s (told v n k)
+    → session w2 u ≡ enteredBy (session w s) c
+unfolding enteredBy
+enter-way w w2 s u c n a e k v p q i f = rw (← p, ← q, ← i) (ap (session w2) f)
 
-module _ (w w2 : World) (a : Answer) (s u : List ℕ) where
-  pub enter-way : (c : Call) → answered w2 a ≡ perform w c → u ≡ more s (answerTold (w2 .core) a) → session w2 u ≡ entered (session w s) c
-  unfolding entered
-  enter-way c p f = rw (← p) (ap (session w2) f)
+pub interrupt-way : (w w2 w3 : World) (s u : List ℕ) (l n a e : ℕ) (c d : RawCall) → (c ≡ numbered 20 l) × (l < 256) → outcome w2 n a e ≡ rawCall w c → d ≡ numbered 22 0
+    → session w3 u ≡ enteredBy (session w2 s) d → session w3 u ≡ interrupted (session w s) l
+interrupt-way w w2 w3 s u l n a e c d i p j f =
+    f ∙ ap (enteredBy (session w2 s)) j ∙ interrupt-same w w2 s l n a e (i .1) (p ∙ ap (rawCall w) (i .0))
 
-  pub interrupt-way : (n : ℕ) (w3 : World) → answered w2 a ≡ perform w (SetIrq n) → session w3 u ≡ entered (session w2 s) CheckAndServiceInterrupts → session w3 u ≡ interrupted (session w s) n
-  unfolding interrupted
-  interrupt-way n w3 p f = rw (← p) f
-
-module _ (m : Core) (st l b u : List ℕ) (x : Returned) (e : x ≡ returnFrom m st) where
-  pub return-way : x .refused ≡ 0 → u ≡ more b (stateOf (x .core) 0) → session (world (x .core) st l) u ≡ returned (session (world m st l) b)
-  unfolding returned returnTold
-  return-way h f = rw (← e, eq-eqb (x .refused) 0 h) (ap (session (world (x .core) st l)) f)
-
-  pub return-way-2 : (x .refused ≡ 0 → ⊥) → u ≡ more b (refusedLine (x .refused)) → session (world (x .core) st l) u ≡ returned (session (world m st l) b)
-  unfolding returned returnTold
-  return-way-2 h f = rw (← e, ne-eqb (x .refused) 0 h) (ap (session (world (x .core) st l)) f)
+pub return-way : (m : Core) (st l b u : List ℕ) (x : Returned) (v : Shown) → x ≡ returnFrom m st → v ≡ shownOf (x .core) → u ≡ more b (told v (x .refused) 0) → session (world (x .core) st l) u ≡ returned (session (world m st l) b)
+unfolding returned returnTold told stateOf shownOf
+return-way m st l b u x v e i f = rw (← e) (ap (session (world (x .core) st l)) (rw i at f))
 
 -- the store cleared up to i
 pub clear-goes : (s : List ℕ) (i : ℕ) → take i s ≡ replicate i 0 → i < length s → take (i + 1) (set s i 0) ≡ replicate (i + 1) 0

@@ -1,7 +1,9 @@
 pub mod Walks
 pub mod Sessions
+pub mod Numbered
 pub mod Printed
 pub mod Input
+pub mod Runs
 pub mod Cuts
 pub mod Fresh
 pub mod Level

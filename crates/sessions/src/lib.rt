@@ -1,9 +1,7 @@
-// What a session does on a line and on the bytes of its input: entries, returns and walks go through the public call, return and walk alone,
-// other commands set fields and bytes, and what is printed is laid into a buffer. It uses `lines`, `prints`, `calls`, `answers`, `unwind`,
-// `memory` and the record's crates; the program `session` lends it the buffers, reads and writes.
-use answers::Answer;
-use answers::Call;
-use answers::Performed;
+// What a session does on a line and on the bytes of its input: entries go through the call by number, returns and walks through theirs, each the
+// fast way first, other commands set fields and bytes, and what is printed is laid into a buffer. It uses `lines`, `prints`, `fast_calls`, `fast_return`,
+// `boundary`, `memory` and the record's crates; the program `session` lends it the buffers, reads and writes.
+use boundary::RawCall;
 use lines::Command;
 use memory::Bus;
 use memory::Core;
@@ -11,18 +9,26 @@ use memory::Core;
 pub mod input; // the bytes of the input, cut anywhere
 
 ghost use mathlib.Core.Path.{_≡_};
-ghost use Prim.Native.Nat.{_+_, _*_, _≤_};
+ghost use Prim.Native.Nat.{_+_, _*_, _<_, _≤_};
 ghost use lib.ListN.{length};
 ghost use Rattle.memory.specs.World.{world, putCpu, pokeLong};
 ghost use Rattle.unwind.specs.Rows.{rowAt, rowsFrom};
 ghost use Rattle.prints.specs.Prints.{before, more, refusedLine};
 ghost use Rattle.sessions.specs.Walks.{rowText, rowTexts, walkText, walked};
-ghost use Rattle.sessions.specs.Sessions.{session, freshBus, freshCore, chargeOf, stateOf, answerTold, entered, interrupted, returned, cleared, longTold, act, step};
+ghost use Rattle.sessions.specs.Sessions.{session, freshBus, freshCore, chargeOf, interrupted, returned, cleared, longTold, act, step};
+ghost use Rattle.sessions.specs.Numbered.{numbered, cyclesOf, shownOf, told, enteredBy};
 
 // Record and bus after a line, and the place after what is printed.
 pub struct Stepped {
     pub core: Core,
     pub at: usize,
+}
+
+// What an acting command prints of the record: numbers, so that no record is copied for it.
+pub struct Shown {
+    pub pc: u32,
+    pub sr: u32,
+    pub a7: u32,
 }
 
 // No windows, responses 0xFFFFFFFF.
@@ -71,16 +77,18 @@ fn charge(m: Core, taken: bool) -> u32
     0
 }
 
-// The line of an acting command.
-fn report(m: Core, cycles: u32, out: &mut [u8], at: usize) -> usize
-    requires { ⌜ at + 34 ≤ length (now out) ⌝ }
-    ensures { λ r. ⌜ (r ≤ at + 34) × (before r (now (out .exit)) ≡ more (before at (now (out .entry))) (stateOf m cycles)) ⌝ }
+fn show(m: Core) -> Shown
+    ensures { λ r. ⌜ r ≡ shownOf m ⌝ }
 {
     let c = m.cpu;
     let pc = c.flow.pc;
     let sr = status::get_sr(c);
     let a7 = cpu::fields::a7(c);
-    prints::state_line(out, at, cycles, pc, sr as u32, a7)
+    Shown {
+        pc: pc,
+        sr: sr as u32,
+        a7: a7,
+    }
 }
 
 // The line of a refusal.
@@ -91,36 +99,65 @@ fn refuse(out: &mut [u8], at: usize, n: u32) -> usize
     prints::refused_line(out, at, n)
 }
 
-// What an acting call prints.
-fn tell(m: Core, a: Answer, out: &mut [u8], at: usize) -> usize
-    requires { ⌜ at + 34 ≤ length (now out) ⌝ }
-    ensures { λ r. ⌜ (r ≤ at + 34) × (before r (now (out .exit)) ≡ more (before at (now (out .entry))) (answerTold m a)) ⌝ }
+// A call by number: `exc` is 1, `trap` 2, `set_irq` 20, the interrupt call 22.
+fn numbered(number: u32, a: u32) -> RawCall
+    ensures { λ r. ⌜ r ≡ numbered number a ⌝ }
 {
-    match a {
-        Answer::Cycles(n, _) => report(m, n, out, at),
-        Answer::Flag(b, _) => report(m, charge(m, b), out, at),
-        Answer::Value(_, _) => report(m, 0, out, at),
-        Answer::Done(_) => report(m, 0, out, at),
-        Answer::Refused(n) => refuse(out, at, n),
+    RawCall {
+        number: number,
+        a: a,
+        b: 0,
+        c: 0,
+        d: 0,
+        e: 0,
     }
 }
 
-// `exc` and `trap`.
+// The same with a byte.
+fn numbered_byte(number: u32, a: u8) -> RawCall
+    ensures { λ r. ⌜ (r ≡ numbered number a) × (a < 256) ⌝ }
+{
+    numbered(number, a as u32)
+}
+
+// The cycles that a call prints, from its answer.
+fn cycles_of(m: Core, number: u32, answer: u32) -> u32
+    ensures { λ r. ⌜ r ≡ cyclesOf m number answer ⌝ }
+{
+    if number == 22 {
+        return charge(m, answer != 0);
+    }
+    answer
+}
+
+// The line of an acting command, or of the number that refuses it.
+fn tell(x: Shown, refused: u32, cycles: u32, out: &mut [u8], at: usize) -> usize
+    requires { ⌜ at + 34 ≤ length (now out) ⌝ }
+    ensures { λ r. ⌜ (r ≤ at + 34) × (before r (now (out .exit)) ≡ more (before at (now (out .entry))) (told x refused cycles)) ⌝ }
+{
+    if refused == 0 {
+        return prints::state_line(out, at, cycles, x.pc, x.sr, x.a7);
+    }
+    refuse(out, at, refused)
+}
+
+// `exc`, `trap` and the interrupt call.
 fn enter(
     m: Core,
     store: &mut [u8],
     log: &mut [u32],
-    call: Call,
+    call: RawCall,
     out: &mut [u8],
     at: usize,
 ) -> Stepped
     requires { ⌜ at + 34 ≤ length (now out) ⌝ }
-    ensures { λ r. ⌜ (r .at ≤ at + 34) × (session (world (r .core) (now (store .exit)) (now (log .exit))) (before (r .at) (now (out .exit))) ≡ entered (session (world m (now (store .entry)) (now (log .entry))) (before at (now (out .entry)))) call) ⌝ }
+    ensures { λ r. ⌜ (r .at ≤ at + 34) × (session (world (r .core) (now (store .exit)) (now (log .exit))) (before (r .at) (now (out .exit))) ≡ enteredBy (session (world m (now (store .entry)) (now (log .entry))) (before at (now (out .entry)))) call) ⌝ }
 {
-    let x = calls::perform(m, store, log, call);
+    let x = fast_calls::raw_call(m, store, log, call);
     let d = x.core;
-    let a = x.answer;
-    let p = tell(d, a, out, at);
+    let n = cycles_of(d, call.number, x.answer);
+    let v = show(d);
+    let p = tell(v, x.refused, n, out, at);
     Stepped { core: d, at: p }
 }
 
@@ -136,10 +173,10 @@ fn interrupt(
     requires { ⌜ at + 34 ≤ length (now out) ⌝ }
     ensures { λ r. ⌜ (r .at ≤ at + 34) × (session (world (r .core) (now (store .exit)) (now (log .exit))) (before (r .at) (now (out .exit))) ≡ interrupted (session (world m (now (store .entry)) (now (log .entry))) (before at (now (out .entry)))) level) ⌝ }
 {
-    let set = Call::SetIrq(level);
-    let x = calls::perform(m, store, log, set);
+    let set = numbered_byte(20, level);
+    let x = fast_calls::raw_call(m, store, log, set);
     let d = x.core;
-    let call = Call::CheckAndServiceInterrupts;
+    let call = numbered(22, 0);
     enter(d, store, log, call, out, at)
 }
 
@@ -148,14 +185,10 @@ fn give_back(m: Core, store: &mut [u8], log: &mut [u32], out: &mut [u8], at: usi
     requires { ⌜ at + 34 ≤ length (now out) ⌝ }
     ensures { λ r. ⌜ (r .at ≤ at + 34) × (session (world (r .core) (now (store .exit)) (now (log .exit))) (before (r .at) (now (out .exit))) ≡ returned (session (world m (now (store .entry)) (now (log .entry))) (before at (now (out .entry))))) ⌝ }
 {
-    let x = unwind::return_from(m, store);
+    let x = fast_calls::return_from(m, store);
     let d = x.core;
-    let n = x.refused;
-    if n == 0 {
-        let p = report(d, 0, out, at);
-        return Stepped { core: d, at: p };
-    }
-    let p = refuse(out, at, n);
+    let v = show(d);
+    let p = tell(v, x.refused, 0, out, at);
     Stepped { core: d, at: p }
 }
 
@@ -187,7 +220,7 @@ fn walk(m: Core, store: &[u8], rows: &mut [u32], n: u32, out: &mut [u8], at: usi
     requires { ⌜ (n ≤ 4096) × (16384 ≤ length (now rows)) × (at + 82000 ≤ length (now out)) ⌝ }
     ensures { λ r. ⌜ (r ≤ at + 82000) × (before r (now (out .exit)) ≡ more (before at (now (out .entry))) (walkText m (now (store .entry)) n)) ⌝ }
 {
-    let w = unwind::walk(m, store, n, rows);
+    let w = fast_return::walk(m, store, n, rows);
     let p = row_lines(rows, w.count, out, at);
     if w.refused == 0 {
         return p;
@@ -263,8 +296,8 @@ fn act(
         Command::Ppc(v) => with_cpu(m, cpu::fields::set_ppc(m.cpu, v), at),
         Command::A7(v) => with_cpu(m, cpu::fields::set_a7(m.cpu, v), at),
         Command::Long(a, v) => long_line(m, store, a, v, out, at),
-        Command::Exc(v) => enter(m, store, log, Call::TakeException(v), out, at),
-        Command::Trap(n) => enter(m, store, log, Call::Trap(n), out, at),
+        Command::Exc(v) => enter(m, store, log, numbered(1, v), out, at),
+        Command::Trap(n) => enter(m, store, log, numbered_byte(2, n), out, at),
         Command::Irq(n) => interrupt(m, store, log, n, out, at),
         Command::Walk(n) => walk_line(m, store, rows, n, out, at),
         Command::Ret => give_back(m, store, log, out, at),

@@ -1,6 +1,6 @@
 //! Test cases in text: a line says a call, a record and a store; the answer says what came of it.
 
-use m68k_host::{Call, Core, FaultCause, Kind, Record, Refusal, Resume, Window};
+use m68k_host::{Answer, Call, Core, FaultCause, Kind, Record, Refusal, Resume, Window};
 use std::hint::black_box;
 use std::io::Write;
 
@@ -95,6 +95,14 @@ impl Cases {
         }
     }
 
+    /// Whether the call of a line goes the fast way; none where it asks for no call, or for one that is refused.
+    #[cfg(feature = "ways")]
+    pub fn is_fast(&mut self, input: &str) -> Option<bool> {
+        let Ok(Wanted::Call(call)) = self.read(input) else { return None };
+        let Cases { core, log, store, len, .. } = self;
+        (*len <= STORE_LIMIT as u64).then(|| core.is_fast(call, store, log))
+    }
+
     fn try_answer(&mut self, line: &str, out: &mut Vec<u8>) -> Result<(), String> {
         let input = line.split_once(" => ").map_or(line, |p| p.0);
         let wanted = self.read(input)?;
@@ -105,7 +113,7 @@ impl Cases {
     pub(crate) fn perform(&mut self, wanted: Wanted, out: &mut Vec<u8>) -> Result<(), String> {
         let before = self.core.clone();
         let said =
-            if self.len > STORE_LIMIT as u64 { self.ask_long(wanted)? } else { self.ask(wanted) };
+            if self.len > STORE_LIMIT as u64 { self.ask_long(wanted)? } else { self.ask(wanted)? };
         // Return and walk have no events and leave the count.
         let counted = said.refused == 0 && matches!(wanted, Wanted::Call(_));
         let (events, held) = (self.core.events(), before.events());
@@ -122,7 +130,7 @@ impl Cases {
     }
 
     /// Hands it over the boundary.
-    fn ask(&mut self, wanted: Wanted) -> Said {
+    fn ask(&mut self, wanted: Wanted) -> Result<Said, String> {
         let Cases { core, log, rows, store, .. } = self;
         wanted.ask(core, store, log, rows)
     }
@@ -135,7 +143,7 @@ impl Cases {
         let len = self.long.len().min(usize::try_from(self.len).unwrap_or(usize::MAX));
         let long = &mut self.long[..len];
         long[..STORE_LIMIT].copy_from_slice(&self.store);
-        let said = wanted.ask(&mut self.core, long, &mut self.log, &mut self.rows);
+        let said = wanted.ask(&mut self.core, long, &mut self.log, &mut self.rows)?;
         self.store.copy_from_slice(&long[..STORE_LIMIT]);
         // Of a very long one, its ends: the rest was never touched and is not to be.
         let rest = &long[STORE_LIMIT..];
@@ -278,11 +286,17 @@ impl Wanted {
     }
 
     /// Hands it over the boundary.
-    fn ask(self, core: &mut Core, store: &mut [u8], log: &mut [u32], rows: &mut [u32]) -> Said {
+    fn ask(
+        self,
+        core: &mut Core,
+        store: &mut [u8],
+        log: &mut [u32],
+        rows: &mut [u32],
+    ) -> Result<Said, String> {
         let number = |refused: Option<Refusal>| refused.map_or(0, Refusal::number);
-        match self {
+        Ok(match self {
             Wanted::Call(call) => {
-                let done = core.call(call, store, log);
+                let done = both_ways(core, call, store, log)?;
                 let (answer, events) = done.map_or((0, 0), |a| (a.number(), a.count()));
                 Said { refused: number(done.err()), answer, events, rows: 0 }
             }
@@ -299,8 +313,36 @@ impl Wanted {
                 let (answer, rows) = (done.count, done.count);
                 Said { refused: number(done.refused), answer, events: 0, rows }
             }
-        }
+        })
     }
+}
+
+/// A call; where it has an export of its own, that is asked too, and must say and leave the same.
+fn both_ways(
+    core: &mut Core,
+    call: Call,
+    store: &mut [u8],
+    log: &mut [u32],
+) -> Result<Result<Answer, Refusal>, String> {
+    let alone = |core: &mut Core, store: &mut [u8], log: &mut [u32]| match call {
+        Call::TakeException(vector) => Some(core.take_exception(vector, store, log)),
+        Call::CheckAndServiceInterrupts => Some(core.check_and_service_interrupts(store, log)),
+        _ => None,
+    };
+    if !matches!(call, Call::TakeException(_) | Call::CheckAndServiceInterrupts) {
+        return Ok(core.call(call, store, log));
+    }
+    // A store that is too long is refused, so that nothing changes and no copy of it is needed.
+    let (mut other, mut words) = (core.clone(), log.to_vec());
+    let mut bytes = if store.len() > STORE_LIMIT { vec![] } else { store.to_vec() };
+    let lent = if store.len() > STORE_LIMIT { &mut *store } else { &mut bytes[..] };
+    let own = alone(&mut other, lent, &mut words);
+    let done = core.call(call, store, log);
+    let same = store.len() > STORE_LIMIT || bytes == store;
+    if own != Some(done) || !same || other != *core || words != log {
+        return Err(format!("{call}: its own export says or leaves something else"));
+    }
+    Ok(done)
 }
 
 /// The words of so many items that were written; all behind them must be as they were.

@@ -4,7 +4,7 @@
 //! are those of the first turn: an entry writes the same bytes and events every time, a walk the same rows.
 
 use crate::cases::{Cases, Wanted};
-use m68k_host::Core;
+use m68k_host::{Call, Core};
 use std::hint::black_box;
 
 /// The turns without the call: what a turn costs beside it.
@@ -15,12 +15,22 @@ pub fn copies(line: &str, turns: u32) -> Result<(), String> {
     Ok(())
 }
 
-/// What a case asks for so many times, and then once more for its answer, in the text of the cases.
-pub fn calls(line: &str, turns: u32) -> Result<String, String> {
+/// What a case asks for so many times, and then once more for its answer, in the text of the cases; `alone` by the export
+/// that the call has for itself.
+pub fn calls(line: &str, turns: u32, alone: bool) -> Result<String, String> {
     let mut cases = Cases::new();
     let wanted = cases.read(line)?;
     let Cases { core, store, log, rows, .. } = &mut cases;
     match wanted {
+        Wanted::Call(Call::TakeException(vector)) if alone => turn_by_turn(core, turns, |core| {
+            black_box(&core.take_exception(vector, store, log));
+        }),
+        Wanted::Call(Call::CheckAndServiceInterrupts) if alone => {
+            turn_by_turn(core, turns, |core| {
+                black_box(&core.check_and_service_interrupts(store, log));
+            });
+        }
+        _ if alone => return Err(format!("{line}: no export of its own")),
         Wanted::Call(call) => turn_by_turn(core, turns, |core| {
             black_box(&core.call(call, store, log));
         }),

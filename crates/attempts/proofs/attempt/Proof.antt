@@ -1,5 +1,5 @@
 use mathlib.Core.Path.{_≡_, refl}
-use Rattle.attempts.proofs.Tries.{attempt-way, attempt-way-2}
+use Rattle.attempts.proofs.Tries.{attempt-way, attempt-way-2, framed-way}
 use borrow.Author.Needs.{needs}
 use Rattle.attempts.proofs.attempt.Statement.{statement}
 use Rattle.attempts.proofs.attempt.Tie as tie
@@ -12,6 +12,8 @@ use Rattle.attempts.proofs.views.view.Reads as view-reads
 use Rattle.attempts.proofs.views.words.Reads as words-reads
 use Rattle.fast.proofs.go.Reads as go-reads
 use Rattle.fast.proofs.none.Reads as none-reads
+use Rattle.fast_frames.proofs.go.Reads as go-reads′
+use Rattle.fast_frames.proofs.rows.is_framed.Reads as is-framed-reads
 
 is-tidy-requires : tie.Need-is-tidy-requires
 is-tidy-requires c κs = search needs
@@ -21,6 +23,9 @@ fits-requires c κs = search needs
 
 view-requires : tie.Need-view-requires
 view-requires c κs = search needs
+
+is-framed-requires : tie.Need-is-framed-requires
+is-framed-requires c κs = search needs
 
 go-requires : tie.Need-go-requires
 go-requires c κs = search needs
@@ -39,16 +44,35 @@ same-length-2 c = search needs
 
 returns : tie.Need-returns
 returns c =
-    attempt-way _ _ _ _ (c .before .before .before .before .before .before .before .before .before .before .before .before .before .before .before .is-tidy .ensures) (c .before .before .before .before .before .before .before .before .before .before .before .before .before .before .if1 .taken) (c .before .before .before .before .before .before .before .before .before .before .fits2 .ensures) (c .before .before .before .before .before .before .before .before .before .view .ensures) (c .before .before .before .before .before .before .go .ensures) (c .before .words .ensures) (c .hand-over .ensures)
+    framed-way _ _ _ _ (c .before .before .before .before .before .before .before .before .before .before .before .before .before .before .before .before .before .is-tidy .ensures) (c .before .before .before .before .before .before .before .before .before .before .before .before .before .before .before .before .if1 .taken) (c .before .before .before .before .before .before .before .before .before .before .before .before .fits2 .ensures) (c .before .before .before .before .before .before .before .before .before .before .before .view .ensures) (c .before .before .before .before .before .before .go .ensures) (c .before .words .ensures) (c .hand-over .ensures)
 
-none-requires : tie.Need-none-requires
-none-requires c κs = search needs
+go-requires-2 : tie.Need-go-requires-2
+go-requires-2 c κs = search needs
+
+words-requires-2 : tie.Need-words-requires-2
+words-requires-2 c κs = search needs
 
 hand-over-requires-2 : tie.Need-hand-over-requires-2
 hand-over-requires-2 c κs = search needs
 
+same-length-3 : tie.Need-same-length-3
+same-length-3 c = search needs
+
+same-length-4 : tie.Need-same-length-4
+same-length-4 c = search needs
+
 returns-2 : tie.Need-returns-2
-returns-2 c = attempt-way-2 _ _ _ _ (c .before .none .ensures) (c .hand-over2 .ensures)
+returns-2 c =
+    attempt-way _ _ _ _ (c .before .before .before .before .before .before .before .before .before .before .before .before .before .before .before .before .before .is-tidy .ensures) (c .before .before .before .before .before .before .before .before .before .before .before .before .before .before .before .before .if1 .taken) (c .before .before .before .before .before .before .before .before .before .before .before .before .fits2 .ensures) (c .before .before .before .before .before .before .before .before .before .before .before .view .ensures) (c .before .before .before .before .before .before .go2 .ensures) (c .before .words2 .ensures) (c .hand-over2 .ensures)
+
+none-requires : tie.Need-none-requires
+none-requires c κs = search needs
+
+hand-over-requires-3 : tie.Need-hand-over-requires-3
+hand-over-requires-3 c κs = search needs
+
+returns-3 : tie.Need-returns-3
+returns-3 c = attempt-way-2 _ _ _ _ (c .before .none .ensures) (c .hand-over3 .ensures)
 
 pub attempt-spec : {M : Type 1} → statement M
 attempt-spec =
@@ -57,12 +81,19 @@ attempt-spec =
     is-tidy-requires
     fits-requires
     view-requires
+    is-framed-requires
     go-requires
     words-requires
     hand-over-requires
     same-length
     same-length-2
     returns
-    none-requires
+    go-requires-2
+    words-requires-2
     hand-over-requires-2
-    returns-2)
+    same-length-3
+    same-length-4
+    returns-2
+    none-requires
+    hand-over-requires-3
+    returns-3)

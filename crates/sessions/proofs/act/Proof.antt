@@ -5,6 +5,19 @@ use Rattle.sessions.proofs.act.Statement.{statement}
 use Rattle.sessions.proofs.act.Tie as tie
 use Rattle.sessions.proofs.act.Reads as reads
 use Rattle.sessions.proofs.act.Lts as lts
+use Rattle.cpu.proofs.fields.set_a7.Reads as set-a7-reads
+use Rattle.cpu.proofs.fields.set_pc.Reads as set-pc-reads
+use Rattle.cpu.proofs.fields.set_ppc.Reads as set-ppc-reads
+use Rattle.sessions.proofs.enter.Reads as enter-reads
+use Rattle.sessions.proofs.give_back.Reads as give-back-reads
+use Rattle.sessions.proofs.interrupt.Reads as interrupt-reads
+use Rattle.sessions.proofs.long_line.Reads as long-line-reads
+use Rattle.sessions.proofs.numbered.Reads as numbered-reads
+use Rattle.sessions.proofs.numbered_byte.Reads as numbered-byte-reads
+use Rattle.sessions.proofs.renew.Reads as renew-reads
+use Rattle.sessions.proofs.walk_line.Reads as walk-line-reads
+use Rattle.sessions.proofs.with_cpu.Reads as with-cpu-reads
+use Rattle.sessions.proofs.wrong.Reads as wrong-reads
 
 enum-told : tie.Need-enum-told
 enum-told c = search needs
@@ -54,11 +67,17 @@ long-line-requires c κs = search needs
 enum-known-command-6 : tie.Need-enum-known-command-6
 enum-known-command-6 c = search needs
 
+numbered-requires : tie.Need-numbered-requires
+numbered-requires c κs = search needs
+
 enter-requires : tie.Need-enter-requires
 enter-requires c κs = search needs
 
 enum-known-command-7 : tie.Need-enum-known-command-7
 enum-known-command-7 c = search needs
+
+numbered-byte-requires : tie.Need-numbered-byte-requires
+numbered-byte-requires c κs = search needs
 
 enter-requires-2 : tie.Need-enter-requires-2
 enter-requires-2 c κs = search needs
@@ -121,7 +140,7 @@ same-length-7 : tie.Need-same-length-7
 same-length-7 c = search needs
 
 returns-7 : tie.Need-returns-7
-returns-7 c = (omega (arith, c .before .before .before .before .before .before .enter .ensures .0), act-exc _ _ _ _ (c .before .before .before .before .before .before .before .before .before .before .before .command6 .given .1) (c .before .before .before .before .before .before .enter .ensures .1))
+returns-7 c = (omega (arith, c .before .before .before .before .before .before .enter .ensures .0), act-exc _ _ _ _ _ (c .before .before .before .before .before .before .before .before .before .before .before .before .command6 .given .1) (c .before .before .before .before .before .before .before .before .numbered .ensures) (c .before .before .before .before .before .before .enter .ensures .1))
 
 same-length-8 : tie.Need-same-length-8
 same-length-8 c = search needs
@@ -133,7 +152,7 @@ same-length-10 : tie.Need-same-length-10
 same-length-10 c = search needs
 
 returns-8 : tie.Need-returns-8
-returns-8 c = (omega (arith, c .before .before .before .before .before .before .enter2 .ensures .0), act-trap _ _ _ _ (c .before .before .before .before .before .before .before .before .before .before .before .command7 .given .1) (c .before .before .before .before .before .before .enter2 .ensures .1))
+returns-8 c = (omega (arith, c .before .before .before .before .before .before .enter2 .ensures .0), act-trap _ _ _ _ _ (c .before .before .before .before .before .before .before .before .before .before .before .before .command7 .given .1) (c .before .before .before .before .before .before .before .before .numbered-byte .ensures) (c .before .before .before .before .before .before .enter2 .ensures .1))
 
 same-length-11 : tie.Need-same-length-11
 same-length-11 c = search needs
@@ -191,8 +210,10 @@ act-spec =
     enum-known-command-5
     long-line-requires
     enum-known-command-6
+    numbered-requires
     enter-requires
     enum-known-command-7
+    numbered-byte-requires
     enter-requires-2
     enum-known-command-8
     interrupt-requires

@@ -154,6 +154,8 @@ struct Tally {
     /// By the number that the recorded answer has.
     refused: BTreeMap<String, u64>,
     differing: BTreeMap<String, u64>,
+    /// Accepted calls that went the fast way.
+    fast: BTreeMap<String, u64>,
 }
 
 impl Shared<'_> {
@@ -231,6 +233,10 @@ impl Shared<'_> {
         {
             count(&mut tally.refused, number, 1);
         }
+        #[cfg(feature = "ways")]
+        if expected.starts_with("refused=0 ") && cases.is_fast(input) == Some(true) {
+            count(&mut tally.fast, name, 1);
+        }
         if found == expected.as_bytes() {
             return;
         }
@@ -267,6 +273,7 @@ impl Shared<'_> {
             ("compared kinds", &tally.kinds),
             ("compared refusals", &tally.refused),
             ("different", &tally.differing),
+            ("by the fast way", &tally.fast),
         ];
         for (what, list) in lists {
             if !list.is_empty() {
@@ -275,6 +282,12 @@ impl Shared<'_> {
             }
         }
         println!("compare: {:.0} cases a second", self.rate());
+        if cfg!(feature = "ways") {
+            let fast: u64 = tally.fast.values().sum();
+            let apart = ["return", "walk"].map(|n| tally.calls.get(n).unwrap_or(&0));
+            let calls = tally.compared - apart.into_iter().sum::<u64>();
+            println!("compare: {fast} of {calls} calls, refused ones too, went the fast way");
+        }
         let (compared, differences) = (tally.compared, self.differences.load(Relaxed));
         if tally.lists > 0 {
             println!("compare: {} lists, each walk and return held to its book", tally.lists);
@@ -296,6 +309,7 @@ impl Tally {
             (&mut self.kinds, other.kinds),
             (&mut self.refused, other.refused),
             (&mut self.differing, other.differing),
+            (&mut self.fast, other.fast),
         ];
         for (list, others) in lists {
             for (name, n) in others {

@@ -1,5 +1,5 @@
 //! Makes the call of one case over and over, for tools/measure.sh, and prints its answer.
-//! usage: measure call|copy INPUT TURNS
+//! usage: measure call|alone|copy INPUT TURNS
 
 use m68k_programs::measure::{calls, copies};
 use std::process::ExitCode;
@@ -9,11 +9,11 @@ fn main() -> ExitCode {
     let args: Vec<&str> = args.iter().map(String::as_str).collect();
     let done = match args[..] {
         [what, input, turns] => match (what, turns.parse()) {
-            ("call", Ok(turns)) => calls(input, turns),
+            ("call" | "alone", Ok(turns)) => calls(input, turns, what == "alone"),
             ("copy", Ok(turns)) => copies(input, turns).map(|()| String::new()),
-            _ => Err("usage: measure call|copy INPUT TURNS".into()),
+            _ => Err("usage: measure call|alone|copy INPUT TURNS".into()),
         },
-        _ => Err("usage: measure call|copy INPUT TURNS".into()),
+        _ => Err("usage: measure call|alone|copy INPUT TURNS".into()),
     };
     match done {
         Ok(answer) => {

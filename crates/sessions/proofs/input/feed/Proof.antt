@@ -1,10 +1,11 @@
 use native.Mathlib.Omega.{arith}
-use Rattle.sessions.proofs.Lines.{feed-ends, feed-keeps}
+use Rattle.sessions.proofs.Lines.{feed-ends, feed-goes}
 use borrow.Author.Needs.{needs}
 use Rattle.sessions.proofs.input.feed.Statement.{statement}
 use Rattle.sessions.proofs.input.feed.Tie as tie
 use Rattle.sessions.proofs.input.feed.Reads as reads
 use Rattle.sessions.proofs.input.feed.Lts as lts
+use Rattle.sessions.proofs.step.Reads as step-reads
 
 sub-step : tie.Need-sub-step
 sub-step c = search needs
@@ -36,14 +37,8 @@ same-length-5 c = search needs
 returns : tie.Need-returns
 returns c = (c .before .before .before .before .before .before .before .before .before .step .ensures .0, omega arith, feed-ends _ _ _ _ _ _ (c .before .before .before .before .before .before .before .before .before .before .before .before .before .before .before .before .if1 .taken) (c .before .before .before .before .before .before .before .before .before .step .ensures .1))
 
-keep-requires : tie.Need-keep-requires
-keep-requires c κs = search needs
-
-same-length-6 : tie.Need-same-length-6
-same-length-6 c = search needs
-
 returns-2 : tie.Need-returns-2
-returns-2 c = (omega arith, c .before .before .keep .ensures .0, feed-keeps _ _ _ _ _ _ (c .before .before .before .before .if1 .left) (c .before .before .keep .ensures .1))
+returns-2 c = (omega arith, c .before .before .before .before .before .before .before .pre .0, feed-goes _ _ _ _ (c .if1 .left))
 
 pub feed-spec : {M : Type 1} → statement M
 feed-spec =
@@ -59,6 +54,4 @@ feed-spec =
     same-length-4
     same-length-5
     returns
-    keep-requires
-    same-length-6
     returns-2)

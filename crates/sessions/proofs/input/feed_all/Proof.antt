@@ -3,17 +3,18 @@ use Prim.Native.Nat.{_+_, _-_, _^_, _<_, _≤_}
 use mathlib.Core.Path.{_≡_, refl, sym, _∙_}
 use lib.ListN.{length}
 use native.Mathlib.Omega.{arith}
-use borrow.Author.Needs.{needs}
 use Rattle.memory.specs.World.{world}
 use Rattle.prints.specs.Prints.{before}
 use Rattle.sessions.specs.Sessions.{session}
 use Rattle.sessions.specs.Input.{under, takeAll}
-use Rattle.sessions.proofs.Lines.{all-start, all-goes}
+use Rattle.sessions.proofs.Lines.{all-start, run-ends, run-less, run-first}
 use Rattle.sessions.proofs.input.feed_all.Statement.{statement}
 use Rattle.sessions.proofs.input.feed_all.Tie as tie
 use Rattle.sessions.proofs.input.feed_all.Reads as reads
 use Rattle.sessions.proofs.input.feed_all.Lts as lts
 use Rattle.sessions.proofs.input.feed.Reads as feed-reads
+use Rattle.sessions.proofs.input.keep_run.Reads as keep-run-reads
+use Rattle.sessions.proofs.input.past.Reads as past-reads
 
 abbrev Inv-loop : tie.InvT-loop
 Inv-loop bytes line₀ store₀ log₀ rows₀ out₀ r₀ i₀ line store log rows out r i =
@@ -56,31 +57,31 @@ same-length-5 c = c .before .before .before .loop .inv .5
 returns : tie.Need-returns Inv-loop μ-loop
 returns c = (c .before .before .before .loop .inv .0, (λ e. absurd (omega (arith, c .before .before .before .loop .inv .8 e, c .if1 .taken))), omega (arith, c .before .before .before .loop .inv .5, c .before .before .before .loop .inv .7), c .before .before .before .loop .inv .9)
 
-shared-slice-read-feed : tie.Need-shared-slice-read-feed Inv-loop μ-loop
-shared-slice-read-feed c = search needs
+keep-run-requires : tie.Need-keep-run-requires Inv-loop μ-loop
+keep-run-requires c κs = (omega (arith, c .before .before .before .loop-test .taken), omega (arith, c .before .before .before .before .loop .inv .1, c .before .before .before .before .before .before .before .before .before .before .before .pre .0), c .before .before .before .before .loop .inv .6)
 
 feed-requires : tie.Need-feed-requires Inv-loop μ-loop
-feed-requires c κs = (omega (arith, c .before .before .before .before .before .before .before .before .before .loop .inv .1, c .before .before .before .before .before .before .before .before .before .before .before .before .before .before .before .before .pre .0), c .before .before .before .before .before .before .before .before .before .loop .inv .6, omega (arith, c .before .before .before .before .before .before .before .before .before .loop .inv .4, c .before .before .before .before .before .before .before .before .before .before .before .before .before .before .before .before .pre .2), omega (arith, c .before .before .before .before .before .before .before .before .before .loop .inv .5, c .before .before .before .before .before .before .before .before .before .before .before .before .before .before .before .before .pre .3, c .before .before .before .before .before .before .if1 .left))
+feed-requires c κs = (c .before .before .before .before .before .before .before .before .keep-run .ensures .3, omega (arith, c .before .before .before .before .before .before .before .before .keep-run .kept .1 .1 .0, c .before .before .before .before .before .before .before .before .before .before .before .before .before .loop .inv .1, c .before .before .before .before .before .before .before .before .before .before .before .before .before .before .before .before .before .before .before .before .pre .0), omega (arith, c .before .before .before .before .before .before .before .before .before .before .before .before .before .loop .inv .4, c .before .before .before .before .before .before .before .before .before .before .before .before .before .before .before .before .before .before .before .before .pre .2), omega (arith, c .before .before .before .before .before .before .before .before .before .before .before .before .before .loop .inv .5, c .before .before .before .before .before .before .before .before .before .before .before .before .before .before .before .before .before .before .before .before .pre .3, c .before .before .before .before .before .before .before .before .before .before .if1 .left))
 
-add-i : tie.Need-add-i Inv-loop μ-loop
-add-i c = omega (arith, c .before .before .before .before .before .before .before .before .before .before .before .before .before .before .before .before .before .before .before .loop-test .taken, c .before .before .before .before .before .before .before .before .before .before .before .before .before .before .before .before .before .before .before .before .loop .inv .10)
+past-requires : tie.Need-past-requires Inv-loop μ-loop
+past-requires c κs = (c .before .before .before .before .before .before .before .before .before .before .before .before .before .before .before .before .before .before .before .keep-run .ensures .2, refl)
 
 loop-less : tie.Need-loop-less Inv-loop μ-loop
-loop-less c = omega (arith, c .before .before .before .before .before .before .before .before .before .before .before .before .before .before .before .before .before .before .before .loop-test .taken)
+loop-less c = run-less _ _ _ _ _ (c .before .before .before .before .before .before .before .before .before .before .before .before .before .before .before .before .before .before .before .before .before .before .before .before .loop-test .taken) (c .before .before .before .before .before .before .before .before .before .before .before .before .before .before .before .before .before .before .before .before .keep-run .ensures .1) (c .before .before .before .before .before .before .before .before .before .before .before .before .before .before .before .before .before .before .before .before .keep-run .ensures .2) refl (c .past .ensures .0)
 
 loop-again : tie.Need-loop-again Inv-loop μ-loop
 loop-again c = (
-  omega (arith, c .before .before .before .before .before .before .before .before .before .before .before .before .before .before .before .before .before .before .before .loop-test .taken),
-  c .before .before .before .before .before .before .before .before .before .before .feed .kept .1 .1 .0 ∙ c .before .before .before .before .before .before .before .before .before .before .before .before .before .before .before .before .before .before .before .before .loop .inv .1,
-  c .before .before .before .before .before .before .before .before .before .before .feed .kept .1 .1 .1 .0 ∙ c .before .before .before .before .before .before .before .before .before .before .before .before .before .before .before .before .before .before .before .before .loop .inv .2,
-  c .before .before .before .before .before .before .before .before .before .before .feed .kept .1 .1 .1 .1 .0 ∙ c .before .before .before .before .before .before .before .before .before .before .before .before .before .before .before .before .before .before .before .before .loop .inv .3,
-  c .before .before .before .before .before .before .before .before .before .before .feed .kept .1 .1 .1 .1 .1 .0 ∙ c .before .before .before .before .before .before .before .before .before .before .before .before .before .before .before .before .before .before .before .before .loop .inv .4,
-  c .before .before .before .before .before .before .before .before .before .before .feed .kept .1 .1 .1 .1 .1 .1 .0 ∙ c .before .before .before .before .before .before .before .before .before .before .before .before .before .before .before .before .before .before .before .before .loop .inv .5,
-  c .before .before .before .before .before .before .before .before .before .before .feed .ensures .1,
-  omega (arith, c .before .before .before .before .before .before .before .before .before .before .feed .ensures .0, c .before .before .before .before .before .before .before .before .before .before .feed .kept .1 .1 .1 .1 .1 .1 .0, c .before .before .before .before .before .before .before .before .before .before .before .before .before .before .before .before .before .before .before .before .loop .inv .5, c .before .before .before .before .before .before .before .before .before .before .before .before .before .before .before .before .before .before .before .before .before .before .before .before .before .before .before .pre .3, c .before .before .before .before .before .before .before .before .before .before .before .before .before .before .before .before .before .if1 .left),
-  (λ e. absurd (omega arith)),
-  all-goes _ _ _ _ _ _ (c .before .before .before .before .before .before .before .before .before .before .before .before .before .before .before .before .before .before .before .loop-test .taken) refl (c .before .before .before .before .before .before .before .before .before .before .before .before .before .before .before .before .before .before .before .before .loop .inv .9) (c .before .before .before .before .before .before .before .before .before .before .feed .ensures .2),
-  c .before .before .before .before .before .before .before .before .before .before .before .before .before .before .before .before .before .before .before .before .loop .inv .10,
+  c .past .ensures .1,
+  c .before .before .before .before .before .before .before .before .before .before .before .feed .kept .1 .1 .1 .0 ∙ c .before .before .before .before .before .before .before .before .before .before .before .before .before .before .before .before .before .before .before .before .keep-run .kept .1 .1 .0 ∙ c .before .before .before .before .before .before .before .before .before .before .before .before .before .before .before .before .before .before .before .before .before .before .before .before .before .loop .inv .1,
+  c .before .before .before .before .before .before .before .before .before .before .before .feed .kept .1 .1 .1 .1 .0 ∙ c .before .before .before .before .before .before .before .before .before .before .before .before .before .before .before .before .before .before .before .before .before .before .before .before .before .loop .inv .2,
+  c .before .before .before .before .before .before .before .before .before .before .before .feed .kept .1 .1 .1 .1 .1 .0 ∙ c .before .before .before .before .before .before .before .before .before .before .before .before .before .before .before .before .before .before .before .before .before .before .before .before .before .loop .inv .3,
+  c .before .before .before .before .before .before .before .before .before .before .before .feed .kept .1 .1 .1 .1 .1 .1 .0 ∙ c .before .before .before .before .before .before .before .before .before .before .before .before .before .before .before .before .before .before .before .before .before .before .before .before .before .loop .inv .4,
+  c .before .before .before .before .before .before .before .before .before .before .before .feed .kept .1 .1 .1 .1 .1 .1 .1 .0 ∙ c .before .before .before .before .before .before .before .before .before .before .before .before .before .before .before .before .before .before .before .before .before .before .before .before .before .loop .inv .5,
+  c .before .before .before .before .before .before .before .before .before .before .before .feed .ensures .1,
+  omega (arith, c .before .before .before .before .before .before .before .before .before .before .before .feed .ensures .0, c .before .before .before .before .before .before .before .before .before .before .before .feed .kept .1 .1 .1 .1 .1 .1 .1 .0, c .before .before .before .before .before .before .before .before .before .before .before .before .before .before .before .before .before .before .before .before .before .before .before .before .before .loop .inv .5, c .before .before .before .before .before .before .before .before .before .before .before .before .before .before .before .before .before .before .before .before .before .before .before .before .before .before .before .before .before .before .before .before .pre .3, c .before .before .before .before .before .before .before .before .before .before .before .before .before .before .before .before .before .before .before .before .before .before .if1 .left),
+  (λ e. run-first _ _ _ _ _ (c .before .before .before .before .before .before .before .before .before .before .before .before .before .before .before .before .before .before .before .before .before .before .before .before .loop-test .taken) (c .before .before .before .before .before .before .before .before .before .before .before .before .before .before .before .before .before .before .before .before .keep-run .ensures .1) refl (c .past .ensures .0) e),
+  run-ends _ _ _ _ _ _ _ _ _ _ (c .before .before .before .before .before .before .before .before .before .before .before .before .before .before .before .before .before .before .before .before .keep-run .ensures .5) (c .before .before .before .before .before .before .before .before .before .before .before .before .before .before .before .before .before .before .before .before .keep-run .ensures .4) refl (c .before .before .before .before .before .before .before .before .before .before .before .before .before .before .before .before .before .before .before .before .before .before .before .before .before .loop .inv .9) (c .before .before .before .before .before .before .before .before .before .before .before .feed .ensures .2) (c .past .ensures .0),
+  c .before .before .before .before .before .before .before .before .before .before .before .before .before .before .before .before .before .before .before .before .before .before .before .before .before .loop .inv .10,
 )
 
 same-length-6 : tie.Need-same-length-6 Inv-loop μ-loop
@@ -115,9 +116,9 @@ feed-all-spec =
     same-length-4
     same-length-5
     returns
-    shared-slice-read-feed
+    keep-run-requires
     feed-requires
-    add-i
+    past-requires
     loop-less
     loop-again
     same-length-6

@@ -5,6 +5,8 @@ use Rattle.sessions.proofs.input.finish.Statement.{statement}
 use Rattle.sessions.proofs.input.finish.Tie as tie
 use Rattle.sessions.proofs.input.finish.Reads as reads
 use Rattle.sessions.proofs.input.finish.Lts as lts
+use Rattle.sessions.proofs.input.at_most_81.Reads as at-most-81-reads
+use Rattle.sessions.proofs.input.end_line.Reads as end-line-reads
 
 at-most-81-requires : tie.Need-at-most-81-requires
 at-most-81-requires c κs = search needs

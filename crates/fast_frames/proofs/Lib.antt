@@ -1,0 +1,3 @@
+pub mod RowWays
+pub mod Lays
+pub mod Ways
