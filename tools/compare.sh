@@ -7,10 +7,13 @@ set -euo pipefail
 cd "$(dirname "${BASH_SOURCE[0]}")/.."
 source_of_rust=$(cd "$1" && pwd); seed=$2; count=$3; lists=${4:-0}
 unset M68K_DIAG_ADDRESS_ERROR || true
+rt check lent leaves ways
+# The archives are made one beside the other and beside the oracle: each takes one processor.
+rt staticlib lent & lent=$!
+{ rt staticlib leaves && rt staticlib ways; } & others=$!
 oracle/build.sh test "$source_of_rust"
-rt staticlib lent
-rt staticlib leaves
-rt staticlib ways
+wait $lent
+wait $others
 python3 host/mirror.py --check
 host/build.sh test
 # Once more with the archive that says which way a call goes.

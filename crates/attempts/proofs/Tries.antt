@@ -11,11 +11,12 @@ use Rattle.boundary.specs.declared.RawCall.{RawCall}
 use Rattle.boundary.specs.Calls.{flag}
 use Rattle.records.specs.declared.LentCore.{LentCore}
 use Rattle.records.specs.Records.{raised, raisedCpu, raisedFlow, raisedQueue, raisedFault, raisedCode}
-use Rattle.fast.specs.declared.View.{View}
-use Rattle.fast.specs.declared.Patch.{Patch}
-use Rattle.fast.specs.Views.{viewOf}
-use Rattle.fast.specs.Patched.{Words, Fetched}
-use Rattle.fast.specs.Patches.{Ended, ended, noPatch, goOf}
+use Rattle.fast_plans.specs.declared.View.{View}
+use Rattle.fast_plans.specs.declared.Patch.{Patch}
+use Rattle.fast_plans.specs.Views.{viewOf}
+use Rattle.fast_laws.specs.Patched.{Words, Fetched}
+use Rattle.fast.specs.Patches.{ended, goOf}
+use Rattle.fast_plans.specs.Quiet.{noPatch}
 use Rattle.fast_frames.specs.Entries.{goOf as framed}
 use Rattle.attempts.specs.declared.Attempted.{Attempted}
 use Rattle.attempts.specs.Attempts.{isTidy, attemptedBy, Tried}

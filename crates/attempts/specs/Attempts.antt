@@ -13,7 +13,7 @@ use Rattle.pending.specs.Interrupts.{lessCycles}
 use Rattle.memory.specs.Log.{withEvents}
 use Rattle.answers.specs.Answers.{bit}
 use Rattle.boundary.specs.declared.RawCall.{RawCall}
-use Rattle.fast.specs.declared.Patch.{Patch}
+use Rattle.fast_plans.specs.declared.Patch.{Patch}
 use Rattle.records.specs.declared.LentCpu.{LentCpu}
 use Rattle.records.specs.declared.LentCore.{LentCore}
 use Rattle.records.specs.declared.LentFlow.{LentFlow}
@@ -53,7 +53,7 @@ patchedFlow f q =
       pc = q .pc;
       vbr = f .vbr;
       ir = f .ir;
-      fpiar = f .fpiar;
+      fpiar = pick (q .noted) (f .ppc) (f .fpiar);
       «cpu_type» = f .«cpu_type»;
       «run_mode» = f .«run_mode»;
       stopped = q .stopped;

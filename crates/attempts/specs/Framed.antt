@@ -9,10 +9,10 @@ use Rattle.boundary.specs.declared.RawCall.{RawCall}
 use Rattle.boundary.specs.Calls.{outcome}
 use Rattle.records.specs.declared.LentCore.{LentCore}
 use Rattle.records.specs.Records.{raised}
-use Rattle.fast.specs.Patched.{patchOf, Words, Fetched}
-use Rattle.fast.specs.Views.{viewOf}
+use Rattle.fast_laws.specs.Patched.{patchOf, Words, Fetched}
+use Rattle.fast_plans.specs.Views.{viewOf}
 use Rattle.fast.specs.Patches.{Ended}
-use Rattle.fast.specs.Accepts.{false-true}
+use Rattle.fast_laws.specs.Accepts.{false-true}
 use Rattle.fast_frames.specs.Matched.{kept, never-calm, never-idle, codeOf, wentBy, framed-same}
 use Rattle.attempts.specs.Attempts.{attemptedBy, patchedBy, Tried}
 use Rattle.attempts.specs.Patched.{Tidy, patched-law, lent-by}

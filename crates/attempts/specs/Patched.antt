@@ -16,12 +16,12 @@ use Rattle.boundary.specs.declared.RawCall.{RawCall}
 use Rattle.boundary.specs.Calls.{Outcome, outcome, flag, rawCall}
 use Rattle.records.specs.declared.LentCore.{LentCore}
 use Rattle.records.specs.Records.{raisedVector, raisedCode, raisedFlow, raisedQueue, raisedFault, raisedResume, raisedCpu, raised, loweredVector, loweredCode, loweredFlow, loweredQueue, loweredFault, loweredResume, loweredCpu, lowered}
-use Rattle.fast.specs.declared.Patch.{Patch}
-use Rattle.fast.specs.Patched.{patchCpu, patchOf, calmOf, Words, Fetched}
-use Rattle.fast.specs.Views.{viewOf}
-use Rattle.fast.specs.Patches.{Ended, ended, noPatch, goOf}
-use Rattle.fast.specs.Quiet.{quiet}
-use Rattle.fast.specs.Matched.{kept, entry-same, calm-same, idle-same}
+use Rattle.fast_plans.specs.declared.Patch.{Patch}
+use Rattle.fast_laws.specs.Patched.{patchCpu, patchOf, calmOf, Words, Fetched}
+use Rattle.fast_plans.specs.Views.{viewOf}
+use Rattle.fast.specs.Patches.{Ended, goOf}
+use Rattle.fast_plans.specs.Quiet.{noPatch}
+use Rattle.fast_laws.specs.Matched.{kept, entry-same, calm-same, idle-same}
 use Rattle.attempts.specs.declared.Attempted.{Attempted}
 use Rattle.attempts.specs.Lent.{Left, left, says, recordAfter, leftBy, lentCall}
 use Rattle.attempts.specs.Attempts.{isTidy, attemptedBy, chargedBy, patchedRegs, patchedFlow, patchedFlags, patchedQueue, patchedFault, patchedCpu, patchedBy, calmedFlow, calmedFlags, calmedCpu, calmedBy, Tried}

@@ -3,7 +3,7 @@
 // `unwind`, `records` and `status`; `lent` exports the calls.
 use boundary::RawCall;
 use cpu::Cpu;
-use fast::Patch;
+use fast_plans::Patch;
 use fast_return::ReturnPatch;
 use memory::Core;
 use records::LentCore;
@@ -176,7 +176,7 @@ pub fn attempt(c: LentCore, call: RawCall, store: &mut [u8], log: &mut [u32]) ->
         let fetched = views::words(q.first, q.second);
         return hand_over(q);
     }
-    let q = fast::none();
+    let q = fast_plans::none();
     hand_over(q)
 }
 
@@ -200,7 +200,7 @@ pub fn attempt_exception(c: LentCore, vector: u32, store: &mut [u8], log: &mut [
         let fetched = views::words(q.first, q.second);
         return hand_over(q);
     }
-    let q = fast::none();
+    let q = fast_plans::none();
     hand_over(q)
 }
 
@@ -224,7 +224,7 @@ pub fn attempt_interrupt(c: LentCore, store: &mut [u8], log: &mut [u32]) -> Atte
         let fetched = views::words(q.first, q.second);
         return hand_over(q);
     }
-    let q = fast::none();
+    let q = fast_plans::none();
     hand_over(q)
 }
 

@@ -1,7 +1,8 @@
 // A patch laid into the groups of a lent record. Every index is written out, so that the record stays where it is.
 use cpu::Flags;
 use cpu::Regs;
-use fast::Patch;
+use fast_plans::Patch;
+use fast_plans::places;
 use records::LentCpu;
 use records::LentFault;
 use records::LentFlow;
@@ -35,8 +36,10 @@ fn patched_flow(f: LentFlow, q: Patch) -> LentFlow
     ensures { λ r. ⌜ r ≡ patchedFlow f q ⌝ }
 {
     let n = charged(f, q.serviced);
+    let a = places::choose(q.noted, f.ppc, f.fpiar);
     let mut g = f;
     g.pc = q.pc;
+    g.fpiar = a;
     g.stopped = q.stopped;
     g.loop_mode = 0;
     g.cycles_remaining = n;

@@ -1,5 +1,5 @@
 // What the fast way reads of a lent record.
-use fast::View;
+use fast_plans::View;
 use records::LentCore;
 use records::LentFlow;
 ghost use mathlib.Core.Path.{_≡_};
@@ -7,7 +7,7 @@ ghost use Prim.Native.Nat.{_<_, _^_};
 ghost use lib.ListN.{length};
 ghost use Rattle.pending.specs.Interrupts.{hasRoom};
 ghost use Rattle.records.specs.Records.{raised};
-ghost use Rattle.fast.specs.Views.{viewOf};
+ghost use Rattle.fast_plans.specs.Views.{viewOf};
 ghost use Rattle.attempts.specs.Attempts.{isTidy};
 
 // Whether the cycles of an interrupt can be charged: what number 3 tests.

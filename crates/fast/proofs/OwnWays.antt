@@ -1,6 +1,6 @@
 -- The calls with exports of their own: from what each step ensures.
-use Prim.Native.Nat.{ℕ, _+_, _*_, _/_, _<_, _≤_}
-use mathlib.Core.Path.{_≡_, refl, sym, ap, _∙_}
+use Prim.Native.Nat.{ℕ, _<_, _≤_}
+use mathlib.Core.Path.{_≡_, refl, sym, _∙_}
 use mathlib.Core.Bool.{Bool, true, false}
 use mathlib.Core.List.{List}
 use native.Mathlib.Omega.{arith}
@@ -8,17 +8,15 @@ use borrow.Author.Tests.{ne-eqb}
 use lib.Dec.{eqb, ltb}
 use lib.ListN.{length}
 use Rattle.types.specs.Kinds.{pick}
-use Rattle.types.specs.Tables.{exceptionCycles}
-use Rattle.status.specs.Status.{compose}
-use Rattle.boundary.specs.declared.RawCall.{RawCall}
 use Rattle.boundary.specs.Calls.{exceptionCall, interruptCall}
-use Rattle.fast.specs.declared.View.{View}
-use Rattle.fast.specs.declared.Patch.{Patch}
-use Rattle.fast.specs.declared.plans.Plan.{Plan}
-use Rattle.fast.specs.Views.{acceptsOf}
-use Rattle.fast.specs.Plans.{row, rowOf, noPlan, stacksNext, isLong, addressOf, halts, entryPlan, entryOf, takes, interruptPlan, planOf, Shaped}
-use Rattle.fast.specs.Quiet.{isQuiet, stillPatch, quietOf}
-use Rattle.fast.specs.Patches.{noPatch, Ended, ended, enterOf, goOf}
+use Rattle.fast_plans.specs.declared.View.{View}
+use Rattle.fast_plans.specs.declared.Patch.{Patch}
+use Rattle.fast_plans.specs.declared.plans.Plan.{Plan}
+use Rattle.fast_plans.specs.Views.{acceptsOf}
+use Rattle.fast_plans.specs.Plans.{row, rowOf, noPlan, isLong, halts, entryPlan, entryOf, takes, interruptPlan, planOf, Shaped}
+use Rattle.fast_plans.specs.Quiet.{isQuiet, stillPatch, quietOf}
+use Rattle.fast_plans.specs.Quiet.{noPatch}
+use Rattle.fast.specs.Patches.{Ended, ended, enterOf, goOf}
 use Rattle.fast.proofs.Ways.{go-way, go-way-2, go-way-3, go-way-4, shaped-way}
 
 -- the shapes of an exception are below 3, those of an interrupt 4 to 6
@@ -30,28 +28,6 @@ over n k h l = ne-eqb n k (λ e. omega arith)
 
 pub fourth : (n : ℕ) → 3 < n → n < 7 → (n ≡ 6 → ⊥) → (n ≡ 5 → ⊥) → n ≡ 4
 fourth n h i j k = omega (arith, j, k)
-
--- `take_exception`
-none-added : (n : ℕ) → 0 + n ≡ n
-none-added n = omega arith
-
-pub exception-plan-way : (x : View) (v : ℕ) {sr pc s b a n : ℕ} {t : Bool} → sr ≡ compose (x .flags) → t ≡ stacksNext v → pc ≡ pick t (x .pc) (x .ppc) → s ≡ pick (eqb (x .kind) 1) 1 2
-    → b ≡ pick (eqb (x .kind) 1) 6 8 → a ≡ exceptionCycles v → n ≡ pick (eqb (x .kind) 1) (pc / 0x10000) sr
-    → _≡_ {A = Plan} (record { shape = s; bytes = b; clocks = 4; sr = sr; pc = pc; extra = x .ppc; format = v * 4; vector = v; level = 0; response = 0; answer = a; last = n; stopped = x .stopped; mask = x .flags .«int_mask»; pending = x .flags .«int_level»; serviced = false }) (entryPlan x (row 1 v false))
-unfolding entryPlan isLong addressOf
-exception-plan-way x v h0 h1 h2 h3 h4 h5 h6 = rw (none-added (v * 4), h6, h5, h4, h3, h2, h1, h0) refl
-
-pub exception-of-way : (x : View) (v : ℕ) {p : Plan} → ltb 255 v ≡ true → p ≡ noPlan → p ≡ entryOf x (row 1 v false)
-unfolding entryOf
-exception-of-way x v h0 h1 = rw (h1, h0) refl
-
-pub exception-of-way-2 : (x : View) (v : ℕ) {p : Plan} → ltb 255 v ≡ false → x .exception ≡ true → p ≡ noPlan → p ≡ entryOf x (row 1 v false)
-unfolding entryOf halts
-exception-of-way-2 x v h0 h1 h2 = rw (h2, h0, h1) refl
-
-pub exception-of-way-3 : (x : View) (v : ℕ) {p : Plan} → ltb 255 v ≡ false → x .exception ≡ false → p ≡ entryPlan x (row 1 v false) → p ≡ entryOf x (row 1 v false)
-unfolding entryOf halts
-exception-of-way-3 x v h0 h1 h2 = rw (h2, h0, h1) refl
 
 exception-plan-small : (x : View) (v : ℕ) → entryPlan x (row 1 v false) .shape < 3
 unfolding entryPlan isLong

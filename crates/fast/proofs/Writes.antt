@@ -10,12 +10,12 @@ use lib.ListN.{length, set}
 use Rattle.types.specs.Kinds.{pick, either}
 use Rattle.memory.specs.Bytes.{putWord, putLong}
 use Rattle.memory.specs.Log.{noteLog}
-use Rattle.fast.specs.declared.View.{View}
-use Rattle.fast.specs.declared.places.Spot.{Spot}
-use Rattle.fast.specs.declared.places.Landing.{Landing}
-use Rattle.fast.specs.declared.plans.Plan.{Plan}
-use Rattle.fast.specs.Places.{fetchesOf}
-use Rattle.fast.specs.Plans.{Shaped, bytesOf}
+use Rattle.fast_plans.specs.declared.View.{View}
+use Rattle.fast_plans.specs.declared.places.Spot.{Spot}
+use Rattle.fast.specs.declared.landings.Landing.{Landing}
+use Rattle.fast_plans.specs.declared.plans.Plan.{Plan}
+use Rattle.fast_plans.specs.Places.{fetchesOf}
+use Rattle.fast_plans.specs.Plans.{Shaped, bytesOf}
 use Rattle.fast.specs.Stacks.{Tape, tape, wordAt, longAt, eventAt, shortAt, threeAt, fourAt, syncCount, syncAt, oldFrom, oldAt, waitingOf, clocksCount, clocksAt, layAt, layCount, jumpCount, jumpAt}
 
 pub event-way : (n code a v : ℕ) (l : List ℕ) → n < 64 → 192 ≤ length l → set (set (set l (n * 3) code) (n * 3 + 1) a) (n * 3 + 2) v ≡ noteLog n l code a v

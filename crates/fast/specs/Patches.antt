@@ -1,24 +1,22 @@
 -- The fast way of a call: what it says of the record, and store and log after it.
 use Prim.Native.Nat.{ℕ}
-use mathlib.Core.Bool.{Bool, true, false}
+use mathlib.Core.Bool.{true, false}
 use mathlib.Core.List.{List}
 use lib.Dec.{eqb}
 use lib.ListN.{length}
 use Rattle.types.specs.Kinds.{pick}
 use Rattle.boundary.specs.declared.RawCall.{RawCall}
-use Rattle.fast.specs.declared.View.{View}
-use Rattle.fast.specs.declared.Patch.{Patch}
-use Rattle.fast.specs.declared.places.Spot.{Spot}
-use Rattle.fast.specs.declared.places.Landing.{Landing}
-use Rattle.fast.specs.declared.plans.Plan.{Plan}
-use Rattle.fast.specs.Views.{acceptsOf}
-use Rattle.fast.specs.Places.{fetchesOf, topOf, userOf, spotOf, landingOf}
-use Rattle.fast.specs.Plans.{planOf}
+use Rattle.fast_plans.specs.declared.View.{View}
+use Rattle.fast_plans.specs.declared.Patch.{Patch}
+use Rattle.fast_plans.specs.declared.places.Spot.{Spot}
+use Rattle.fast.specs.declared.landings.Landing.{Landing}
+use Rattle.fast_plans.specs.declared.plans.Plan.{Plan}
+use Rattle.fast_plans.specs.Views.{acceptsOf}
+use Rattle.fast_plans.specs.Places.{fetchesOf, topOf, userOf, spotOf}
+use Rattle.fast.specs.Landings.{landingOf}
+use Rattle.fast_plans.specs.Plans.{planOf}
 use Rattle.fast.specs.Stacks.{Tape, tape, layAt, layCount, jumpAt, jumpCount}
-use Rattle.fast.specs.Quiet.{quiet, isQuiet, quietOf}
-
-unfoldable pub noPatch : Patch
-noPatch = quiet false false 0 0 false
+use Rattle.fast_plans.specs.Quiet.{isQuiet, noPatch, quietOf}
 
 unfoldable pub patchBy : View → Plan → Spot → Landing → ℕ → Patch
 patchBy x p s j events =
@@ -42,6 +40,7 @@ patchBy x p s j events =
       level = p .pending;
       serviced = p .serviced;
       flow = x .«change_of_flow»;
+      noted = p .noted;
     }
 
 -- what the fast way says, and store and log after it

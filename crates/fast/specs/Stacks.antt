@@ -1,17 +1,17 @@
 -- Frames and events, written one after the other: `Tape` is the store and the log.
 use Prim.Native.Nat.{ℕ, _+_, _/_, _%_, _^_, _≤_}
-use mathlib.Core.Bool.{Bool, true, false}
+use mathlib.Core.Bool.{Bool}
 use mathlib.Core.List.{List}
 use lib.Dec.{eqb, ltb}
 use lib.ListN.{length}
 use Rattle.types.specs.Kinds.{pick}
 use Rattle.memory.specs.Bytes.{putWord, putLong}
 use Rattle.memory.specs.Log.{noteLog}
-use Rattle.fast.specs.declared.View.{View}
-use Rattle.fast.specs.declared.places.Spot.{Spot}
-use Rattle.fast.specs.declared.places.Landing.{Landing}
-use Rattle.fast.specs.declared.plans.Plan.{Plan}
-use Rattle.fast.specs.Places.{fetchesOf}
+use Rattle.fast_plans.specs.declared.View.{View}
+use Rattle.fast_plans.specs.declared.places.Spot.{Spot}
+use Rattle.fast.specs.declared.landings.Landing.{Landing}
+use Rattle.fast_plans.specs.declared.plans.Plan.{Plan}
+use Rattle.fast_plans.specs.Places.{fetchesOf}
 
 pub record Tape : Type 0 where
   pub store : List ℕ

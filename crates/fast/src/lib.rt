@@ -1,173 +1,25 @@
-// The fast way of a call: what an entry, an interrupt or a check between instructions leaves, computed from numbers where nothing is refused,
-// nothing faults and no window counts. Everything is tested first; then store and log are written, or nothing is. What the
-// record becomes is said as numbers (`Patch`), so that no record is copied. It uses `boundary` for the call by number, `status` and `types`;
-// `attempts` and `fast_calls` try it before the plain way, and `fast_frames` uses its tests.
+// The fast way of a call: what an entry, an interrupt or a check between instructions leaves, where nothing is refused, nothing faults and no
+// window counts. Everything is tested first; then store and log are written, or nothing is. What the record becomes is said as numbers (`Patch`),
+// so that no record is copied. It uses `fast_plans` for what is to be written, and `boundary` for the call by number; `attempts` and `fast_calls`
+// try it before the plain way, and `fast_frames` uses its jumps.
 use boundary::RawCall;
-use cpu::Flags;
-use places::Landing;
-use places::Spot;
-use plans::Plan;
+use fast_plans::Patch;
+use fast_plans::View;
+use fast_plans::places;
+use fast_plans::places::Spot;
+use fast_plans::plans::Plan;
+use landings::Landing;
 
 mod bytes; // words, longs and events at places that are there
+pub mod landings; // where a jump lands
 pub mod own; // `take_exception` and the interrupt call, which have exports of their own
-pub mod places; // where a frame lies and where a jump lands
-pub mod plans; // a call as data
-mod quiet; // calls that make no access
 pub mod stacks; // frames and events written
 
 ghost use mathlib.Core.Path.{_≡_};
 ghost use Prim.Native.Nat.{_+_, _≤_};
-ghost use lib.Dec.{ltb};
 ghost use lib.ListN.{length};
-ghost use Rattle.fast.specs.Views.{spanOf, isOther, acceptsOf};
-ghost use Rattle.fast.specs.Plans.{Shaped};
-ghost use Rattle.fast.specs.Quiet.{quiet};
-ghost use Rattle.fast.specs.Patches.{noPatch, patchBy, enterOf, goOf, ended};
-
-// What the fast way reads of a record and its bus.
-pub struct View {
-    pub kind: u8,
-    pub flags: Flags,
-    pub a7: u32,
-    pub user: u32,
-    pub interrupt: u32,
-    pub pc: u32,
-    pub ppc: u32,
-    pub vbr: u32,
-    pub run_mode: u32,
-    pub stopped: u32,
-    pub exception: bool,
-    pub change_of_flow: bool,
-    pub room: bool,
-    pub clocks: u32,
-    pub precise: bool,
-    pub overridden: bool,
-    pub base: u32,
-    pub windows: u32,
-    pub responses: [u32; 8],
-    pub events: u32,
-}
-
-// What a call leaves of record and bus, and what it answers. `fast`: an entry was made. `calm`: no access is made, and at most the level and the
-// change of flow change. `idle`: nothing changes. None of them: the fast way does not take the call, and nothing was touched.
-pub struct Patch {
-    pub idle: bool,
-    pub calm: bool,
-    pub fast: bool,
-    pub fetches: bool,
-    pub answer: u32,
-    pub events: u32,
-    pub user: u32,
-    pub top: u32,
-    pub a7: u32,
-    pub pc: u32,
-    pub first: u16,
-    pub second: u16,
-    pub last: u32,
-    pub vector: u32,
-    pub stopped: u32,
-    pub mask: u32,
-    pub level: u32,
-    pub serviced: bool,
-    pub flow: bool,
-}
-
-// The addresses of a kind: a store within them has no byte whose address is masked to another.
-fn span(kind: u8) -> usize
-    ensures { λ r. ⌜ r ≡ spanOf kind ⌝ }
-{
-    if kind < 3 {
-        return 0x1000000;
-    }
-    0x100000000
-}
-
-// Whether so many bytes at a base end past the addresses of the kind.
-fn ends_past(kind: u8, base: u32, stored: usize) -> bool
-    requires { ⌜ stored ≤ 65536 ⌝ }
-    ensures { λ r. ⌜ r ≡ ltb (spanOf kind) (base + stored) ⌝ }
-{
-    span(kind) < base as usize + stored
-}
-
-// Whether the fast way takes such a record, store and log: none of the numbers 1, 2, 4 to 7 and 9 refuses the call, M is clear, no window counts,
-// and the record is not faulted.
-pub fn accepts(x: View, stored: usize, logged: usize) -> bool
-    ensures { λ r. ⌜ r ≡ acceptsOf x stored logged ⌝ }
-{
-    if is_other(x.flags.s_flag) {
-        return false;
-    }
-    if x.flags.m_flag != 0 {
-        return false;
-    }
-    if x.vbr % 2 == 1 {
-        return false;
-    }
-    if x.overridden {
-        return false;
-    }
-    if x.windows != 0 {
-        return false;
-    }
-    if 65536 < stored {
-        return false;
-    }
-    if ends_past(x.kind, x.base, stored) {
-        return false;
-    }
-    if logged < 192 {
-        return false;
-    }
-    if 11 < x.kind {
-        return false;
-    }
-    x.run_mode != 1
-}
-
-// An S flag that is neither 0 nor 4.
-fn is_other(s: u32) -> bool
-    ensures { λ r. ⌜ r ≡ isOther s ⌝ }
-{
-    if s == 0 {
-        return false;
-    }
-    s != 4
-}
-
-// A patch of no entry.
-pub(crate) fn quiet_patch(idle: bool, calm: bool, answer: u32, level: u32, flow: bool) -> Patch
-    ensures { λ r. ⌜ r ≡ quiet idle calm answer level flow ⌝ }
-{
-    Patch {
-        idle: idle,
-        calm: calm,
-        fast: false,
-        fetches: false,
-        answer: answer,
-        events: 0,
-        user: 0,
-        top: 0,
-        a7: 0,
-        pc: 0,
-        first: 0,
-        second: 0,
-        last: 0,
-        vector: 0,
-        stopped: 0,
-        mask: 0,
-        level: level,
-        serviced: false,
-        flow: flow,
-    }
-}
-
-// The fast way does not take the call.
-pub fn none() -> Patch
-    ensures { λ r. ⌜ r ≡ noPatch ⌝ }
-{
-    quiet_patch(false, false, 0, 0, false)
-}
+ghost use Rattle.fast_plans.specs.Plans.{Shaped};
+ghost use Rattle.fast.specs.Patches.{patchBy, enterOf, goOf, ended};
 
 // What an entry leaves: its plan p, its frame at s, its jump to l and how many events there are.
 pub(crate) fn patch_by(x: View, p: Plan, s: Spot, l: Landing, events: u32) -> Patch
@@ -193,6 +45,7 @@ pub(crate) fn patch_by(x: View, p: Plan, s: Spot, l: Landing, events: u32) -> Pa
         level: p.pending,
         serviced: p.serviced,
         flow: x.change_of_flow,
+        noted: p.noted,
     }
 }
 
@@ -203,30 +56,30 @@ fn enter(x: View, store: &mut [u8], log: &mut [u32], p: Plan) -> Patch
 {
     let s = places::spot_of(x, store.len(), p.bytes);
     if s.ok {
-        let l = places::landing_of(x, store, p.vector, s.place, p.bytes);
+        let l = landings::landing_of(x, store, p.vector, s.place, p.bytes);
         if l.ok {
             let k = stacks::lay(x, store, log, s, p);
             let e = stacks::tell_jump(log, k, l, places::fetches(x));
             return patch_by(x, p, s, l, e);
         }
-        return none();
+        return fast_plans::none();
     }
-    none()
+    fast_plans::none()
 }
 
 // The fast way of a call by number.
 pub fn go(x: View, call: RawCall, store: &mut [u8], log: &mut [u32]) -> Patch
     ensures { λ r. ⌜ ended r (now (store .exit)) (now (log .exit)) ≡ goOf x call (now (store .entry)) (now (log .entry)) ⌝ }
 {
-    if accepts(x, store.len(), log.len()) {
-        if quiet::is_quiet(x, call) {
-            return quiet::patch_of(x, call);
+    if fast_plans::accepts(x, store.len(), log.len()) {
+        if fast_plans::quiet::is_quiet(x, call) {
+            return fast_plans::quiet::patch_of(x, call);
         }
-        let p = plans::plan_of(x, call);
+        let p = fast_plans::plans::plan_of(x, call);
         if p.shape == 0 {
-            return none();
+            return fast_plans::none();
         }
         return enter(x, store, log, p);
     }
-    none()
+    fast_plans::none()
 }

@@ -1,62 +1,22 @@
 // `take_exception` and the interrupt call, which have exports of their own: what `go` says of them, by code for the shapes of each alone. A function
 // that is called from two places is not inlined, and a call moves the view; so each has its own way to a frame.
-use crate::Patch;
-use crate::View;
 use crate::bytes;
-use crate::places;
-use crate::places::Spot;
-use crate::plans;
-use crate::plans::Plan;
-use crate::quiet;
+use crate::landings;
 use crate::stacks;
+use fast_plans::Patch;
+use fast_plans::View;
+use fast_plans::places;
+use fast_plans::places::Spot;
+use fast_plans::plans;
+use fast_plans::plans::Plan;
+use fast_plans::quiet;
 ghost use mathlib.Core.Path.{_≡_};
-ghost use mathlib.Core.Bool.{false};
 ghost use Prim.Native.Nat.{_+_, _<_, _≤_};
 ghost use lib.ListN.{length};
 ghost use Rattle.boundary.specs.Calls.{exceptionCall, interruptCall};
-ghost use Rattle.fast.specs.Plans.{row, entryPlan, entryOf, Shaped};
+ghost use Rattle.fast_plans.specs.Plans.{Shaped};
 ghost use Rattle.fast.specs.Stacks.{Fits, tape, layAt, layCount};
 ghost use Rattle.fast.specs.Patches.{enterOf, goOf, ended};
-
-// The plan of `take_exception`.
-fn exception_plan(x: View, v: u32) -> Plan
-    requires { ⌜ v ≤ 255 ⌝ }
-    ensures { λ p. ⌜ p ≡ entryPlan x (row 1 v false) ⌝ }
-{
-    let old = x.kind == types::M68000;
-    let sr = status::compose(x.flags) as u32;
-    let pc = places::choose(plans::stacks_next(v), x.pc, x.ppc);
-    Plan {
-        shape: plans::choose8(old, 1, 2),
-        bytes: places::choose(old, 6, 8),
-        clocks: 4,
-        sr: sr,
-        pc: pc,
-        extra: x.ppc,
-        format: v * 4,
-        vector: v,
-        level: 0,
-        response: 0,
-        answer: plans::cycles(v),
-        last: places::choose(old, pc / 0x10000, sr),
-        stopped: x.stopped,
-        mask: x.flags.int_mask,
-        pending: x.flags.int_level,
-        serviced: false,
-    }
-}
-
-fn exception_of(x: View, v: u32) -> Plan
-    ensures { λ p. ⌜ p ≡ entryOf x (row 1 v false) ⌝ }
-{
-    if 255 < v {
-        return plans::no_plan();
-    }
-    if x.exception {
-        return plans::no_plan();
-    }
-    exception_plan(x, v)
-}
 
 // The frame of `take_exception`; how many events there are then.
 fn lay_exception(x: View, store: &mut [u8], log: &mut [u32], s: Spot, p: Plan) -> u32
@@ -99,15 +59,15 @@ fn enter_exception(x: View, store: &mut [u8], log: &mut [u32], p: Plan) -> Patch
 {
     let s = places::spot_of(x, store.len(), p.bytes);
     if s.ok {
-        let l = places::landing_of(x, store, p.vector, s.place, p.bytes);
+        let l = landings::landing_of(x, store, p.vector, s.place, p.bytes);
         if l.ok {
             let k = lay_exception(x, store, log, s, p);
             let e = stacks::tell_jump(log, k, l, places::fetches(x));
             return crate::patch_by(x, p, s, l, e);
         }
-        return crate::none();
+        return fast_plans::none();
     }
-    crate::none()
+    fast_plans::none()
 }
 
 fn enter_interrupt(x: View, store: &mut [u8], log: &mut [u32], p: Plan) -> Patch
@@ -116,36 +76,36 @@ fn enter_interrupt(x: View, store: &mut [u8], log: &mut [u32], p: Plan) -> Patch
 {
     let s = places::spot_of(x, store.len(), p.bytes);
     if s.ok {
-        let l = places::landing_of(x, store, p.vector, s.place, p.bytes);
+        let l = landings::landing_of(x, store, p.vector, s.place, p.bytes);
         if l.ok {
             let k = lay_interrupt(x, store, log, s, p);
             let e = stacks::tell_jump(log, k, l, places::fetches(x));
             return crate::patch_by(x, p, s, l, e);
         }
-        return crate::none();
+        return fast_plans::none();
     }
-    crate::none()
+    fast_plans::none()
 }
 
 // The fast way of `take_exception`.
 pub fn take_exception(x: View, v: u32, store: &mut [u8], log: &mut [u32]) -> Patch
     ensures { λ r. ⌜ ended r (now (store .exit)) (now (log .exit)) ≡ goOf x (exceptionCall v) (now (store .entry)) (now (log .entry)) ⌝ }
 {
-    if crate::accepts(x, store.len(), log.len()) {
-        let p = exception_of(x, v);
+    if fast_plans::accepts(x, store.len(), log.len()) {
+        let p = plans::exception_of(x, v);
         if p.shape == 0 {
-            return crate::none();
+            return fast_plans::none();
         }
         return enter_exception(x, store, log, p);
     }
-    crate::none()
+    fast_plans::none()
 }
 
 // The fast way of the interrupt call.
 pub fn check_and_service(x: View, store: &mut [u8], log: &mut [u32]) -> Patch
     ensures { λ r. ⌜ ended r (now (store .exit)) (now (log .exit)) ≡ goOf x interruptCall (now (store .entry)) (now (log .entry)) ⌝ }
 {
-    if crate::accepts(x, store.len(), log.len()) {
+    if fast_plans::accepts(x, store.len(), log.len()) {
         if x.room {
             if plans::takes(x) {
                 let p = plans::interrupt_plan(x);
@@ -153,7 +113,7 @@ pub fn check_and_service(x: View, store: &mut [u8], log: &mut [u32]) -> Patch
             }
             return quiet::still(x, 0);
         }
-        return crate::none();
+        return fast_plans::none();
     }
-    crate::none()
+    fast_plans::none()
 }

@@ -1,17 +1,17 @@
 // Frames and events written, at places that were found before.
-use crate::View;
 use crate::bytes;
-use crate::places;
-use crate::places::Landing;
-use crate::places::Spot;
-use crate::plans::Plan;
+use crate::landings::Landing;
+use fast_plans::View;
+use fast_plans::places;
+use fast_plans::places::Spot;
+use fast_plans::plans::Plan;
 ghost use mathlib.Core.Path.{_≡_};
 ghost use mathlib.Core.Bool.{true};
 ghost use Prim.Native.Nat.{_+_, _<_, _≤_};
 ghost use lib.ListN.{length};
 ghost use Rattle.types.specs.Kinds.{pick};
-ghost use Rattle.fast.specs.Stacks.{Fits, tape, wordAt, longAt, eventAt, waitingOf, clocksAt, clocksCount, jumpAt, jumpCount, shortAt, threeAt, fourAt, syncAt, syncCount, oldAt, layAt, layCount};
-ghost use Rattle.fast.specs.Plans.{Shaped};
+ghost use Rattle.fast.specs.Stacks.{Fits, tape, wordAt, longAt, waitingOf, clocksAt, clocksCount, jumpAt, jumpCount, shortAt, threeAt, fourAt, syncAt, syncCount, oldAt, layAt, layCount};
+ghost use Rattle.fast_plans.specs.Plans.{Shaped};
 
 // A word at an offset of the frame, with its event.
 fn word(store: &mut [u8], log: &mut [u32], s: Spot, o: u32, n: u32, v: u32)

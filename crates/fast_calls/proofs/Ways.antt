@@ -17,12 +17,12 @@ use Rattle.unwind.specs.declared.Returned.{Returned}
 use Rattle.unwind.specs.Unwind.{returnFrom}
 use Rattle.fast_return.specs.declared.ReturnPatch.{ReturnPatch}
 use Rattle.fast_return.specs.Patch.{patchReturned}
-use Rattle.fast.specs.declared.View.{View}
-use Rattle.fast.specs.declared.Patch.{Patch}
-use Rattle.fast.specs.Views.{viewOf}
-use Rattle.fast.specs.Patched.{patchCpu, patchOf, calmOf, Words, Fetched}
+use Rattle.fast_plans.specs.declared.View.{View}
+use Rattle.fast_plans.specs.declared.Patch.{Patch}
+use Rattle.fast_plans.specs.Views.{viewOf}
+use Rattle.fast_laws.specs.Patched.{patchCpu, patchOf, calmOf, Fetched}
 use Rattle.fast.specs.Patches.{Ended, ended, goOf}
-use Rattle.fast.specs.Matched.{kept, entry-same, calm-same, idle-same}
+use Rattle.fast_laws.specs.Matched.{kept, entry-same, calm-same, idle-same}
 
 -- the queue with two words, or as it was
 queue-words : (b : Bool) (q : List ℕ) (x y : ℕ) → set (set q 0 (pick b x (getD q 0 0))) 1 (pick b y (getD q 1 0)) ≡ pick b (set (set q 0 x) 1 y) q

@@ -7,13 +7,14 @@ use cpu::Flow;
 use cpu::OptionalVector;
 use cpu::Queue;
 use cpu::Regs;
-use fast::Patch;
+use fast_plans::Patch;
+use fast_plans::places;
 use memory::Core;
 ghost use mathlib.Core.Path.{_≡_};
 ghost use lib.Dec.{eqb};
 ghost use Rattle.types.specs.Kinds.{pick};
 ghost use Rattle.pending.specs.Interrupts.{lessCycles};
-ghost use Rattle.fast.specs.Patched.{patchCpu, patchOf, calmOf};
+ghost use Rattle.fast_laws.specs.Patched.{patchCpu, patchOf, calmOf};
 
 // The cycles of an interrupt taken off, where one was serviced.
 fn charged(f: Flow, serviced: bool) -> i32
@@ -39,8 +40,10 @@ fn patched_flow(c: Cpu, q: Patch) -> Flow
     ensures { λ r. ⌜ r ≡ patchCpu c q .flow ⌝ }
 {
     let n = charged(c.flow, q.serviced);
+    let a = places::choose(q.noted, c.flow.ppc, c.flow.fpiar);
     let mut f = c.flow;
     f.pc = q.pc;
+    f.fpiar = a;
     f.stopped = q.stopped;
     f.loop_mode = false;
     f.cycles_remaining = n;

@@ -1,10 +1,10 @@
 // What the fast way reads of the record and its bus.
-use fast::View;
+use fast_plans::View;
 use memory::Core;
 ghost use mathlib.Core.Path.{_≡_};
 ghost use Prim.Native.Nat.{_<_, _^_};
 ghost use lib.ListN.{length};
-ghost use Rattle.fast.specs.Views.{viewOf};
+ghost use Rattle.fast_plans.specs.Views.{viewOf};
 
 pub(crate) fn view(m: Core) -> View
     ensures { λ r. ⌜ r ≡ viewOf m ⌝ }

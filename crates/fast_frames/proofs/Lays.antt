@@ -18,7 +18,7 @@ use Rattle.frames.specs.declared.Frame.{Frame}
 use Rattle.frames.specs.Frames.{word, fieldAt}
 use Rattle.unfaulted.specs.Closed.{told, laid, writesOf}
 use Rattle.unfaulted.specs.Pushes.{offsetOf, piecesOf}
-use Rattle.fast.specs.declared.places.Spot.{Spot}
+use Rattle.fast_plans.specs.declared.places.Spot.{Spot}
 use Rattle.fast.specs.Stacks.{Fits}
 use Rattle.fast_frames.specs.Entries.{Sized}
 

@@ -7,7 +7,7 @@ use Rattle.boundary.specs.declared.RawCall.{RawCall}
 use Rattle.cpu.specs.declared.Cpu.{Cpu}
 use Rattle.status.specs.Status.{compose}
 use Rattle.formats.specs.Formats.{disabledFrame}
-use Rattle.fast.specs.declared.View.{View}
+use Rattle.fast_plans.specs.declared.View.{View}
 use Rattle.fast_frames.specs.Rows.{busBytes, busRow, isFramed, disabledRow, bareCpu, busFrameOf, frameOf, row, rowOf}
 use Rattle.fast_frames.specs.declared.rows.FrameRow.{FrameRow}
 use Rattle.frames.specs.Frames.{busFrame}

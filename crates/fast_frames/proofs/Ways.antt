@@ -14,15 +14,18 @@ use Rattle.frames.specs.Frames.{fieldAt}
 use Rattle.boundary.specs.declared.RawCall.{RawCall}
 use Rattle.unfaulted.specs.Closed.{told, laid, writesOf}
 use Rattle.unfaulted.specs.Pushes.{piecesOf}
-use Rattle.fast.specs.declared.View.{View}
-use Rattle.fast.specs.declared.Patch.{Patch}
-use Rattle.fast.specs.declared.places.Spot.{Spot}
-use Rattle.fast.specs.declared.places.Landing.{Landing}
-use Rattle.fast.specs.Views.{acceptsOf}
-use Rattle.fast.specs.Places.{fetchesOf, spotOf, landingOf, landingIn}
+use Rattle.fast_plans.specs.declared.View.{View}
+use Rattle.fast_plans.specs.declared.Patch.{Patch}
+use Rattle.fast_plans.specs.declared.places.Spot.{Spot}
+use Rattle.fast.specs.declared.landings.Landing.{Landing}
+use Rattle.fast_plans.specs.Views.{acceptsOf}
+use Rattle.fast_plans.specs.Places.{fetchesOf, spotOf}
+use Rattle.fast.specs.Landings.{landingOf, landingIn}
 use Rattle.fast.specs.Stacks.{Fits, clocksAt, clocksCount, jumpAt, jumpCount}
-use Rattle.fast.specs.Patches.{noPatch, Ended, ended}
-use Rattle.fast.specs.Laws.{spot-fits, landing-fits, accepted-room}
+use Rattle.fast_plans.specs.Quiet.{noPatch}
+use Rattle.fast.specs.Patches.{Ended, ended}
+use Rattle.fast.specs.Laws.{spot-fits, landing-fits}
+use Rattle.fast_plans.specs.Laws.{accepted-room}
 use Rattle.fast_frames.specs.declared.rows.FrameRow.{FrameRow}
 use Rattle.fast_frames.specs.Rows.{frameOf}
 use Rattle.fast_frames.specs.Entries.{Sized, patchFor, writtenOf, landOf, placeOf, enterOf, entryOf, goOf}

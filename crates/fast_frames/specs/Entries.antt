@@ -11,14 +11,16 @@ use Rattle.frames.specs.Frames.{fieldAt}
 use Rattle.boundary.specs.declared.RawCall.{RawCall}
 use Rattle.unfaulted.specs.Closed.{told, laid, writesOf}
 use Rattle.unfaulted.specs.Pushes.{offsetOf, piecesOf}
-use Rattle.fast.specs.declared.View.{View}
-use Rattle.fast.specs.declared.Patch.{Patch}
-use Rattle.fast.specs.declared.places.Spot.{Spot}
-use Rattle.fast.specs.declared.places.Landing.{Landing}
-use Rattle.fast.specs.Views.{acceptsOf}
-use Rattle.fast.specs.Places.{fetchesOf, topOf, userOf, spotOf, landingOf}
+use Rattle.fast_plans.specs.declared.View.{View}
+use Rattle.fast_plans.specs.declared.Patch.{Patch}
+use Rattle.fast_plans.specs.declared.places.Spot.{Spot}
+use Rattle.fast.specs.declared.landings.Landing.{Landing}
+use Rattle.fast_plans.specs.Views.{acceptsOf}
+use Rattle.fast_plans.specs.Places.{fetchesOf, topOf, userOf, spotOf}
+use Rattle.fast.specs.Landings.{landingOf}
 use Rattle.fast.specs.Stacks.{clocksAt, clocksCount, jumpAt, jumpCount}
-use Rattle.fast.specs.Patches.{noPatch, Ended, ended}
+use Rattle.fast_plans.specs.Quiet.{noPatch}
+use Rattle.fast.specs.Patches.{Ended, ended}
 use Rattle.fast_frames.specs.declared.rows.FrameRow.{FrameRow}
 use Rattle.fast_frames.specs.Rows.{rowOf, frameOf}
 
@@ -49,6 +51,7 @@ patchFor x r s j last events =
       level = x .flags .«int_level»;
       serviced = false;
       flow = x .«change_of_flow»;
+      noted = false;
     }
 
 -- how many events there are after the clocks that waited, and after the frame

@@ -19,9 +19,9 @@ use Rattle.frames.specs.Codes.{isSupervisor, stateCode, faultCode, faultWord, s
 use Rattle.boundary.specs.declared.RawCall.{RawCall}
 use Rattle.unfaulted.specs.Pushes.{offsetOf}
 use Rattle.unfaulted.specs.Errors.{allGuarded}
-use Rattle.fast.specs.declared.View.{View}
-use Rattle.fast.specs.Views.{viewOf}
-use Rattle.fast.specs.Accepts.{false-true}
+use Rattle.fast_plans.specs.declared.View.{View}
+use Rattle.fast_plans.specs.Views.{viewOf}
+use Rattle.fast_laws.specs.Accepts.{false-true}
 use Rattle.fast_frames.specs.declared.rows.FrameRow.{FrameRow}
 use Rattle.fast_frames.specs.Rows.{row, busBytes, busRow, disabledRow, rowOf, bareCpu, busFrameOf, frameOf}
 use Rattle.fast_frames.specs.Entries.{Sized, entryOf}

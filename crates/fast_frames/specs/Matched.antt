@@ -34,16 +34,18 @@ use Rattle.calls.specs.Calls.{run, refusal}
 use Rattle.boundary.specs.declared.RawCall.{RawCall}
 use Rattle.boundary.specs.Calls.{outcome, flag, decode, ofPerformed, rawCall}
 use Rattle.unfaulted.specs.Closed.{closed}
-use Rattle.fast.specs.declared.View.{View}
-use Rattle.fast.specs.declared.Patch.{Patch}
-use Rattle.fast.specs.declared.places.Spot.{Spot}
-use Rattle.fast.specs.declared.places.Landing.{Landing}
-use Rattle.fast.specs.Views.{viewOf, acceptsOf}
-use Rattle.fast.specs.Places.{spotOf, landingOf}
-use Rattle.fast.specs.Patches.{noPatch, Ended, ended}
-use Rattle.fast.specs.Patched.{patchOf, Words, Fetched}
-use Rattle.fast.specs.Accepts.{false-true, Accepted, accepted, not-refused}
-use Rattle.fast.specs.Ways.{Says, raw-known}
+use Rattle.fast_plans.specs.declared.View.{View}
+use Rattle.fast_plans.specs.declared.Patch.{Patch}
+use Rattle.fast_plans.specs.declared.places.Spot.{Spot}
+use Rattle.fast.specs.declared.landings.Landing.{Landing}
+use Rattle.fast_plans.specs.Views.{viewOf, acceptsOf}
+use Rattle.fast_plans.specs.Places.{spotOf}
+use Rattle.fast.specs.Landings.{landingOf}
+use Rattle.fast_plans.specs.Quiet.{noPatch}
+use Rattle.fast.specs.Patches.{Ended, ended}
+use Rattle.fast_laws.specs.Patched.{patchOf, Words, Fetched}
+use Rattle.fast_laws.specs.Accepts.{false-true, Accepted, accepted, not-refused, floating-fine}
+use Rattle.fast_laws.specs.Ways.{raw-known}
 use Rattle.fast_frames.specs.declared.rows.FrameRow.{FrameRow}
 use Rattle.fast_frames.specs.Rows.{row, busBytes, busFrameOf, frameOf}
 use Rattle.fast_frames.specs.Entries.{patchFor, writtenOf, landOf, placeOf, enterOf, entryOf, goOf}
@@ -150,11 +152,6 @@ plain-bus m c s l a b =
     ∙ ap (λ (f : Frame). ofPerformed (cycles (jumpVector raised (pushFrame raised (closed (m .bus) (enterSupervisor (m .cpu)) 0 s l) f) 2) 50)) (sym (bare-frame m (c .a) write instruction (c .d) (causeNumber cause) (a .code) (b .bytes)) ∙ sym (frame-bus (viewOf m) (wdataOf (m .cpu)) c (b .number)))
 
 -- ---- a disabled floating-point unit
-
--- on the 68060 number 9 refuses a floating-point entry no more than another
-floating-fine : (m : Core) (stored logged : ℕ) → is060 (m .cpu .flow .«cpu_type») ≡ true → refusalOf m stored logged ofFloating ≡ refusalOf m stored logged ofLent
-unfolding refusalOf testsOf firstOf badKind is060 kindOf
-floating-fine m stored logged e = rw e
 
 disabled-step : (m : Core) (s l : List ℕ) → ofEntry (takeFpDisabled060 (closed (m .bus) (m .cpu) 0 s l))
     ≡ cycles (jumpVector raised (pushFrame raised (closed (m .bus) (enterSupervisor (m .cpu)) 0 s l) (disabledFrame (compose (m .cpu .flags)) (m .cpu .flow .ppc) 0x402C 0 (m .cpu .flow .ppc))) 11) 34

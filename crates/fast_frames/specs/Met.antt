@@ -11,9 +11,10 @@ use Rattle.cpu.specs.Fresh.{freshCpu, freshFlow, freshRegs, freshFlags, freshQu
 use Rattle.memory.specs.declared.Core.{Core}
 use Rattle.memory.specs.Bytes.{putLong, putWord, getLong, getWord}
 use Rattle.boundary.specs.declared.RawCall.{RawCall}
-use Rattle.fast.specs.Views.{viewOf, spanOf, isOther, acceptsOf}
-use Rattle.fast.specs.Places.{fetchesOf, topOf, spotOf, meets, queuedOf, vectorAt, landingOf}
-use Rattle.fast.specs.Patched.{Words}
+use Rattle.fast_plans.specs.Views.{viewOf, spanOf, isOther, acceptsOf}
+use Rattle.fast_plans.specs.Places.{fetchesOf, topOf, spotOf}
+use Rattle.fast.specs.Landings.{meets, queuedOf, vectorAt, landingOf}
+use Rattle.fast_laws.specs.Patched.{Words}
 use Rattle.fast_frames.specs.Rows.{busBytes, busRow, disabledRow, rowOf}
 use Rattle.fast_frames.specs.Entries.{patchFor, writtenOf, landOf, placeOf, enterOf, goOf}
 use Rattle.fast_frames.specs.Matched.{codeOf, wentBy}

@@ -14,7 +14,7 @@ use Rattle.frames.specs.Frames.{busFrame}
 use Rattle.formats.specs.Formats.{disabledFrame}
 use Rattle.status.specs.Status.{compose}
 use Rattle.boundary.specs.declared.RawCall.{RawCall}
-use Rattle.fast.specs.declared.View.{View}
+use Rattle.fast_plans.specs.declared.View.{View}
 use Rattle.fast_frames.specs.declared.rows.FrameRow.{FrameRow}
 
 abbrev pub row : ℕ → ℕ → ℕ → FrameRow

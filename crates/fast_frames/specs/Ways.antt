@@ -26,20 +26,22 @@ use Rattle.unfaulted.specs.Pushes.{offsetOf, piecesOf, length-pieces}
 use Rattle.unfaulted.specs.Written.{clocks-count, entry-log, entry-count}
 use Rattle.unfaulted.specs.Entries.{supervisor-clocks, supervisor-fetches}
 use Rattle.unfaulted.specs.Errors.{allGuarded, guarded-if, frame-arrived}
-use Rattle.fast.specs.declared.View.{View}
-use Rattle.fast.specs.declared.Patch.{Patch}
-use Rattle.fast.specs.declared.places.Spot.{Spot}
-use Rattle.fast.specs.declared.places.Landing.{Landing}
-use Rattle.fast.specs.Views.{viewOf}
-use Rattle.fast.specs.Places.{fetchesOf, topOf, userOf, spot, spotOf, landingOf}
-use Rattle.fast.specs.Stacks.{clocksCount, clocksAt, jumpAt, jumpCount}
-use Rattle.fast.specs.Patches.{noPatch, Ended, ended}
-use Rattle.fast.specs.Patched.{patchCpu, patchOf, Words, Fetched}
-use Rattle.fast.specs.Accepts.{Accepted}
-use Rattle.fast.specs.Supervised.{topAt, userAt, Clear, Fitting, Plain, plain-patched}
-use Rattle.fast.specs.Placed.{Spotted, spotted, Landed, landed-by, enters}
-use Rattle.fast.specs.Tapes.{clocks-told, clocks-counted, jump-told, jump-counted}
-use Rattle.fast.specs.Ways.{ended-step, same-world, Says, clear-of}
+use Rattle.fast_plans.specs.declared.View.{View}
+use Rattle.fast_plans.specs.declared.Patch.{Patch}
+use Rattle.fast_plans.specs.declared.places.Spot.{Spot}
+use Rattle.fast.specs.declared.landings.Landing.{Landing}
+use Rattle.fast_plans.specs.Views.{viewOf}
+use Rattle.fast_plans.specs.Places.{fetchesOf, topOf, userOf, spot, spotOf}
+use Rattle.fast.specs.Landings.{landingOf}
+use Rattle.fast.specs.Stacks.{jumpAt, jumpCount}
+use Rattle.fast_plans.specs.Quiet.{noPatch}
+use Rattle.fast.specs.Patches.{Ended, ended}
+use Rattle.fast_laws.specs.Patched.{patchCpu, Words, Fetched}
+use Rattle.fast_laws.specs.Accepts.{Accepted}
+use Rattle.fast_laws.specs.Supervised.{topAt, userAt, Fitting, Plain, plain-patched}
+use Rattle.fast_laws.specs.Placed.{Spotted, spotted, Landed, landed-by, enters}
+use Rattle.fast_laws.specs.Tapes.{clocks-told, clocks-counted, jump-told, jump-counted}
+use Rattle.fast_laws.specs.Ways.{ended-step, same-world, Says, clear-of}
 use Rattle.fast_frames.specs.declared.rows.FrameRow.{FrameRow}
 use Rattle.fast_frames.specs.Entries.{Sized, patchFor, firstOf, framedOf, frameLog, writtenOf, landOf, placeOf, enterOf}
 use Rattle.fast_frames.specs.Laws.{Fitted}
@@ -154,7 +156,7 @@ module _ (m : Core) (s l : List ℕ) (w : Words m) (a : Accepted m (length s) (l
 
   plain : Plain (m .cpu) patch
   unfolding patchFor viewOf
-  plain = record { stopped = refl; mask = refl; level = refl; cycles = refl }
+  plain = record { stopped = refl; mask = refl; level = refl; cycles = refl; fpiar = refl }
 
   -- the record after it
   left : jumped (fetchesOf (viewOf m)) (setWdata (setA7 (setClocks (enterSupervisor (m .cpu)) 0) (topOf (viewOf m) - r .bytes)) (fieldAt f 0 .value)) (r .vector) (landing .pc) (landing .first) (landing .second) ≡ patchCpu (m .cpu) patch

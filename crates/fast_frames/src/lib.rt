@@ -2,11 +2,11 @@
 // and nothing faults. Everything is tested first, as in `fast`, and what the record becomes is said as numbers. It uses `fast` for the tests, the
 // places and the jump, `frames` and `formats` for the frames and `boundary` for the call by number; `attempts` tries it before the plain way.
 use boundary::RawCall;
-use fast::Patch;
-use fast::View;
-use fast::places;
-use fast::places::Landing;
-use fast::places::Spot;
+use fast::landings::Landing;
+use fast_plans::Patch;
+use fast_plans::View;
+use fast_plans::places;
+use fast_plans::places::Spot;
 use frames::Field;
 use frames::Frame;
 use rows::FrameRow;
@@ -84,6 +84,7 @@ fn patch_for(x: View, r: FrameRow, s: Spot, l: Landing, last: u32, events: u32) 
         level: x.flags.int_level,
         serviced: false,
         flow: x.change_of_flow,
+        noted: false,
     }
 }
 
@@ -94,7 +95,7 @@ fn enter(x: View, store: &mut [u8], log: &mut [u32], r: FrameRow, f: Frame) -> P
 {
     let s = places::spot_of(x, store.len(), r.bytes);
     if s.ok {
-        let l = places::landing_in(x, store, r.vector, s.place, r.bytes);
+        let l = fast::landings::landing_in(x, store, r.vector, s.place, r.bytes);
         if l.ok {
             let n = writes::tell_clocks(log, 0, x.clocks);
             lay(store, log, s, n, f, r.bytes);
@@ -103,9 +104,9 @@ fn enter(x: View, store: &mut [u8], log: &mut [u32], r: FrameRow, f: Frame) -> P
             let y = f.fields[0];
             return patch_for(x, r, s, l, y.value, e);
         }
-        return fast::none();
+        return fast_plans::none();
     }
-    fast::none()
+    fast_plans::none()
 }
 
 // The fast way of a call by number whose frame is data, on a record of which x is the view: the record keeps the data of the last write and a
@@ -113,13 +114,13 @@ fn enter(x: View, store: &mut [u8], log: &mut [u32], r: FrameRow, f: Frame) -> P
 pub fn go(x: View, wdata: u32, code: u8, call: RawCall, store: &mut [u8], log: &mut [u32]) -> Patch
     ensures { λ q. ⌜ ended q (now (store .exit)) (now (log .exit)) ≡ goOf x wdata code call (now (store .entry)) (now (log .entry)) ⌝ }
 {
-    if fast::accepts(x, store.len(), log.len()) {
+    if fast_plans::accepts(x, store.len(), log.len()) {
         let r = rows::row_of(call.number, x.kind, code);
         if r.bytes == 0 {
-            return fast::none();
+            return fast_plans::none();
         }
         let f = rows::frame_of(x, wdata, call);
         return enter(x, store, log, r, f);
     }
-    fast::none()
+    fast_plans::none()
 }

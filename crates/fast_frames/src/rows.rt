@@ -1,7 +1,7 @@
 // Which entries have their frame as data, and the frames.
 use boundary::RawCall;
 use cpu::Cpu;
-use fast::View;
+use fast_plans::View;
 use frames::Frame;
 ghost use mathlib.Core.Path.{_≡_};
 ghost use Prim.Native.Nat.{_%_};

@@ -1,6 +1,6 @@
 // Words, longs and events at places that are there, and the events of clocks and of a jump, as in `fast`: they ask something of their caller, which no
 // public function may, so they stand here again.
-use fast::places::Landing;
+use fast::landings::Landing;
 ghost use mathlib.Core.Path.{_≡_};
 ghost use mathlib.Core.Bool.{true};
 ghost use Prim.Native.Nat.{_+_, _*_, _<_, _≤_};

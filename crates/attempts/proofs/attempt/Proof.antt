@@ -11,7 +11,7 @@ use Rattle.attempts.proofs.views.is_tidy.Reads as is-tidy-reads
 use Rattle.attempts.proofs.views.view.Reads as view-reads
 use Rattle.attempts.proofs.views.words.Reads as words-reads
 use Rattle.fast.proofs.go.Reads as go-reads
-use Rattle.fast.proofs.none.Reads as none-reads
+use Rattle.fast_plans.proofs.none.Reads as none-reads
 use Rattle.fast_frames.proofs.go.Reads as go-reads′
 use Rattle.fast_frames.proofs.rows.is_framed.Reads as is-framed-reads
 

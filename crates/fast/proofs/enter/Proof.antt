@@ -6,11 +6,11 @@ use Rattle.fast.proofs.enter.Statement.{statement}
 use Rattle.fast.proofs.enter.Tie as tie
 use Rattle.fast.proofs.enter.Reads as reads
 use Rattle.fast.proofs.enter.Lts as lts
-use Rattle.fast.proofs.none.Reads as none-reads
+use Rattle.fast_plans.proofs.none.Reads as none-reads
 use Rattle.fast.proofs.patch_by.Reads as patch-by-reads
-use Rattle.fast.proofs.places.fetches.Reads as fetches-reads
-use Rattle.fast.proofs.places.landing_of.Reads as landing-of-reads
-use Rattle.fast.proofs.places.spot_of.Reads as spot-of-reads
+use Rattle.fast_plans.proofs.places.fetches.Reads as fetches-reads
+use Rattle.fast.proofs.landings.landing_of.Reads as landing-of-reads
+use Rattle.fast_plans.proofs.places.spot_of.Reads as spot-of-reads
 use Rattle.fast.proofs.stacks.lay.Reads as lay-reads
 use Rattle.fast.proofs.stacks.tell_jump.Reads as tell-jump-reads
 

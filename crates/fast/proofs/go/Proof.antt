@@ -6,12 +6,12 @@ use Rattle.fast.proofs.go.Statement.{statement}
 use Rattle.fast.proofs.go.Tie as tie
 use Rattle.fast.proofs.go.Reads as reads
 use Rattle.fast.proofs.go.Lts as lts
-use Rattle.fast.proofs.accepts.Reads as accepts-reads
+use Rattle.fast_plans.proofs.accepts.Reads as accepts-reads
 use Rattle.fast.proofs.enter.Reads as enter-reads
-use Rattle.fast.proofs.none.Reads as none-reads
-use Rattle.fast.proofs.plans.plan_of.Reads as plan-of-reads
-use Rattle.fast.proofs.quiet.is_quiet.Reads as is-quiet-reads
-use Rattle.fast.proofs.quiet.patch_of.Reads as patch-of-reads
+use Rattle.fast_plans.proofs.none.Reads as none-reads
+use Rattle.fast_plans.proofs.plans.plan_of.Reads as plan-of-reads
+use Rattle.fast_plans.proofs.quiet.is_quiet.Reads as is-quiet-reads
+use Rattle.fast_plans.proofs.quiet.patch_of.Reads as patch-of-reads
 
 accepts-requires : tie.Need-accepts-requires
 accepts-requires c κs = search needs

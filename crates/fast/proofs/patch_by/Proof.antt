@@ -5,9 +5,9 @@ use Rattle.fast.proofs.patch_by.Statement.{statement}
 use Rattle.fast.proofs.patch_by.Tie as tie
 use Rattle.fast.proofs.patch_by.Reads as reads
 use Rattle.fast.proofs.patch_by.Lts as lts
-use Rattle.fast.proofs.places.fetches.Reads as fetches-reads
-use Rattle.fast.proofs.places.top.Reads as top-reads
-use Rattle.fast.proofs.places.user.Reads as user-reads
+use Rattle.fast_plans.proofs.places.fetches.Reads as fetches-reads
+use Rattle.fast_plans.proofs.places.top.Reads as top-reads
+use Rattle.fast_plans.proofs.places.user.Reads as user-reads
 
 fetches-requires : tie.Need-fetches-requires
 fetches-requires c κs = search needs

@@ -8,10 +8,10 @@ use Rattle.fast_frames.proofs.enter.Statement.{statement}
 use Rattle.fast_frames.proofs.enter.Tie as tie
 use Rattle.fast_frames.proofs.enter.Reads as reads
 use Rattle.fast_frames.proofs.enter.Lts as lts
-use Rattle.fast.proofs.none.Reads as none-reads
-use Rattle.fast.proofs.places.fetches.Reads as fetches-reads
-use Rattle.fast.proofs.places.landing_in.Reads as landing-in-reads
-use Rattle.fast.proofs.places.spot_of.Reads as spot-of-reads
+use Rattle.fast_plans.proofs.none.Reads as none-reads
+use Rattle.fast_plans.proofs.places.fetches.Reads as fetches-reads
+use Rattle.fast.proofs.landings.landing_in.Reads as landing-in-reads
+use Rattle.fast_plans.proofs.places.spot_of.Reads as spot-of-reads
 use Rattle.fast_frames.proofs.writes.tell_clocks.Reads as tell-clocks-reads
 use Rattle.fast_frames.proofs.writes.tell_jump.Reads as tell-jump-reads
 use Rattle.fast_frames.proofs.lay.Reads as lay-reads

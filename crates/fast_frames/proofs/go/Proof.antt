@@ -6,8 +6,8 @@ use Rattle.fast_frames.proofs.go.Statement.{statement}
 use Rattle.fast_frames.proofs.go.Tie as tie
 use Rattle.fast_frames.proofs.go.Reads as reads
 use Rattle.fast_frames.proofs.go.Lts as lts
-use Rattle.fast.proofs.accepts.Reads as accepts-reads
-use Rattle.fast.proofs.none.Reads as none-reads
+use Rattle.fast_plans.proofs.accepts.Reads as accepts-reads
+use Rattle.fast_plans.proofs.none.Reads as none-reads
 use Rattle.fast_frames.proofs.enter.Reads as enter-reads
 use Rattle.fast_frames.proofs.rows.frame_of.Reads as frame-of-reads
 use Rattle.fast_frames.proofs.rows.row_of.Reads as row-of-reads

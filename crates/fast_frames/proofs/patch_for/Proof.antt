@@ -8,9 +8,9 @@ use Rattle.fast_frames.proofs.patch_for.Statement.{statement}
 use Rattle.fast_frames.proofs.patch_for.Tie as tie
 use Rattle.fast_frames.proofs.patch_for.Reads as reads
 use Rattle.fast_frames.proofs.patch_for.Lts as lts
-use Rattle.fast.proofs.places.fetches.Reads as fetches-reads
-use Rattle.fast.proofs.places.top.Reads as top-reads
-use Rattle.fast.proofs.places.user.Reads as user-reads
+use Rattle.fast_plans.proofs.places.fetches.Reads as fetches-reads
+use Rattle.fast_plans.proofs.places.top.Reads as top-reads
+use Rattle.fast_plans.proofs.places.user.Reads as user-reads
 
 fetches-requires : tie.Need-fetches-requires
 fetches-requires c κs = search needs

@@ -15,9 +15,12 @@ use Rattle.attempts.proofs.patches.charged.Reads as charged-reads
 charged-requires : tie.Need-charged-requires
 charged-requires c κs = search needs
 
+choose-requires : tie.Need-choose-requires
+choose-requires c κs = search needs
+
 returns : tie.Need-returns
 unfolding patchedFlow
-returns c = rw (toZ-ofZ {w = w32} {z = c .charged .result} (record { sfits = c .charged .ok }), c .charged .ensures) refl
+returns c = rw (toZ-ofZ {w = w32} {z = c .before .charged .result} (record { sfits = c .before .charged .ok }), c .before .charged .ensures, c .choose .ensures) refl
 
 pub patched-flow-spec : {M : Type 1} → statement M
-patched-flow-spec = tie.close (tie.spec charged-requires returns)
+patched-flow-spec = tie.close (tie.spec charged-requires choose-requires returns)

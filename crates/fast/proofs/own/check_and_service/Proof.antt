@@ -6,12 +6,12 @@ use Rattle.fast.proofs.own.check_and_service.Statement.{statement}
 use Rattle.fast.proofs.own.check_and_service.Tie as tie
 use Rattle.fast.proofs.own.check_and_service.Reads as reads
 use Rattle.fast.proofs.own.check_and_service.Lts as lts
-use Rattle.fast.proofs.accepts.Reads as accepts-reads
-use Rattle.fast.proofs.none.Reads as none-reads
+use Rattle.fast_plans.proofs.accepts.Reads as accepts-reads
+use Rattle.fast_plans.proofs.none.Reads as none-reads
 use Rattle.fast.proofs.own.enter_interrupt.Reads as enter-interrupt-reads
-use Rattle.fast.proofs.plans.interrupt_plan.Reads as interrupt-plan-reads
-use Rattle.fast.proofs.plans.takes.Reads as takes-reads
-use Rattle.fast.proofs.quiet.still.Reads as still-reads
+use Rattle.fast_plans.proofs.plans.interrupt_plan.Reads as interrupt-plan-reads
+use Rattle.fast_plans.proofs.plans.takes.Reads as takes-reads
+use Rattle.fast_plans.proofs.quiet.still.Reads as still-reads
 
 accepts-requires : tie.Need-accepts-requires
 accepts-requires c κs = search needs

@@ -9,7 +9,7 @@ use Rattle.fast.proofs.own.lay_interrupt.Tie as tie
 use Rattle.fast.proofs.own.lay_interrupt.Reads as reads
 use Rattle.fast.proofs.own.lay_interrupt.Lts as lts
 use Rattle.fast.proofs.bytes.event.Reads as event-reads
-use Rattle.fast.proofs.places.fetches.Reads as fetches-reads
+use Rattle.fast_plans.proofs.places.fetches.Reads as fetches-reads
 use Rattle.fast.proofs.stacks.four.Reads as four-reads
 use Rattle.fast.proofs.stacks.old.Reads as old-reads
 use Rattle.fast.proofs.stacks.short.Reads as short-reads

@@ -7,10 +7,10 @@ use Rattle.fast.proofs.own.take_exception.Statement.{statement}
 use Rattle.fast.proofs.own.take_exception.Tie as tie
 use Rattle.fast.proofs.own.take_exception.Reads as reads
 use Rattle.fast.proofs.own.take_exception.Lts as lts
-use Rattle.fast.proofs.accepts.Reads as accepts-reads
-use Rattle.fast.proofs.none.Reads as none-reads
+use Rattle.fast_plans.proofs.accepts.Reads as accepts-reads
+use Rattle.fast_plans.proofs.none.Reads as none-reads
 use Rattle.fast.proofs.own.enter_exception.Reads as enter-exception-reads
-use Rattle.fast.proofs.own.exception_of.Reads as exception-of-reads
+use Rattle.fast_plans.proofs.plans.exception_of.Reads as exception-of-reads
 
 accepts-requires : tie.Need-accepts-requires
 accepts-requires c κs = search needs

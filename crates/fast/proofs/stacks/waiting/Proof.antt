@@ -2,14 +2,13 @@ use mathlib.Core.Path.{_≡_, refl, sym, _∙_}
 use native.Mathlib.Omega.{arith}
 use lib.ListN.{length-set}
 use borrow.Author.Tests.{lt-ltb, le-ltb, le-leb, lt-leb, eq-eqb, ne-eqb}
-use Rattle.fast.specs.Stacks.{waitingOf}
 use Rattle.fast.proofs.Writes.{waiting-way, waiting-way-2}
 use borrow.Author.Needs.{needs}
 use Rattle.fast.proofs.stacks.waiting.Statement.{statement}
 use Rattle.fast.proofs.stacks.waiting.Tie as tie
 use Rattle.fast.proofs.stacks.waiting.Reads as reads
 use Rattle.fast.proofs.stacks.waiting.Lts as lts
-use Rattle.fast.proofs.places.fetches.Reads as fetches-reads
+use Rattle.fast_plans.proofs.places.fetches.Reads as fetches-reads
 use Rattle.std.proofs.num.wrapping_add_u32.Reads as wrapping-add-u32-reads
 
 fetches-requires : tie.Need-fetches-requires

@@ -1,5 +1,5 @@
 use mathlib.Core.Path.{_≡_, refl, sym, ap, _∙_}
-use Rattle.fast.specs.Patched.{patchCpu, patchOf, calmOf}
+use Rattle.fast_laws.specs.Patched.{calmOf}
 use Rattle.fast_calls.proofs.patches.calmed.Statement.{statement}
 use Rattle.fast_calls.proofs.patches.calmed.Tie as tie
 use Rattle.fast_calls.proofs.patches.calmed.Reads as reads

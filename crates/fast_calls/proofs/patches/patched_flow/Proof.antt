@@ -1,7 +1,7 @@
 use mir.Syntax.{w32}
 use mir.Facts.{toZ-ofZ}
 use mathlib.Core.Path.{_≡_, refl, sym, ap, _∙_}
-use Rattle.fast.specs.Patched.{patchCpu, patchOf, calmOf}
+use Rattle.fast_laws.specs.Patched.{patchCpu}
 use borrow.Author.Needs.{needs}
 use Rattle.fast_calls.proofs.patches.patched_flow.Statement.{statement}
 use Rattle.fast_calls.proofs.patches.patched_flow.Tie as tie
@@ -12,9 +12,12 @@ use Rattle.fast_calls.proofs.patches.charged.Reads as charged-reads
 charged-requires : tie.Need-charged-requires
 charged-requires c κs = search needs
 
+choose-requires : tie.Need-choose-requires
+choose-requires c κs = search needs
+
 returns : tie.Need-returns
 unfolding patchCpu
-returns c = rw (toZ-ofZ {w = w32} {z = c .before .charged .result} (record { sfits = c .before .charged .ok }), c .before .charged .ensures) refl
+returns c = rw (toZ-ofZ {w = w32} {z = c .before .before .charged .result} (record { sfits = c .before .before .charged .ok }), c .before .before .charged .ensures, c .before .choose .ensures) refl
 
 pub patched-flow-spec : {M : Type 1} → statement M
-patched-flow-spec = tie.close (tie.spec charged-requires returns)
+patched-flow-spec = tie.close (tie.spec charged-requires choose-requires returns)

@@ -1,5 +1,5 @@
 use mathlib.Core.Path.{_≡_, refl, sym, ap, _∙_}
-use Rattle.fast.specs.Patched.{patchCpu, patchOf, calmOf}
+use Rattle.fast_laws.specs.Patched.{patchCpu}
 use borrow.Author.Needs.{needs}
 use Rattle.fast_calls.proofs.patches.patched_regs.Statement.{statement}
 use Rattle.fast_calls.proofs.patches.patched_regs.Tie as tie

@@ -1,5 +1,5 @@
 use mathlib.Core.Path.{_≡_, refl, sym, ap, _∙_}
-use Rattle.fast.specs.Views.{viewOf}
+use Rattle.fast_plans.specs.Views.{viewOf}
 use borrow.Author.Needs.{needs}
 use Rattle.fast_calls.proofs.views.view.Statement.{statement}
 use Rattle.fast_calls.proofs.views.view.Tie as tie

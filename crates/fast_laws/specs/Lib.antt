@@ -1,0 +1,12 @@
+pub mod Patched
+pub mod Accepts
+pub mod Supervised
+pub mod Placed
+pub mod Tapes
+pub mod Ways
+pub mod Taken
+pub mod Grouped
+pub mod Interrupted
+pub mod Unimplemented
+pub mod Matched
+pub mod Met
