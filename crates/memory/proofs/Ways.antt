@@ -10,44 +10,17 @@ use lib.Dec.{eqb, ltb, leb}
 use native.Mathlib.Numerals.{sub-one}
 use Rattle.cpu.specs.Clocks.{clocksOf, hasClocks, setClocks}
 use Rattle.cpu.specs.declared.Cpu.{Cpu}
-use Rattle.memory.specs.Bytes.{getLong, getWord, putLong, putWord}
+use Rattle.memory.specs.Bytes.{getLong, getWord}
 use Rattle.memory.specs.Served.{clearOf, inStore, placeOf, servedOf, windowsInUse}
-use Rattle.memory.specs.World.{acknowledged, fetched, flush, noted, putCpu, rawRead, rawWrite, readValue, release, reply, responseOf, served, stored, tried, tryRead, tryWrite, widthOf, world, written}
+use Rattle.memory.specs.World.{acknowledged, fetched, flush, noted, putCpu, rawRead, readValue, release, reply, responseOf, served, tryRead, widthOf, world}
 use Rattle.memory.specs.declared.Bus.{Bus}
 use Rattle.memory.specs.declared.Core.{Core}
+use Rattle.types.specs.Kinds.{pick}
 use borrow.Author.Tests.{lt-ltb, le-ltb}
 
-pub try-write-way : (m : Core) (s l : List ℕ) (address : ℕ) (long : Bool) (value n : ℕ) (b : Bool) (n1 : ℕ) (s1 s2 l1 : List ℕ) (r : Core) → n ≡ widthOf long → b ≡ servedOf (m .bus) (length s) address n → b ≡ true → long ≡ true → n1 ≡ placeOf (m .bus) address → s1 ≡ putLong s n1 value → world r s2 l1 ≡ noted (world m s1 l) 4 address value → tried (world r s2 l1) true ≡ tryWrite (world m s l) address long value
-unfolding tryWrite rawWrite served stored written
-try-write-way m s l address long value n b n1 s1 s2 l1 r h0 h1 h2 h3 h4 h5 h6 = cc
-
-pub try-write-way-2 : (m : Core) (s l : List ℕ) (address : ℕ) (long : Bool) (value n : ℕ) (b : Bool) (n1 : ℕ) (s1 s2 l1 : List ℕ) (r : Core) → n ≡ widthOf long → b ≡ servedOf (m .bus) (length s) address n → b ≡ true → long ≡ false → n1 ≡ placeOf (m .bus) address → s1 ≡ putWord s n1 (value % 65536) → world r s2 l1 ≡ noted (world m s1 l) 3 address value → tried (world r s2 l1) true ≡ tryWrite (world m s l) address long value
-unfolding tryWrite rawWrite served stored written
-try-write-way-2 m s l address long value n b n1 s1 s2 l1 r h0 h1 h2 h3 h4 h5 h6 = cc
-
-pub try-write-way-3 : (m : Core) (s l : List ℕ) (address : ℕ) (long : Bool) (value n : ℕ) (b : Bool) (s1 l1 : List ℕ) (r : Core) → n ≡ widthOf long → b ≡ servedOf (m .bus) (length s) address n → b ≡ false → long ≡ true → world r s1 l1 ≡ noted (world m s l) 20 address value → tried (world r s1 l1) false ≡ tryWrite (world m s l) address long value
-unfolding tryWrite rawWrite served stored written
-try-write-way-3 m s l address long value n b s1 l1 r h0 h1 h2 h3 h4 = cc
-
-pub try-write-way-4 : (m : Core) (s l : List ℕ) (address : ℕ) (long : Bool) (value n : ℕ) (b : Bool) (s1 l1 : List ℕ) (r : Core) → n ≡ widthOf long → b ≡ servedOf (m .bus) (length s) address n → b ≡ false → long ≡ false → world r s1 l1 ≡ noted (world m s l) 19 address value → tried (world r s1 l1) false ≡ tryWrite (world m s l) address long value
-unfolding tryWrite rawWrite served stored written
-try-write-way-4 m s l address long value n b s1 l1 r h0 h1 h2 h3 h4 = cc
-
-pub try-read-way : (m : Core) (s l : List ℕ) (address : ℕ) (long : Bool) (n : ℕ) (b : Bool) (n1 n2 : ℕ) (s1 l1 : List ℕ) (r : Core) → n ≡ widthOf long → b ≡ servedOf (m .bus) (length s) address n → b ≡ true → long ≡ true → n1 ≡ placeOf (m .bus) address → n2 ≡ getLong s n1 → world r s1 l1 ≡ noted (world m s l) 2 address n2 → reply (world r s1 l1) true n2 ≡ tryRead (world m s l) address long
+pub try-read-way : (m : Core) (s l : List ℕ) (address : ℕ) (long : Bool) (n : ℕ) (b : Bool) (n1 n2 : ℕ) (s1 l1 : List ℕ) (r : Core) → n ≡ widthOf long → b ≡ servedOf (m .bus) (length s) address n → n1 ≡ pick b (pick long (getLong s (placeOf (m .bus) address)) (getWord s (placeOf (m .bus) address))) 0 → n2 ≡ pick b (pick long 2 1) (pick long 18 17) → world r s1 l1 ≡ noted (world m s l) n2 address n1 → reply (world r s1 l1) b n1 ≡ tryRead (world m s l) address long
 unfolding tryRead rawRead readValue served fetched
-try-read-way m s l address long n b n1 n2 s1 l1 r h0 h1 h2 h3 h4 h5 h6 = cc
-
-pub try-read-way-2 : (m : Core) (s l : List ℕ) (address : ℕ) (long : Bool) (n : ℕ) (b : Bool) (n1 n2 : ℕ) (s1 l1 : List ℕ) (r : Core) → n ≡ widthOf long → b ≡ servedOf (m .bus) (length s) address n → b ≡ true → long ≡ false → n1 ≡ placeOf (m .bus) address → n2 ≡ getWord s n1 → world r s1 l1 ≡ noted (world m s l) 1 address n2 → reply (world r s1 l1) true n2 ≡ tryRead (world m s l) address long
-unfolding tryRead rawRead readValue served fetched
-try-read-way-2 m s l address long n b n1 n2 s1 l1 r h0 h1 h2 h3 h4 h5 h6 = cc
-
-pub try-read-way-3 : (m : Core) (s l : List ℕ) (address : ℕ) (long : Bool) (n : ℕ) (b : Bool) (s1 l1 : List ℕ) (r : Core) → n ≡ widthOf long → b ≡ servedOf (m .bus) (length s) address n → b ≡ false → long ≡ true → world r s1 l1 ≡ noted (world m s l) 18 address 0 → reply (world r s1 l1) false 0 ≡ tryRead (world m s l) address long
-unfolding tryRead rawRead readValue served fetched
-try-read-way-3 m s l address long n b s1 l1 r h0 h1 h2 h3 h4 = cc
-
-pub try-read-way-4 : (m : Core) (s l : List ℕ) (address : ℕ) (long : Bool) (n : ℕ) (b : Bool) (s1 l1 : List ℕ) (r : Core) → n ≡ widthOf long → b ≡ servedOf (m .bus) (length s) address n → b ≡ false → long ≡ false → world r s1 l1 ≡ noted (world m s l) 17 address 0 → reply (world r s1 l1) false 0 ≡ tryRead (world m s l) address long
-unfolding tryRead rawRead readValue served fetched
-try-read-way-4 m s l address long n b s1 l1 r h0 h1 h2 h3 h4 = cc
+try-read-way m s l address long n b n1 n2 s1 l1 r h0 h1 h2 h3 h4 = cc
 
 pub flush-sync-way : (m : Core) (s l : List ℕ) (r : Cpu) (r1 : Core) (s1 l1 : List ℕ) (r2 : Core) → 0 < m .cpu .queue .«pending_sync_clocks» → r ≡ setClocks (m .cpu) 0 → r1 ≡ putCpu m r → world r2 s1 l1 ≡ noted (world r1 s l) 5 0 (m .cpu .queue .«pending_sync_clocks») → world r2 s1 l1 ≡ flush (world m s l)
 unfolding flush clocksOf hasClocks

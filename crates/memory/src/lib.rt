@@ -9,7 +9,10 @@ pub mod windows; // whether an access is served
 
 ghost use mathlib.Core.Path.{_≡_};
 ghost use Rattle.memory.specs.World.{world, tried, reply, tryWrite, tryRead, rawWrite, flush, release, acknowledged, noted, putCpu, widthOf, responseOf, pokeLong};
-ghost use Rattle.memory.specs.Served.{servedOf};
+ghost use Prim.Native.Nat.{_%_};
+ghost use Rattle.types.specs.Kinds.{pick};
+ghost use Rattle.memory.specs.Bytes.{putWord, putLong, getWord, getLong};
+ghost use Rattle.memory.specs.Served.{servedOf, placeOf};
 ghost use lib.ListN.{length};
 ghost use mathlib.Core.Bool.{true};
 ghost use Rattle.memory.specs.Log.{counted};
@@ -92,15 +95,38 @@ pub fn width(long: bool) -> u32
     2
 }
 
+// The bytes of a write, laid into the store where it is served. Says whether it is.
+fn lay(b: Bus, store: &mut [u8], address: u32, long: bool, value: u32) -> bool
+    ensures { λ r. ⌜ (r ≡ servedOf b (length (now (store .entry))) address (widthOf long)) × (now (store .exit) ≡ pick r (pick long (putLong (now (store .entry)) (placeOf b address) value) (putWord (now (store .entry)) (placeOf b address) (value % 0x10000))) (now (store .entry))) ⌝ }
+{
+    if windows::is_served(b, store.len(), address, width(long)) {
+        bytes::put(store, windows::place(b, address), long, value);
+        return true;
+    }
+    false
+}
+
 // A long laid into the store without an event, where it is served: what is there before a program runs. Says whether it is.
 pub fn poke_long(b: Bus, store: &mut [u8], address: u32, value: u32) -> bool
     ensures { λ r. ⌜ (r ≡ servedOf b (length (now (store .entry))) address 4) × (now (store .exit) ≡ pokeLong b (now (store .entry)) address value) ⌝ }
 {
-    if windows::is_served(b, store.len(), address, 4) {
-        bytes::put_long(store, windows::place(b, address), value);
-        return true;
+    lay(b, store, address, true, value)
+}
+
+// The code of a write's event: 16 more where it is not served.
+fn write_code(ok: bool, long: bool) -> u32
+    ensures { λ r. ⌜ r ≡ pick ok (pick long 4 3) (pick long 20 19) ⌝ }
+{
+    if ok {
+        if long {
+            return 4;
+        }
+        return 3;
     }
-    false
+    if long {
+        return 20;
+    }
+    19
 }
 
 // A guarded write: stored and logged where it is served, else logged with 16 more.
@@ -114,61 +140,49 @@ pub fn try_write(
 ) -> Tried
     ensures { λ r. ⌜ tried (world (r .core) (now (store .exit)) (now (log .exit))) (r .ok) ≡ tryWrite (world m (now (store .entry)) (now (log .entry))) address long value ⌝ }
 {
-    let b = m.bus;
-    if windows::is_served(b, store.len(), address, width(long)) {
+    let ok = lay(m.bus, store, address, long, value);
+    let d = note(m, store, log, write_code(ok, long), address, value);
+    Tried { core: d, ok: ok }
+}
+
+// The code of a read's event: 16 more where it is not served.
+fn read_code(ok: bool, long: bool) -> u32
+    ensures { λ r. ⌜ r ≡ pick ok (pick long 2 1) (pick long 18 17) ⌝ }
+{
+    if ok {
         if long {
-            bytes::put_long(store, windows::place(b, address), value);
-            let d = note(m, store, log, 4, address, value);
-            return Tried { core: d, ok: true };
+            return 2;
         }
-        bytes::put_word(store, windows::place(b, address), (value % 0x10000) as u16);
-        let d = note(m, store, log, 3, address, value);
-        return Tried { core: d, ok: true };
+        return 1;
     }
     if long {
-        let d = note(m, store, log, 20, address, value);
-        return Tried { core: d, ok: false };
+        return 18;
     }
-    let d = note(m, store, log, 19, address, value);
-    Tried { core: d, ok: false }
+    17
+}
+
+// The value of a read, 0 where it is not served.
+fn fetch(b: Bus, store: &[u8], address: u32, long: bool, ok: bool) -> u32
+    requires { ⌜ ok ≡ servedOf b (length (now store)) address (widthOf long) ⌝ }
+    ensures { λ r. ⌜ r ≡ pick ok (pick long (getLong (now (store .entry)) (placeOf b address)) (getWord (now (store .entry)) (placeOf b address))) 0 ⌝ }
+{
+    if ok {
+        return bytes::get(store, windows::place(b, address), long);
+    }
+    0
 }
 
 // A guarded read: its value is 0 where it is not served.
 pub fn try_read(m: Core, store: &mut [u8], log: &mut [u32], address: u32, long: bool) -> Reply
     ensures { λ r. ⌜ reply (world (r .core) (now (store .exit)) (now (log .exit))) (r .ok) (r .value) ≡ tryRead (world m (now (store .entry)) (now (log .entry))) address long ⌝ }
 {
-    let b = m.bus;
-    if windows::is_served(b, store.len(), address, width(long)) {
-        if long {
-            let v = bytes::get_long(store, windows::place(b, address));
-            let d = note(m, store, log, 2, address, v);
-            return Reply {
-                core: d,
-                ok: true,
-                value: v,
-            };
-        }
-        let v = bytes::get_word(store, windows::place(b, address));
-        let d = note(m, store, log, 1, address, v);
-        return Reply {
-            core: d,
-            ok: true,
-            value: v,
-        };
-    }
-    if long {
-        let d = note(m, store, log, 18, address, 0);
-        return Reply {
-            core: d,
-            ok: false,
-            value: 0,
-        };
-    }
-    let d = note(m, store, log, 17, address, 0);
+    let ok = windows::is_served(m.bus, store.len(), address, width(long));
+    let v = fetch(m.bus, store, address, long, ok);
+    let d = note(m, store, log, read_code(ok, long), address, v);
     Reply {
         core: d,
-        ok: false,
-        value: 0,
+        ok: ok,
+        value: v,
     }
 }
 

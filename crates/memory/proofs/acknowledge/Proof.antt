@@ -1,6 +1,5 @@
 use mathlib.Core.Path.{_≡_, refl, _∙_}
 use Rattle.memory.proofs.Ways.{acknowledge-way}
-use borrow.Author.Needs.{needs}
 use Rattle.memory.proofs.acknowledge.Statement.{statement}
 use Rattle.memory.proofs.acknowledge.Tie as tie
 use Rattle.memory.proofs.acknowledge.Reads as reads
@@ -9,10 +8,10 @@ use Rattle.memory.proofs.note.Reads as note-reads
 use Rattle.memory.proofs.response.Reads as response-reads
 
 response-requires : tie.Need-response-requires
-response-requires c κs = search needs
+response-requires c κs = tt
 
 note-requires : tie.Need-note-requires
-note-requires c κs = search needs
+note-requires c κs = tt
 
 same-length : tie.Need-same-length
 same-length c = c .before .before .before .before .note .kept .1 .0

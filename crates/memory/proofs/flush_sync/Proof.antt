@@ -1,6 +1,5 @@
 use mathlib.Core.Path.{_≡_, refl, _∙_}
 use Rattle.memory.proofs.Ways.{flush-sync-way, flush-sync-way-2}
-use borrow.Author.Needs.{needs}
 use Rattle.memory.proofs.flush_sync.Statement.{statement}
 use Rattle.memory.proofs.flush_sync.Tie as tie
 use Rattle.memory.proofs.flush_sync.Reads as reads
@@ -10,13 +9,13 @@ use Rattle.memory.proofs.note.Reads as note-reads
 use Rattle.memory.proofs.with_cpu.Reads as with-cpu-reads
 
 set-clocks-requires : tie.Need-set-clocks-requires
-set-clocks-requires c κs = search needs
+set-clocks-requires c κs = tt
 
 with-cpu-requires : tie.Need-with-cpu-requires
-with-cpu-requires c κs = search needs
+with-cpu-requires c κs = tt
 
 note-requires : tie.Need-note-requires
-note-requires c κs = search needs
+note-requires c κs = tt
 
 same-length : tie.Need-same-length
 same-length c = c .before .before .before .before .note .kept .1 .0

@@ -1,6 +1,5 @@
 use mathlib.Core.Path.{_≡_, refl, _∙_}
 use Rattle.memory.proofs.Spans.{raw-of-try}
-use borrow.Author.Needs.{needs}
 use Rattle.memory.proofs.raw_write.Statement.{statement}
 use Rattle.memory.proofs.raw_write.Tie as tie
 use Rattle.memory.proofs.raw_write.Reads as reads
@@ -8,7 +7,7 @@ use Rattle.memory.proofs.raw_write.Lts as lts
 use Rattle.memory.proofs.try_write.Reads as try-write-reads
 
 try-write-requires : tie.Need-try-write-requires
-try-write-requires c κs = search needs
+try-write-requires c κs = tt
 
 same-length : tie.Need-same-length
 same-length c = c .before .before .before .before .before .try-write .kept .1 .0

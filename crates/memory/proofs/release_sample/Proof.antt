@@ -1,6 +1,5 @@
 use mathlib.Core.Path.{_≡_, refl, _∙_}
 use Rattle.memory.proofs.Ways.{release-sample-way}
-use borrow.Author.Needs.{needs}
 use Rattle.memory.proofs.release_sample.Statement.{statement}
 use Rattle.memory.proofs.release_sample.Tie as tie
 use Rattle.memory.proofs.release_sample.Reads as reads
@@ -8,7 +7,7 @@ use Rattle.memory.proofs.release_sample.Lts as lts
 use Rattle.memory.proofs.note.Reads as note-reads
 
 note-requires : tie.Need-note-requires
-note-requires c κs = search needs
+note-requires c κs = tt
 
 same-length : tie.Need-same-length
 same-length c = c .before .before .before .before .note .kept .1 .0

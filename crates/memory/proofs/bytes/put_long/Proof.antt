@@ -2,7 +2,7 @@ use mathlib.Core.Path.{_≡_, refl, sym, _∙_}
 use native.Mathlib.Omega.{arith}
 use lib.ListN.{length-set}
 use borrow.Author.Tests.{lt-ltb, le-ltb, le-leb, lt-leb, eq-eqb, ne-eqb}
-use Rattle.memory.specs.Bytes.{putLong}
+use Rattle.memory.proofs.Spans.{long-put}
 use borrow.Author.Needs.{needs}
 use Rattle.memory.proofs.bytes.put_long.Statement.{statement}
 use Rattle.memory.proofs.bytes.put_long.Tie as tie
@@ -14,7 +14,7 @@ cast-put-word : tie.Need-cast-put-word
 cast-put-word c = search needs
 
 put-word-requires : tie.Need-put-word-requires
-put-word-requires c κs = search needs
+put-word-requires c κs = omega (arith, c .before .before .pre)
 
 add-put-word : tie.Need-add-put-word
 add-put-word c = search needs
@@ -23,14 +23,13 @@ cast-put-word-2 : tie.Need-cast-put-word-2
 cast-put-word-2 c = search needs
 
 put-word-requires-2 : tie.Need-put-word-requires-2
-put-word-requires-2 c κs = search needs
+put-word-requires-2 c κs = omega (arith, c .before .before .before .before .before .before .pre, c .before .before .before .put-word .kept .0)
 
 same-length : tie.Need-same-length
-same-length c = search needs
+same-length c = c .before .before .put-word2 .kept .0 ∙ c .before .before .before .before .before .before .put-word .kept .0
 
 returns : tie.Need-returns
-unfolding putLong
-returns c = cc (c .before .before .before .before .before .before .put-word .ensures, c .before .before .put-word2 .ensures)
+returns c = long-put _ _ _ _ _ (c .before .before .before .before .before .before .put-word .ensures) (c .before .before .put-word2 .ensures)
 
 pub put-long-spec : {M : Type 1} → statement M
 put-long-spec =

@@ -11,16 +11,16 @@ use Rattle.memory.proofs.windows.wide.Reads as wide-reads
 use Rattle.memory.proofs.windows.windows_in_use.Reads as windows-in-use-reads
 
 in-store-requires : tie.Need-in-store-requires
-in-store-requires c κs = search needs
+in-store-requires c κs = tt
 
 windows-in-use-requires : tie.Need-windows-in-use-requires
-windows-in-use-requires c κs = search needs
+windows-in-use-requires c κs = tt
 
 wide-requires : tie.Need-wide-requires
-wide-requires c κs = search needs
+wide-requires c κs = tt
 
 wide-requires-2 : tie.Need-wide-requires-2
-wide-requires-2 c κs = search needs
+wide-requires-2 c κs = tt
 
 clear-of-requires : tie.Need-clear-of-requires
 clear-of-requires c κs = search needs

@@ -18,7 +18,7 @@ element-copy-out-wide : tie.Need-element-copy-out-wide
 element-copy-out-wide c = search needs
 
 wide-requires : tie.Need-wide-requires
-wide-requires c κs = search needs
+wide-requires c κs = tt
 
 mul-wide-2 : tie.Need-mul-wide-2
 mul-wide-2 c = search needs
@@ -27,7 +27,7 @@ element-copy-out-wide-2 : tie.Need-element-copy-out-wide-2
 element-copy-out-wide-2 c = search needs
 
 wide-requires-2 : tie.Need-wide-requires-2
-wide-requires-2 c κs = search needs
+wide-requires-2 c κs = tt
 
 returns : tie.Need-returns
 returns c = window-empty _ _ _ _ _ (c .before .wide2 .ensures .0) (c .if1 .taken)
