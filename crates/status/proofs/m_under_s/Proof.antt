@@ -1,9 +1,4 @@
-use mathlib.Core.Path.{_≡_, refl, sym, _∙_}
-use native.Mathlib.Omega.{arith}
-use lib.ListN.{length-set}
-use borrow.Author.Tests.{lt-ltb, le-ltb, le-leb, lt-leb, eq-eqb, ne-eqb}
-use Rattle.status.specs.Status.{mUnderS}
-use borrow.Author.Needs.{needs}
+use Rattle.status.proofs.Ways.{s-clear, s-set}
 use Rattle.status.proofs.m_under_s.Statement.{statement}
 use Rattle.status.proofs.m_under_s.Tie as tie
 use Rattle.status.proofs.m_under_s.Reads as reads
@@ -12,18 +7,16 @@ use Rattle.status.proofs.m_of.Reads as m-of-reads
 use Rattle.status.proofs.s_of.Reads as s-of-reads
 
 s-of-requires : tie.Need-s-of-requires
-s-of-requires c κs = search needs
+s-of-requires c κs = tt
 
 returns : tie.Need-returns
-unfolding mUnderS
-returns c = cc (c .before .s-of .ensures, c .if1 .taken)
+returns c = s-clear _ _ (c .before .s-of .ensures) (c .if1 .taken)
 
 m-of-requires : tie.Need-m-of-requires
-m-of-requires c κs = search needs
+m-of-requires c κs = tt
 
 returns-2 : tie.Need-returns-2
-unfolding mUnderS
-returns-2 c = rw (← c .before .before .s-of .ensures, ne-eqb _ _ (c .before .if1 .left)) (c .m-of .ensures)
+returns-2 c = s-set _ _ _ (c .before .before .s-of .ensures) (c .before .if1 .left) (c .m-of .ensures)
 
 pub m-under-s-spec : {M : Type 1} → statement M
 m-under-s-spec = tie.close (tie.spec s-of-requires returns m-of-requires returns-2)

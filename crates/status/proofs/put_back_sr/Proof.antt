@@ -4,7 +4,6 @@ use native.Mathlib.Omega.{arith}
 use lib.ListN.{length-set}
 use borrow.Author.Tests.{lt-ltb, le-ltb, le-leb, lt-leb, eq-eqb, ne-eqb}
 use Rattle.status.specs.Status.{putBackSr}
-use borrow.Author.Needs.{needs}
 use Rattle.status.proofs.put_back_sr.Statement.{statement}
 use Rattle.status.proofs.put_back_sr.Tie as tie
 use Rattle.status.proofs.put_back_sr.Reads as reads
@@ -15,16 +14,16 @@ use Rattle.status.proofs.s_of.Reads as s-of-reads
 use Rattle.types.proofs.mask_status.Reads as mask-status-reads
 
 mask-status-requires : tie.Need-mask-status-requires
-mask-status-requires c κs = search needs
+mask-status-requires c κs = tt
 
 s-of-requires : tie.Need-s-of-requires
-s-of-requires c κs = search needs
+s-of-requires c κs = tt
 
 m-of-requires : tie.Need-m-of-requires
-m-of-requires c κs = search needs
+m-of-requires c κs = tt
 
 decompose-requires : tie.Need-decompose-requires
-decompose-requires c κs = search needs
+decompose-requires c κs = tt
 
 returns : tie.Need-returns
 returns c = put-back _ _ _ _ _ _ (c .before .before .before .mask-status .ensures) (c .before .before .s-of .ensures) (c .before .m-of .ensures) (c .decompose .ensures)

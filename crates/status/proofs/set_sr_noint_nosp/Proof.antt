@@ -4,7 +4,6 @@ use native.Mathlib.Omega.{arith}
 use lib.ListN.{length-set}
 use borrow.Author.Tests.{lt-ltb, le-ltb, le-leb, lt-leb, eq-eqb, ne-eqb}
 use Rattle.status.specs.Status.{setSrNointNosp}
-use borrow.Author.Needs.{needs}
 use Rattle.status.proofs.set_sr_noint_nosp.Statement.{statement}
 use Rattle.status.proofs.set_sr_noint_nosp.Tie as tie
 use Rattle.status.proofs.set_sr_noint_nosp.Reads as reads
@@ -15,16 +14,16 @@ use Rattle.status.proofs.s_of.Reads as s-of-reads
 use Rattle.types.proofs.mask_status.Reads as mask-status-reads
 
 mask-status-requires : tie.Need-mask-status-requires
-mask-status-requires c κs = search needs
+mask-status-requires c κs = tt
 
 s-of-requires : tie.Need-s-of-requires
-s-of-requires c κs = search needs
+s-of-requires c κs = tt
 
 m-under-s-requires : tie.Need-m-under-s-requires
-m-under-s-requires c κs = search needs
+m-under-s-requires c κs = tt
 
 decompose-requires : tie.Need-decompose-requires
-decompose-requires c κs = search needs
+decompose-requires c κs = tt
 
 returns : tie.Need-returns
 returns c = noint-nosp _ _ _ _ _ _ (c .before .before .before .mask-status .ensures) (c .before .before .s-of .ensures) (c .before .m-under-s .ensures) (c .decompose .ensures)

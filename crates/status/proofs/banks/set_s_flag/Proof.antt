@@ -1,9 +1,4 @@
-use mathlib.Core.Path.{_≡_, refl, sym, _∙_}
-use native.Mathlib.Omega.{arith}
-use lib.ListN.{length-set}
-use borrow.Author.Tests.{lt-ltb, le-ltb, le-leb, lt-leb, eq-eqb, ne-eqb}
-use Rattle.status.specs.Banks.{setSFlag}
-use borrow.Author.Needs.{needs}
+use Rattle.status.proofs.Ways.{s-flag-set}
 use Rattle.status.proofs.banks.set_s_flag.Statement.{statement}
 use Rattle.status.proofs.banks.set_s_flag.Tie as tie
 use Rattle.status.proofs.banks.set_s_flag.Reads as reads
@@ -13,17 +8,16 @@ use Rattle.status.proofs.banks.put_s.Reads as put-s-reads
 use Rattle.status.proofs.banks.restore_sp.Reads as restore-sp-reads
 
 backup-sp-requires : tie.Need-backup-sp-requires
-backup-sp-requires c κs = search needs
+backup-sp-requires c κs = tt
 
 put-s-requires : tie.Need-put-s-requires
-put-s-requires c κs = search needs
+put-s-requires c κs = tt
 
 restore-sp-requires : tie.Need-restore-sp-requires
-restore-sp-requires c κs = search needs
+restore-sp-requires c κs = tt
 
 returns : tie.Need-returns
-unfolding setSFlag
-returns c = cc (c .before .before .backup-sp .ensures, c .before .put-s .ensures, c .restore-sp .ensures)
+returns c = s-flag-set _ _ _ _ _ (c .before .before .backup-sp .ensures) (c .before .put-s .ensures) (c .restore-sp .ensures)
 
 pub set-s-flag-spec : {M : Type 1} → statement M
 set-s-flag-spec =
