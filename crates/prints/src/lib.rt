@@ -158,19 +158,23 @@ fn put_row_line(
     put(out, s, 10)
 }
 
+fn put_four(out: &mut [u8], at: usize, a: u8, b: u8, c: u8, d: u8) -> usize
+    requires { ⌜ at + 4 ≤ length (now out) ⌝ }
+    ensures { λ r. ⌜ (r ≡ at + 4) × (before r (now (out .exit)) ≡ more (before at (now (out .entry))) (a ∷ b ∷ c ∷ d ∷ [])) ⌝ }
+{
+    let p = put(out, at, a);
+    let q = put(out, p, b);
+    let r = put(out, q, c);
+    put(out, r, d)
+}
+
 // The word `refused` and a space.
 fn put_refused(out: &mut [u8], at: usize) -> usize
     requires { ⌜ at + 8 ≤ length (now out) ⌝ }
     ensures { λ r. ⌜ (r ≡ at + 8) × (before r (now (out .exit)) ≡ more (before at (now (out .entry))) refusedWord) ⌝ }
 {
-    let a = put(out, at, b'r');
-    let b = put(out, a, b'e');
-    let c = put(out, b, b'f');
-    let d = put(out, c, b'u');
-    let e = put(out, d, b's');
-    let f = put(out, e, b'e');
-    let g = put(out, f, b'd');
-    put(out, g, b' ')
+    let p = put_four(out, at, b'r', b'e', b'f', b'u');
+    put_four(out, p, b's', b'e', b'd', b' ')
 }
 
 fn put_refused_line(out: &mut [u8], at: usize, n: u32) -> usize

@@ -13,7 +13,7 @@ use Rattle.prints.proofs.low_digit.Reads as low-digit-reads
 use Rattle.prints.proofs.put.Reads as put-reads
 
 low-digit-requires : tie.Need-low-digit-requires
-low-digit-requires c κs = search needs
+low-digit-requires c κs = tt
 
 put-requires : tie.Need-put-requires
 put-requires c κs = search needs

@@ -7,7 +7,7 @@ use Rattle.prints.proofs.refused_line.Reads as reads
 use Rattle.prints.proofs.refused_line.Lts as lts
 
 has-room-requires : tie.Need-has-room-requires
-has-room-requires c κs = search needs
+has-room-requires c κs = tt
 
 put-refused-line-requires : tie.Need-put-refused-line-requires
 put-refused-line-requires c κs = room-left 19 _ _ _ (omega arith) (c .before .before .has-room .ensures) (c .before .if1 .taken)

@@ -7,7 +7,7 @@ use Rattle.prints.proofs.row_line.Reads as reads
 use Rattle.prints.proofs.row_line.Lts as lts
 
 has-room-requires : tie.Need-has-room-requires
-has-room-requires c κs = search needs
+has-room-requires c κs = tt
 
 put-row-line-requires : tie.Need-put-row-line-requires
 put-row-line-requires c κs = room-left 20 _ _ _ (omega arith) (c .before .before .has-room .ensures) (c .before .if1 .taken)

@@ -7,7 +7,7 @@ use Rattle.prints.proofs.state_line.Reads as reads
 use Rattle.prints.proofs.state_line.Lts as lts
 
 has-room-requires : tie.Need-has-room-requires
-has-room-requires c κs = search needs
+has-room-requires c κs = tt
 
 put-state-line-requires : tie.Need-put-state-line-requires
 put-state-line-requires c κs = room-left 34 _ _ _ (omega arith) (c .before .before .has-room .ensures) (c .before .if1 .taken)
