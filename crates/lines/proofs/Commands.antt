@@ -7,6 +7,7 @@ use native.Mathlib.Omega.{arith}
 use borrow.Author.Tests.{lt-ltb, le-ltb, eq-eqb, ne-eqb}
 use lib.Dec.{eqb, ltb}
 use lib.ListN.{length, take, drop, drop-of-length-le}
+use Rattle.types.specs.Kinds.{pick}
 use Rattle.lines.specs.Numbers.{numberOf}
 use Rattle.lines.specs.declared.numbers.Number.{Number}
 use Rattle.lines.specs.declared.numbers.Number.the-variants.{Is, Not}
@@ -60,25 +61,33 @@ pub word-5 : (s : List ℕ) (b1 b2 b3 b4 b5 : Bool) (n : Number) (r : Command) �
 unfolding wordIn
 word-5 s b1 b2 b3 b4 b5 n r e1 f1 e2 f2 e3 f3 e4 f4 e5 f5 m g = rw (sym e1 ∙ f1, sym e2 ∙ f2, sym e3 ∙ f3, sym e4 ∙ f4, sym e5 ∙ f5) (g ∙ ap excIn m)
 
-pub word-6 : (s : List ℕ) (b1 b2 b3 b4 b5 b6 : Bool) (n : Number) (r : Command) → b1 ≡ startsWith (116 ∷ 114 ∷ 97 ∷ 112 ∷ 32 ∷ []) s → b1 ≡ false → b2 ≡ startsWith (105 ∷ 114 ∷ 113 ∷ 32 ∷ []) s → b2 ≡ false → b3 ≡ startsWith (119 ∷ 97 ∷ 108 ∷ 107 ∷ 32 ∷ []) s → b3 ≡ false → b4 ≡ startsWith (108 ∷ 111 ∷ 110 ∷ 103 ∷ 32 ∷ []) s → b4 ≡ false → b5 ≡ startsWith (101 ∷ 120 ∷ 99 ∷ 32 ∷ []) s → b5 ≡ false → b6 ≡ startsWith (107 ∷ 105 ∷ 110 ∷ 100 ∷ 32 ∷ []) s → b6 ≡ true → n ≡ numberOf 10 4 (drop 5 s) → r ≡ kindIn n → r ≡ wordIn s
-unfolding wordIn
-word-6 s b1 b2 b3 b4 b5 b6 n r e1 f1 e2 f2 e3 f3 e4 f4 e5 f5 e6 f6 m g = rw (sym e1 ∙ f1, sym e2 ∙ f2, sym e3 ∙ f3, sym e4 ∙ f4, sym e5 ∙ f5, sym e6 ∙ f6) (g ∙ ap kindIn m)
+-- what `field_in` ensures: the words after the first five
+abbrev pub fieldIn : List ℕ → Command
+fieldIn l =
+    pick (startsWith (107 ∷ 105 ∷ 110 ∷ 100 ∷ 32 ∷ []) l) (kindIn (numberOf 10 4 (drop 5 l)))
+    (pick (startsWith (97 ∷ 55 ∷ 32 ∷ []) l) (a7In (numberOf 16 8 (drop 3 l)))
+    (pick (startsWith (112 ∷ 99 ∷ 32 ∷ []) l) (pcIn (numberOf 16 8 (drop 3 l)))
+    (pick (startsWith (112 ∷ 112 ∷ 99 ∷ 32 ∷ []) l) (ppcIn (numberOf 16 8 (drop 4 l)))
+    (retIn l))))
 
-pub word-7 : (s : List ℕ) (b1 b2 b3 b4 b5 b6 b7 : Bool) (n : Number) (r : Command) → b1 ≡ startsWith (116 ∷ 114 ∷ 97 ∷ 112 ∷ 32 ∷ []) s → b1 ≡ false → b2 ≡ startsWith (105 ∷ 114 ∷ 113 ∷ 32 ∷ []) s → b2 ≡ false → b3 ≡ startsWith (119 ∷ 97 ∷ 108 ∷ 107 ∷ 32 ∷ []) s → b3 ≡ false → b4 ≡ startsWith (108 ∷ 111 ∷ 110 ∷ 103 ∷ 32 ∷ []) s → b4 ≡ false → b5 ≡ startsWith (101 ∷ 120 ∷ 99 ∷ 32 ∷ []) s → b5 ≡ false → b6 ≡ startsWith (107 ∷ 105 ∷ 110 ∷ 100 ∷ 32 ∷ []) s → b6 ≡ false → b7 ≡ startsWith (97 ∷ 55 ∷ 32 ∷ []) s → b7 ≡ true → n ≡ numberOf 16 8 (drop 3 s) → r ≡ a7In n → r ≡ wordIn s
+pub word-6 : (s : List ℕ) (b1 b2 b3 b4 b5 : Bool) (r : Command) → b1 ≡ startsWith (116 ∷ 114 ∷ 97 ∷ 112 ∷ 32 ∷ []) s → b1 ≡ false → b2 ≡ startsWith (105 ∷ 114 ∷ 113 ∷ 32 ∷ []) s → b2 ≡ false → b3 ≡ startsWith (119 ∷ 97 ∷ 108 ∷ 107 ∷ 32 ∷ []) s → b3 ≡ false → b4 ≡ startsWith (108 ∷ 111 ∷ 110 ∷ 103 ∷ 32 ∷ []) s → b4 ≡ false → b5 ≡ startsWith (101 ∷ 120 ∷ 99 ∷ 32 ∷ []) s → b5 ≡ false → r ≡ fieldIn s → r ≡ wordIn s
 unfolding wordIn
-word-7 s b1 b2 b3 b4 b5 b6 b7 n r e1 f1 e2 f2 e3 f3 e4 f4 e5 f5 e6 f6 e7 f7 m g = rw (sym e1 ∙ f1, sym e2 ∙ f2, sym e3 ∙ f3, sym e4 ∙ f4, sym e5 ∙ f5, sym e6 ∙ f6, sym e7 ∙ f7) (g ∙ ap a7In m)
+word-6 s b1 b2 b3 b4 b5 r e1 f1 e2 f2 e3 f3 e4 f4 e5 f5 g = rw (sym e1 ∙ f1, sym e2 ∙ f2, sym e3 ∙ f3, sym e4 ∙ f4, sym e5 ∙ f5) g
 
-pub word-8 : (s : List ℕ) (b1 b2 b3 b4 b5 b6 b7 b8 : Bool) (n : Number) (r : Command) → b1 ≡ startsWith (116 ∷ 114 ∷ 97 ∷ 112 ∷ 32 ∷ []) s → b1 ≡ false → b2 ≡ startsWith (105 ∷ 114 ∷ 113 ∷ 32 ∷ []) s → b2 ≡ false → b3 ≡ startsWith (119 ∷ 97 ∷ 108 ∷ 107 ∷ 32 ∷ []) s → b3 ≡ false → b4 ≡ startsWith (108 ∷ 111 ∷ 110 ∷ 103 ∷ 32 ∷ []) s → b4 ≡ false → b5 ≡ startsWith (101 ∷ 120 ∷ 99 ∷ 32 ∷ []) s → b5 ≡ false → b6 ≡ startsWith (107 ∷ 105 ∷ 110 ∷ 100 ∷ 32 ∷ []) s → b6 ≡ false → b7 ≡ startsWith (97 ∷ 55 ∷ 32 ∷ []) s → b7 ≡ false → b8 ≡ startsWith (112 ∷ 99 ∷ 32 ∷ []) s → b8 ≡ true → n ≡ numberOf 16 8 (drop 3 s) → r ≡ pcIn n → r ≡ wordIn s
-unfolding wordIn
-word-8 s b1 b2 b3 b4 b5 b6 b7 b8 n r e1 f1 e2 f2 e3 f3 e4 f4 e5 f5 e6 f6 e7 f7 e8 f8 m g = rw (sym e1 ∙ f1, sym e2 ∙ f2, sym e3 ∙ f3, sym e4 ∙ f4, sym e5 ∙ f5, sym e6 ∙ f6, sym e7 ∙ f7, sym e8 ∙ f8) (g ∙ ap pcIn m)
+pub field-1 : (s : List ℕ) (b1 : Bool) (n : Number) (r : Command) → b1 ≡ startsWith (107 ∷ 105 ∷ 110 ∷ 100 ∷ 32 ∷ []) s → b1 ≡ true → n ≡ numberOf 10 4 (drop 5 s) → r ≡ kindIn n → r ≡ fieldIn s
+field-1 s b1 n r e1 f1 m g = rw (sym e1 ∙ f1) (g ∙ ap kindIn m)
 
-pub word-9 : (s : List ℕ) (b1 b2 b3 b4 b5 b6 b7 b8 b9 : Bool) (n : Number) (r : Command) → b1 ≡ startsWith (116 ∷ 114 ∷ 97 ∷ 112 ∷ 32 ∷ []) s → b1 ≡ false → b2 ≡ startsWith (105 ∷ 114 ∷ 113 ∷ 32 ∷ []) s → b2 ≡ false → b3 ≡ startsWith (119 ∷ 97 ∷ 108 ∷ 107 ∷ 32 ∷ []) s → b3 ≡ false → b4 ≡ startsWith (108 ∷ 111 ∷ 110 ∷ 103 ∷ 32 ∷ []) s → b4 ≡ false → b5 ≡ startsWith (101 ∷ 120 ∷ 99 ∷ 32 ∷ []) s → b5 ≡ false → b6 ≡ startsWith (107 ∷ 105 ∷ 110 ∷ 100 ∷ 32 ∷ []) s → b6 ≡ false → b7 ≡ startsWith (97 ∷ 55 ∷ 32 ∷ []) s → b7 ≡ false → b8 ≡ startsWith (112 ∷ 99 ∷ 32 ∷ []) s → b8 ≡ false → b9 ≡ startsWith (112 ∷ 112 ∷ 99 ∷ 32 ∷ []) s → b9 ≡ true → n ≡ numberOf 16 8 (drop 4 s) → r ≡ ppcIn n → r ≡ wordIn s
-unfolding wordIn
-word-9 s b1 b2 b3 b4 b5 b6 b7 b8 b9 n r e1 f1 e2 f2 e3 f3 e4 f4 e5 f5 e6 f6 e7 f7 e8 f8 e9 f9 m g = rw (sym e1 ∙ f1, sym e2 ∙ f2, sym e3 ∙ f3, sym e4 ∙ f4, sym e5 ∙ f5, sym e6 ∙ f6, sym e7 ∙ f7, sym e8 ∙ f8, sym e9 ∙ f9) (g ∙ ap ppcIn m)
+pub field-2 : (s : List ℕ) (b1 b2 : Bool) (n : Number) (r : Command) → b1 ≡ startsWith (107 ∷ 105 ∷ 110 ∷ 100 ∷ 32 ∷ []) s → b1 ≡ false → b2 ≡ startsWith (97 ∷ 55 ∷ 32 ∷ []) s → b2 ≡ true → n ≡ numberOf 16 8 (drop 3 s) → r ≡ a7In n → r ≡ fieldIn s
+field-2 s b1 b2 n r e1 f1 e2 f2 m g = rw (sym e1 ∙ f1, sym e2 ∙ f2) (g ∙ ap a7In m)
 
-pub word-10 : (s : List ℕ) (b1 b2 b3 b4 b5 b6 b7 b8 b9 : Bool) (r : Command) → b1 ≡ startsWith (116 ∷ 114 ∷ 97 ∷ 112 ∷ 32 ∷ []) s → b1 ≡ false → b2 ≡ startsWith (105 ∷ 114 ∷ 113 ∷ 32 ∷ []) s → b2 ≡ false → b3 ≡ startsWith (119 ∷ 97 ∷ 108 ∷ 107 ∷ 32 ∷ []) s → b3 ≡ false → b4 ≡ startsWith (108 ∷ 111 ∷ 110 ∷ 103 ∷ 32 ∷ []) s → b4 ≡ false → b5 ≡ startsWith (101 ∷ 120 ∷ 99 ∷ 32 ∷ []) s → b5 ≡ false → b6 ≡ startsWith (107 ∷ 105 ∷ 110 ∷ 100 ∷ 32 ∷ []) s → b6 ≡ false → b7 ≡ startsWith (97 ∷ 55 ∷ 32 ∷ []) s → b7 ≡ false → b8 ≡ startsWith (112 ∷ 99 ∷ 32 ∷ []) s → b8 ≡ false → b9 ≡ startsWith (112 ∷ 112 ∷ 99 ∷ 32 ∷ []) s → b9 ≡ false → r ≡ retIn s → r ≡ wordIn s
-unfolding wordIn
-word-10 s b1 b2 b3 b4 b5 b6 b7 b8 b9 r e1 f1 e2 f2 e3 f3 e4 f4 e5 f5 e6 f6 e7 f7 e8 f8 e9 f9 g = rw (sym e1 ∙ f1, sym e2 ∙ f2, sym e3 ∙ f3, sym e4 ∙ f4, sym e5 ∙ f5, sym e6 ∙ f6, sym e7 ∙ f7, sym e8 ∙ f8, sym e9 ∙ f9) g
+pub field-3 : (s : List ℕ) (b1 b2 b3 : Bool) (n : Number) (r : Command) → b1 ≡ startsWith (107 ∷ 105 ∷ 110 ∷ 100 ∷ 32 ∷ []) s → b1 ≡ false → b2 ≡ startsWith (97 ∷ 55 ∷ 32 ∷ []) s → b2 ≡ false → b3 ≡ startsWith (112 ∷ 99 ∷ 32 ∷ []) s → b3 ≡ true → n ≡ numberOf 16 8 (drop 3 s) → r ≡ pcIn n → r ≡ fieldIn s
+field-3 s b1 b2 b3 n r e1 f1 e2 f2 e3 f3 m g = rw (sym e1 ∙ f1, sym e2 ∙ f2, sym e3 ∙ f3) (g ∙ ap pcIn m)
+
+pub field-4 : (s : List ℕ) (b1 b2 b3 b4 : Bool) (n : Number) (r : Command) → b1 ≡ startsWith (107 ∷ 105 ∷ 110 ∷ 100 ∷ 32 ∷ []) s → b1 ≡ false → b2 ≡ startsWith (97 ∷ 55 ∷ 32 ∷ []) s → b2 ≡ false → b3 ≡ startsWith (112 ∷ 99 ∷ 32 ∷ []) s → b3 ≡ false → b4 ≡ startsWith (112 ∷ 112 ∷ 99 ∷ 32 ∷ []) s → b4 ≡ true → n ≡ numberOf 16 8 (drop 4 s) → r ≡ ppcIn n → r ≡ fieldIn s
+field-4 s b1 b2 b3 b4 n r e1 f1 e2 f2 e3 f3 e4 f4 m g = rw (sym e1 ∙ f1, sym e2 ∙ f2, sym e3 ∙ f3, sym e4 ∙ f4) (g ∙ ap ppcIn m)
+
+pub field-5 : (s : List ℕ) (b1 b2 b3 b4 : Bool) (r : Command) → b1 ≡ startsWith (107 ∷ 105 ∷ 110 ∷ 100 ∷ 32 ∷ []) s → b1 ≡ false → b2 ≡ startsWith (97 ∷ 55 ∷ 32 ∷ []) s → b2 ≡ false → b3 ≡ startsWith (112 ∷ 99 ∷ 32 ∷ []) s → b3 ≡ false → b4 ≡ startsWith (112 ∷ 112 ∷ 99 ∷ 32 ∷ []) s → b4 ≡ false → r ≡ retIn s → r ≡ fieldIn s
+field-5 s b1 b2 b3 b4 r e1 f1 e2 f2 e3 f3 e4 f4 g = rw (sym e1 ∙ f1, sym e2 ∙ f2, sym e3 ∙ f3, sym e4 ∙ f4) g
 
 -- the two fields of `long`
 pub long-none : (at : ℕ) (s : List ℕ) → length s < at → Wrong ≡ longFields (drop at s)

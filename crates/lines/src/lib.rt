@@ -9,7 +9,8 @@ ghost use Prim.Native.Nat.{_≤_};
 ghost use lib.Dec.{eqb};
 ghost use lib.ListN.{length, drop};
 ghost use Rattle.lines.specs.Numbers.{numberOf};
-ghost use Rattle.lines.specs.Commands.{startsWith, spaceIn, kindIn, pcIn, ppcIn, a7In, longIn, excIn, trapIn, irqIn, walkIn, retIn, longFields, wordIn, commandOf};
+ghost use Rattle.lines.specs.Commands.{startsWith, spaceIn, kindIn, pcIn, ppcIn, a7In, longIn, excIn, trapIn, irqIn, walkIn, retIn, longFields, kindName, a7Name, pcName, ppcName, decimal, hexadecimal, wordIn, commandOf};
+ghost use Rattle.types.specs.Kinds.{pick};
 
 // What a line asks for; `Wrong` is a line not understood or over 80 bytes.
 pub enum Command {
@@ -209,6 +210,25 @@ fn ret_in(s: &[u8]) -> Command
     Command::Wrong
 }
 
+// The words that set a field of the record, and `ret`.
+fn field_in(s: &[u8]) -> Command
+    ensures { λ r. ⌜ r ≡ pick (startsWith kindName (now (s .entry))) (kindIn (decimal (drop 5 (now (s .entry))))) (pick (startsWith a7Name (now (s .entry))) (a7In (hexadecimal (drop 3 (now (s .entry))))) (pick (startsWith pcName (now (s .entry))) (pcIn (hexadecimal (drop 3 (now (s .entry))))) (pick (startsWith ppcName (now (s .entry))) (ppcIn (hexadecimal (drop 4 (now (s .entry))))) (retIn (now (s .entry)))))) ⌝ }
+{
+    if starts(s, b"kind ") {
+        return kind_in(decimal_from(s, 5));
+    }
+    if starts(s, b"a7 ") {
+        return a7_in(hex_from(s, 3));
+    }
+    if starts(s, b"pc ") {
+        return pc_in(hex_from(s, 3));
+    }
+    if starts(s, b"ppc ") {
+        return ppc_in(hex_from(s, 4));
+    }
+    ret_in(s)
+}
+
 // A line of at most 80 bytes.
 fn word_in(s: &[u8]) -> Command
     requires { ⌜ length (now s) ≤ 80 ⌝ }
@@ -229,19 +249,7 @@ fn word_in(s: &[u8]) -> Command
     if starts(s, b"exc ") {
         return exc_in(hex_from(s, 4));
     }
-    if starts(s, b"kind ") {
-        return kind_in(decimal_from(s, 5));
-    }
-    if starts(s, b"a7 ") {
-        return a7_in(hex_from(s, 3));
-    }
-    if starts(s, b"pc ") {
-        return pc_in(hex_from(s, 3));
-    }
-    if starts(s, b"ppc ") {
-        return ppc_in(hex_from(s, 4));
-    }
-    ret_in(s)
+    field_in(s)
 }
 
 // A line, without its line feed, to a command.

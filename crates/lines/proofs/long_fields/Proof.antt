@@ -15,7 +15,7 @@ use Rattle.lines.proofs.numbers.read.Reads as read-reads
 use Rattle.lines.proofs.space.Reads as space-reads
 
 space-requires : tie.Need-space-requires
-space-requires c κs = search needs
+space-requires c κs = tt
 
 sub-read : tie.Need-sub-read
 sub-read c = search needs
@@ -33,10 +33,10 @@ add-hex-from : tie.Need-add-hex-from
 add-hex-from c = search needs
 
 hex-from-requires : tie.Need-hex-from-requires
-hex-from-requires c κs = search needs
+hex-from-requires c κs = tt
 
 long-in-requires : tie.Need-long-in-requires
-long-in-requires c κs = search needs
+long-in-requires c κs = tt
 
 returns : tie.Need-returns
 returns c = long-way (now (c .before .before .before .before .before .before .args .s)) (c .before .before .before .before .space .result) _ _ _ (c .before .before .before .before .space .ensures .0) (c .before .before .read .ensures ∙ ap (numberOf 16 8) (front (now (c .before .before .before .before .before .before .args .s)) (c .before .before .before .before .space .result))) (c .before .hex-from .ensures) (c .long-in .ensures)

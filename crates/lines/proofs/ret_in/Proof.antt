@@ -18,7 +18,7 @@ slice-aggregate-starts : tie.Need-slice-aggregate-starts
 slice-aggregate-starts c = search needs
 
 starts-requires : tie.Need-starts-requires
-starts-requires c κs = search needs
+starts-requires c κs = tt
 
 returns : tie.Need-returns
 returns c = ret-way _ _ (c .before .before .starts .ensures) (c .before .if1 .taken) (c .if2 .taken)

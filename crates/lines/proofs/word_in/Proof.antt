@@ -1,4 +1,4 @@
-use Rattle.lines.proofs.Commands.{word-1, word-2, word-3, word-4, word-5, word-6, word-7, word-8, word-9, word-10}
+use Rattle.lines.proofs.Commands.{word-1, word-2, word-3, word-4, word-5, word-6}
 use native.Mathlib.Omega.{arith}
 use mathlib.Core.Path.{_≡_, refl, sym, _∙_}
 use Prim.Native.Nat.{ℕ, _+_, _-_, _*_, _^_, _<_, _≤_}
@@ -12,16 +12,11 @@ use Rattle.lines.proofs.word_in.Statement.{statement}
 use Rattle.lines.proofs.word_in.Tie as tie
 use Rattle.lines.proofs.word_in.Reads as reads
 use Rattle.lines.proofs.word_in.Lts as lts
-use Rattle.lines.proofs.a7_in.Reads as a7-in-reads
 use Rattle.lines.proofs.decimal_from.Reads as decimal-from-reads
 use Rattle.lines.proofs.exc_in.Reads as exc-in-reads
 use Rattle.lines.proofs.hex_from.Reads as hex-from-reads
 use Rattle.lines.proofs.irq_in.Reads as irq-in-reads
-use Rattle.lines.proofs.kind_in.Reads as kind-in-reads
 use Rattle.lines.proofs.long_from.Reads as long-from-reads
-use Rattle.lines.proofs.pc_in.Reads as pc-in-reads
-use Rattle.lines.proofs.ppc_in.Reads as ppc-in-reads
-use Rattle.lines.proofs.ret_in.Reads as ret-in-reads
 use Rattle.lines.proofs.starts.Reads as starts-reads
 use Rattle.lines.proofs.trap_in.Reads as trap-in-reads
 use Rattle.lines.proofs.walk_in.Reads as walk-in-reads
@@ -30,13 +25,13 @@ slice-aggregate-starts : tie.Need-slice-aggregate-starts
 slice-aggregate-starts c = search needs
 
 starts-requires : tie.Need-starts-requires
-starts-requires c κs = search needs
+starts-requires c κs = tt
 
 hex-from-requires : tie.Need-hex-from-requires
-hex-from-requires c κs = search needs
+hex-from-requires c κs = tt
 
 trap-in-requires : tie.Need-trap-in-requires
-trap-in-requires c κs = search needs
+trap-in-requires c κs = tt
 
 returns : tie.Need-returns
 returns c = word-1 _ _ _ _ (c .before .before .before .starts .ensures) (c .before .before .if1 .taken) (c .before .hex-from .ensures) (c .trap-in .ensures)
@@ -45,13 +40,13 @@ slice-aggregate-starts-2 : tie.Need-slice-aggregate-starts-2
 slice-aggregate-starts-2 c = search needs
 
 starts-requires-2 : tie.Need-starts-requires-2
-starts-requires-2 c κs = search needs
+starts-requires-2 c κs = tt
 
 decimal-from-requires : tie.Need-decimal-from-requires
-decimal-from-requires c κs = search needs
+decimal-from-requires c κs = tt
 
 irq-in-requires : tie.Need-irq-in-requires
-irq-in-requires c κs = search needs
+irq-in-requires c κs = tt
 
 returns-2 : tie.Need-returns-2
 returns-2 c = word-2 _ _ _ _ _ (c .before .before .before .before .before .before .starts .ensures) (c .before .before .before .before .before .if1 .left) (c .before .before .before .starts2 .ensures) (c .before .before .if2 .taken) (c .before .decimal-from .ensures) (c .irq-in .ensures)
@@ -60,13 +55,13 @@ slice-aggregate-starts-3 : tie.Need-slice-aggregate-starts-3
 slice-aggregate-starts-3 c = search needs
 
 starts-requires-3 : tie.Need-starts-requires-3
-starts-requires-3 c κs = search needs
+starts-requires-3 c κs = tt
 
 decimal-from-requires-2 : tie.Need-decimal-from-requires-2
-decimal-from-requires-2 c κs = search needs
+decimal-from-requires-2 c κs = tt
 
 walk-in-requires : tie.Need-walk-in-requires
-walk-in-requires c κs = search needs
+walk-in-requires c κs = tt
 
 returns-3 : tie.Need-returns-3
 returns-3 c = word-3 _ _ _ _ _ _ (c .before .before .before .before .before .before .before .before .before .starts .ensures) (c .before .before .before .before .before .before .before .before .if1 .left) (c .before .before .before .before .before .before .starts2 .ensures) (c .before .before .before .before .before .if2 .left) (c .before .before .before .starts3 .ensures) (c .before .before .if3 .taken) (c .before .decimal-from2 .ensures) (c .walk-in .ensures)
@@ -75,7 +70,7 @@ slice-aggregate-starts-4 : tie.Need-slice-aggregate-starts-4
 slice-aggregate-starts-4 c = search needs
 
 starts-requires-4 : tie.Need-starts-requires-4
-starts-requires-4 c κs = search needs
+starts-requires-4 c κs = tt
 
 long-from-requires : tie.Need-long-from-requires
 long-from-requires c κs = search needs
@@ -87,82 +82,22 @@ slice-aggregate-starts-5 : tie.Need-slice-aggregate-starts-5
 slice-aggregate-starts-5 c = search needs
 
 starts-requires-5 : tie.Need-starts-requires-5
-starts-requires-5 c κs = search needs
+starts-requires-5 c κs = tt
 
 hex-from-requires-2 : tie.Need-hex-from-requires-2
-hex-from-requires-2 c κs = search needs
+hex-from-requires-2 c κs = tt
 
 exc-in-requires : tie.Need-exc-in-requires
-exc-in-requires c κs = search needs
+exc-in-requires c κs = tt
 
 returns-5 : tie.Need-returns-5
 returns-5 c = word-5 _ _ _ _ _ _ _ _ (c .before .before .before .before .before .before .before .before .before .before .before .before .before .before .before .starts .ensures) (c .before .before .before .before .before .before .before .before .before .before .before .before .before .before .if1 .left) (c .before .before .before .before .before .before .before .before .before .before .before .before .starts2 .ensures) (c .before .before .before .before .before .before .before .before .before .before .before .if2 .left) (c .before .before .before .before .before .before .before .before .before .starts3 .ensures) (c .before .before .before .before .before .before .before .before .if3 .left) (c .before .before .before .before .before .before .starts4 .ensures) (c .before .before .before .before .before .if4 .left) (c .before .before .before .starts5 .ensures) (c .before .before .if5 .taken) (c .before .hex-from2 .ensures) (c .exc-in .ensures)
 
-slice-aggregate-starts-6 : tie.Need-slice-aggregate-starts-6
-slice-aggregate-starts-6 c = search needs
-
-starts-requires-6 : tie.Need-starts-requires-6
-starts-requires-6 c κs = search needs
-
-decimal-from-requires-3 : tie.Need-decimal-from-requires-3
-decimal-from-requires-3 c κs = search needs
-
-kind-in-requires : tie.Need-kind-in-requires
-kind-in-requires c κs = search needs
+field-in-requires : tie.Need-field-in-requires
+field-in-requires c κs = tt
 
 returns-6 : tie.Need-returns-6
-returns-6 c = word-6 _ _ _ _ _ _ _ _ _ (c .before .before .before .before .before .before .before .before .before .before .before .before .before .before .before .before .before .before .starts .ensures) (c .before .before .before .before .before .before .before .before .before .before .before .before .before .before .before .before .before .if1 .left) (c .before .before .before .before .before .before .before .before .before .before .before .before .before .before .before .starts2 .ensures) (c .before .before .before .before .before .before .before .before .before .before .before .before .before .before .if2 .left) (c .before .before .before .before .before .before .before .before .before .before .before .before .starts3 .ensures) (c .before .before .before .before .before .before .before .before .before .before .before .if3 .left) (c .before .before .before .before .before .before .before .before .before .starts4 .ensures) (c .before .before .before .before .before .before .before .before .if4 .left) (c .before .before .before .before .before .before .starts5 .ensures) (c .before .before .before .before .before .if5 .left) (c .before .before .before .starts6 .ensures) (c .before .before .if6 .taken) (c .before .decimal-from3 .ensures) (c .kind-in .ensures)
-
-slice-aggregate-starts-7 : tie.Need-slice-aggregate-starts-7
-slice-aggregate-starts-7 c = search needs
-
-starts-requires-7 : tie.Need-starts-requires-7
-starts-requires-7 c κs = search needs
-
-hex-from-requires-3 : tie.Need-hex-from-requires-3
-hex-from-requires-3 c κs = search needs
-
-a7-in-requires : tie.Need-a7-in-requires
-a7-in-requires c κs = search needs
-
-returns-7 : tie.Need-returns-7
-returns-7 c = word-7 _ _ _ _ _ _ _ _ _ _ (c .before .before .before .before .before .before .before .before .before .before .before .before .before .before .before .before .before .before .before .before .before .starts .ensures) (c .before .before .before .before .before .before .before .before .before .before .before .before .before .before .before .before .before .before .before .before .if1 .left) (c .before .before .before .before .before .before .before .before .before .before .before .before .before .before .before .before .before .before .starts2 .ensures) (c .before .before .before .before .before .before .before .before .before .before .before .before .before .before .before .before .before .if2 .left) (c .before .before .before .before .before .before .before .before .before .before .before .before .before .before .before .starts3 .ensures) (c .before .before .before .before .before .before .before .before .before .before .before .before .before .before .if3 .left) (c .before .before .before .before .before .before .before .before .before .before .before .before .starts4 .ensures) (c .before .before .before .before .before .before .before .before .before .before .before .if4 .left) (c .before .before .before .before .before .before .before .before .before .starts5 .ensures) (c .before .before .before .before .before .before .before .before .if5 .left) (c .before .before .before .before .before .before .starts6 .ensures) (c .before .before .before .before .before .if6 .left) (c .before .before .before .starts7 .ensures) (c .before .before .if7 .taken) (c .before .hex-from3 .ensures) (c .a7-in .ensures)
-
-slice-aggregate-starts-8 : tie.Need-slice-aggregate-starts-8
-slice-aggregate-starts-8 c = search needs
-
-starts-requires-8 : tie.Need-starts-requires-8
-starts-requires-8 c κs = search needs
-
-hex-from-requires-4 : tie.Need-hex-from-requires-4
-hex-from-requires-4 c κs = search needs
-
-pc-in-requires : tie.Need-pc-in-requires
-pc-in-requires c κs = search needs
-
-returns-8 : tie.Need-returns-8
-returns-8 c = word-8 _ _ _ _ _ _ _ _ _ _ _ (c .before .before .before .before .before .before .before .before .before .before .before .before .before .before .before .before .before .before .before .before .before .before .before .before .starts .ensures) (c .before .before .before .before .before .before .before .before .before .before .before .before .before .before .before .before .before .before .before .before .before .before .before .if1 .left) (c .before .before .before .before .before .before .before .before .before .before .before .before .before .before .before .before .before .before .before .before .before .starts2 .ensures) (c .before .before .before .before .before .before .before .before .before .before .before .before .before .before .before .before .before .before .before .before .if2 .left) (c .before .before .before .before .before .before .before .before .before .before .before .before .before .before .before .before .before .before .starts3 .ensures) (c .before .before .before .before .before .before .before .before .before .before .before .before .before .before .before .before .before .if3 .left) (c .before .before .before .before .before .before .before .before .before .before .before .before .before .before .before .starts4 .ensures) (c .before .before .before .before .before .before .before .before .before .before .before .before .before .before .if4 .left) (c .before .before .before .before .before .before .before .before .before .before .before .before .starts5 .ensures) (c .before .before .before .before .before .before .before .before .before .before .before .if5 .left) (c .before .before .before .before .before .before .before .before .before .starts6 .ensures) (c .before .before .before .before .before .before .before .before .if6 .left) (c .before .before .before .before .before .before .starts7 .ensures) (c .before .before .before .before .before .if7 .left) (c .before .before .before .starts8 .ensures) (c .before .before .if8 .taken) (c .before .hex-from4 .ensures) (c .pc-in .ensures)
-
-slice-aggregate-starts-9 : tie.Need-slice-aggregate-starts-9
-slice-aggregate-starts-9 c = search needs
-
-starts-requires-9 : tie.Need-starts-requires-9
-starts-requires-9 c κs = search needs
-
-hex-from-requires-5 : tie.Need-hex-from-requires-5
-hex-from-requires-5 c κs = search needs
-
-ppc-in-requires : tie.Need-ppc-in-requires
-ppc-in-requires c κs = search needs
-
-returns-9 : tie.Need-returns-9
-returns-9 c = word-9 _ _ _ _ _ _ _ _ _ _ _ _ (c .before .before .before .before .before .before .before .before .before .before .before .before .before .before .before .before .before .before .before .before .before .before .before .before .before .before .before .starts .ensures) (c .before .before .before .before .before .before .before .before .before .before .before .before .before .before .before .before .before .before .before .before .before .before .before .before .before .before .if1 .left) (c .before .before .before .before .before .before .before .before .before .before .before .before .before .before .before .before .before .before .before .before .before .before .before .before .starts2 .ensures) (c .before .before .before .before .before .before .before .before .before .before .before .before .before .before .before .before .before .before .before .before .before .before .before .if2 .left) (c .before .before .before .before .before .before .before .before .before .before .before .before .before .before .before .before .before .before .before .before .before .starts3 .ensures) (c .before .before .before .before .before .before .before .before .before .before .before .before .before .before .before .before .before .before .before .before .if3 .left) (c .before .before .before .before .before .before .before .before .before .before .before .before .before .before .before .before .before .before .starts4 .ensures) (c .before .before .before .before .before .before .before .before .before .before .before .before .before .before .before .before .before .if4 .left) (c .before .before .before .before .before .before .before .before .before .before .before .before .before .before .before .starts5 .ensures) (c .before .before .before .before .before .before .before .before .before .before .before .before .before .before .if5 .left) (c .before .before .before .before .before .before .before .before .before .before .before .before .starts6 .ensures) (c .before .before .before .before .before .before .before .before .before .before .before .if6 .left) (c .before .before .before .before .before .before .before .before .before .starts7 .ensures) (c .before .before .before .before .before .before .before .before .if7 .left) (c .before .before .before .before .before .before .starts8 .ensures) (c .before .before .before .before .before .if8 .left) (c .before .before .before .starts9 .ensures) (c .before .before .if9 .taken) (c .before .hex-from5 .ensures) (c .ppc-in .ensures)
-
-ret-in-requires : tie.Need-ret-in-requires
-ret-in-requires c κs = search needs
-
-returns-10 : tie.Need-returns-10
-returns-10 c = word-10 _ _ _ _ _ _ _ _ _ _ _ (c .before .before .before .before .before .before .before .before .before .before .before .before .before .before .before .before .before .before .before .before .before .before .before .before .before .before .starts .ensures) (c .before .before .before .before .before .before .before .before .before .before .before .before .before .before .before .before .before .before .before .before .before .before .before .before .before .if1 .left) (c .before .before .before .before .before .before .before .before .before .before .before .before .before .before .before .before .before .before .before .before .before .before .before .starts2 .ensures) (c .before .before .before .before .before .before .before .before .before .before .before .before .before .before .before .before .before .before .before .before .before .before .if2 .left) (c .before .before .before .before .before .before .before .before .before .before .before .before .before .before .before .before .before .before .before .before .starts3 .ensures) (c .before .before .before .before .before .before .before .before .before .before .before .before .before .before .before .before .before .before .before .if3 .left) (c .before .before .before .before .before .before .before .before .before .before .before .before .before .before .before .before .before .starts4 .ensures) (c .before .before .before .before .before .before .before .before .before .before .before .before .before .before .before .before .if4 .left) (c .before .before .before .before .before .before .before .before .before .before .before .before .before .before .starts5 .ensures) (c .before .before .before .before .before .before .before .before .before .before .before .before .before .if5 .left) (c .before .before .before .before .before .before .before .before .before .before .before .starts6 .ensures) (c .before .before .before .before .before .before .before .before .before .before .if6 .left) (c .before .before .before .before .before .before .before .before .starts7 .ensures) (c .before .before .before .before .before .before .before .if7 .left) (c .before .before .before .before .before .starts8 .ensures) (c .before .before .before .before .if8 .left) (c .before .before .starts9 .ensures) (c .before .if9 .left) (c .ret-in .ensures)
+returns-6 c = word-6 _ _ _ _ _ _ _ (c .before .before .before .before .before .before .before .before .before .before .before .before .before .before .starts .ensures) (c .before .before .before .before .before .before .before .before .before .before .before .before .before .if1 .left) (c .before .before .before .before .before .before .before .before .before .before .before .starts2 .ensures) (c .before .before .before .before .before .before .before .before .before .before .if2 .left) (c .before .before .before .before .before .before .before .before .starts3 .ensures) (c .before .before .before .before .before .before .before .if3 .left) (c .before .before .before .before .before .starts4 .ensures) (c .before .before .before .before .if4 .left) (c .before .before .starts5 .ensures) (c .before .if5 .left) (c .field-in .ensures)
 
 pub word-in-spec : {M : Type 1} → statement M
 word-in-spec =
@@ -192,25 +127,5 @@ word-in-spec =
     hex-from-requires-2
     exc-in-requires
     returns-5
-    slice-aggregate-starts-6
-    starts-requires-6
-    decimal-from-requires-3
-    kind-in-requires
-    returns-6
-    slice-aggregate-starts-7
-    starts-requires-7
-    hex-from-requires-3
-    a7-in-requires
-    returns-7
-    slice-aggregate-starts-8
-    starts-requires-8
-    hex-from-requires-4
-    pc-in-requires
-    returns-8
-    slice-aggregate-starts-9
-    starts-requires-9
-    hex-from-requires-5
-    ppc-in-requires
-    returns-9
-    ret-in-requires
-    returns-10)
+    field-in-requires
+    returns-6)

@@ -15,7 +15,7 @@ unfolding digitOf
 returns c = (simp (lt-ltb _ _ (c .if1 .taken)), omega arith)
 
 wide-requires : tie.Need-wide-requires
-wide-requires c κs = search needs
+wide-requires c κs = tt
 
 returns-2 : tie.Need-returns-2
 unfolding digitOf
@@ -29,7 +29,7 @@ sub-wide : tie.Need-sub-wide
 sub-wide c = search needs
 
 wide-requires-2 : tie.Need-wide-requires-2
-wide-requires-2 c κs = search needs
+wide-requires-2 c κs = tt
 
 returns-4 : tie.Need-returns-4
 unfolding digitOf
@@ -43,7 +43,7 @@ sub-wide-2 : tie.Need-sub-wide-2
 sub-wide-2 c = search needs
 
 wide-requires-3 : tie.Need-wide-requires-3
-wide-requires-3 c κs = search needs
+wide-requires-3 c κs = tt
 
 returns-6 : tie.Need-returns-6
 unfolding digitOf
