@@ -2,6 +2,7 @@ use mathlib.Core.Path.{_≡_, refl, _∙_}
 use native.Mathlib.Omega.{arith}
 use borrow.Author.Needs.{needs}
 use Prim.Native.Nat.{_+_, _*_}
+use denote.Ref.{now}
 use Rattle.access.proofs.Ways.{exception-address-error-way, exception-bus-error-way, jump-vector-way, prefetch-first-way, prefetch-first-way-2, prefetch-first-way-3, prefetch-first-way-4, prefetch-read-way, prefetch-read-way-2, prefetch-second-way, prefetch-second-way-2, prefetch-second-way-3, prefetch-second-way-4, prefetch-second-way-5, prefetch-second-way-6, push-field-way, push-field-way-2, push-field-way-3, push-fields-way, push-fields-way-2, read-at-way, read-at-way-2, read-at-way-3, read-at-way-4, trigger-address-error-way, trigger-address-error-way-2, trigger-address-error-way-3, trigger-bus-error-way, trigger-bus-error-way-2, trigger-bus-error-way-3, trigger-bus-error-way-4, write-at-way, write-at-way-2, write-at-way-3, write-at-way-4}
 use Prim.Native.Nat.{ℕ, _<_}
 use borrow.Fn.Kinds.{In}
@@ -361,7 +362,7 @@ exception-address-error-same-length-2 : (t : ℕ) → exception-address-error-lt
 exception-address-error-same-length-2 t c = c .before .before .before .before .jump-vector .kept .1 .1 .0 ∙ c .before .before .before .before .before .before .before .before .before .before .before .push-fields .kept .1 .1 .0
 
 exception-address-error-returns : (t : ℕ) → exception-address-error-lts.Need-returns (exception-address-error-claims t) (exception-address-error-at t) exception-address-error.Post
-exception-address-error-returns t c = exception-address-error-way _ _ _ _ _ _ _ _ _ _ _ _ _ _ _ _ _ (c .before .before .before .before .before .before .before .before .before .before .before .before .before .before .before .before .before .address-frame .ensures) (c .before .before .before .before .before .before .before .before .before .before .before .before .before .before .before .before .enter-supervisor .ensures) (c .before .before .before .before .before .before .before .before .before .before .before .before .before .before .before .with-cpu .ensures) (c .before .before .before .before .before .before .before .before .before .before .before .before .before .before .count .ensures .0) (c .before .before .before .before .before .before .before .before .before .before .before .push-fields .ensures) (c .before .before .before .before .jump-vector .ensures)
+exception-address-error-returns t c = exception-address-error-way (c .before .before .before .before .before .before .before .before .before .before .before .before .before .before .before .before .before .before .before .before .args .m) (now (c .before .before .before .before .before .before .before .before .before .before .before .before .before .before .before .before .before .before .before .before .args .store)) (now (c .before .before .before .before .before .before .before .before .before .before .before .before .before .before .before .before .before .before .before .before .args .log)) (c .before .before .before .before .before .before .before .before .before .before .before .before .before .before .before .before .before .before .before .before .args .levels) (c .before .before .before .before .before .before .before .before .before .before .before .before .before .before .before .before .before .before .before .before .args .address) (c .before .before .before .before .before .before .before .before .before .before .before .before .before .before .before .before .before .before .before .before .args .write) (c .before .before .before .before .before .before .before .before .before .before .before .before .before .before .before .before .before .before .before .before .args .instruction) (c .before .before .before .before .before .before .before .before .before .before .before .before .before .before .before .before .before .address-frame .result) (c .before .before .before .before .before .before .before .before .before .before .before .before .before .before .before .before .enter-supervisor .result) (c .before .before .before .before .before .before .before .before .before .before .before .before .before .before .before .with-cpu .result) (c .before .before .before .before .before .before .before .before .before .before .before .before .before .before .count .result) (c .before .before .before .before .before .before .before .before .before .before .before .push-fields .last .1 .0) (c .before .before .before .before .before .before .before .before .before .before .before .push-fields .last .1 .1 .0) (c .before .before .before .before .before .before .before .before .before .before .before .push-fields .result) (c .before .before .before .before .jump-vector .last .1 .0) (c .before .before .before .before .jump-vector .last .1 .1 .0) (c .before .before .before .before .jump-vector .result) (c .before .before .before .before .before .before .before .before .before .before .before .before .before .before .before .before .before .address-frame .ensures) (c .before .before .before .before .before .before .before .before .before .before .before .before .before .before .before .before .enter-supervisor .ensures) (c .before .before .before .before .before .before .before .before .before .before .before .before .before .before .before .with-cpu .ensures) (c .before .before .before .before .before .before .before .before .before .before .before .before .before .before .count .ensures .0) (c .before .before .before .before .before .before .before .before .before .before .before .push-fields .ensures) (c .before .before .before .before .jump-vector .ensures)
 
 -- ---- exception-bus-error
 abbrev exception-bus-error-claims : ℕ → exception-bus-error-lts.Claims
@@ -434,7 +435,7 @@ exception-bus-error-same-length-2 : (t : ℕ) → exception-bus-error-lts.Need-s
 exception-bus-error-same-length-2 t c = c .before .before .before .before .jump-vector .kept .1 .1 .0 ∙ c .before .before .before .before .before .before .before .before .before .before .before .push-fields .kept .1 .1 .0
 
 exception-bus-error-returns : (t : ℕ) → exception-bus-error-lts.Need-returns (exception-bus-error-claims t) (exception-bus-error-at t) exception-bus-error.Post
-exception-bus-error-returns t c = exception-bus-error-way _ _ _ _ _ _ _ _ _ _ _ _ _ _ _ _ _ _ _ (c .before .before .before .before .before .before .before .before .before .before .before .before .before .before .before .before .before .bus-frame .ensures) (c .before .before .before .before .before .before .before .before .before .before .before .before .before .before .before .before .enter-bus-error .ensures) (c .before .before .before .before .before .before .before .before .before .before .before .before .before .before .before .with-cpu .ensures) (c .before .before .before .before .before .before .before .before .before .before .before .before .before .before .count .ensures .0) (c .before .before .before .before .before .before .before .before .before .before .before .push-fields .ensures) (c .before .before .before .before .jump-vector .ensures)
+exception-bus-error-returns t c = exception-bus-error-way (c .before .before .before .before .before .before .before .before .before .before .before .before .before .before .before .before .before .before .before .before .args .m) (now (c .before .before .before .before .before .before .before .before .before .before .before .before .before .before .before .before .before .before .before .before .args .store)) (now (c .before .before .before .before .before .before .before .before .before .before .before .before .before .before .before .before .before .before .before .before .args .log)) (c .before .before .before .before .before .before .before .before .before .before .before .before .before .before .before .before .before .before .before .before .args .levels) (c .before .before .before .before .before .before .before .before .before .before .before .before .before .before .before .before .before .before .before .before .args .address) (c .before .before .before .before .before .before .before .before .before .before .before .before .before .before .before .before .before .before .before .before .args .write) (c .before .before .before .before .before .before .before .before .before .before .before .before .before .before .before .before .before .before .before .before .args .instruction) (c .before .before .before .before .before .before .before .before .before .before .before .before .before .before .before .before .before .before .before .before .args .size) (c .before .before .before .before .before .before .before .before .before .before .before .before .before .before .before .before .before .before .before .before .args .cause) (c .before .before .before .before .before .before .before .before .before .before .before .before .before .before .before .before .before .bus-frame .result) (c .before .before .before .before .before .before .before .before .before .before .before .before .before .before .before .before .enter-bus-error .result) (c .before .before .before .before .before .before .before .before .before .before .before .before .before .before .before .with-cpu .result) (c .before .before .before .before .before .before .before .before .before .before .before .before .before .before .count .result) (c .before .before .before .before .before .before .before .before .before .before .before .push-fields .last .1 .0) (c .before .before .before .before .before .before .before .before .before .before .before .push-fields .last .1 .1 .0) (c .before .before .before .before .before .before .before .before .before .before .before .push-fields .result) (c .before .before .before .before .jump-vector .last .1 .0) (c .before .before .before .before .jump-vector .last .1 .1 .0) (c .before .before .before .before .jump-vector .result) (c .before .before .before .before .before .before .before .before .before .before .before .before .before .before .before .before .before .bus-frame .ensures) (c .before .before .before .before .before .before .before .before .before .before .before .before .before .before .before .before .enter-bus-error .ensures) (c .before .before .before .before .before .before .before .before .before .before .before .before .before .before .before .with-cpu .ensures) (c .before .before .before .before .before .before .before .before .before .before .before .before .before .before .count .ensures .0) (c .before .before .before .before .before .before .before .before .before .before .before .push-fields .ensures) (c .before .before .before .before .jump-vector .ensures)
 
 -- ---- jump-vector
 abbrev jump-vector-claims : ℕ → jump-vector-lts.Claims
@@ -480,7 +481,7 @@ jump-vector-same-length-2 : (t : ℕ) → jump-vector-lts.Need-same-length-2 (ju
 jump-vector-same-length-2 t c = c .before .before .before .before .prefetch-second .kept .1 .1 .0 ∙ c .before .before .before .before .before .before .before .before .before .before .before .before .before .prefetch-first .kept .1 .1 .0 ∙ c .before .before .before .before .before .before .before .before .before .before .before .before .before .before .before .before .before .before .before .before .before .before .before .read-at .kept .1 .1 .0 ∙ c .before .before .before .before .before .before .before .before .before .before .before .before .before .before .before .before .before .before .before .before .before .before .before .before .before .before .before .before .before .before .before .before .before .release-sample .kept .1 .1 .0
 
 jump-vector-returns : (t : ℕ) → jump-vector-lts.Need-returns (jump-vector-claims t) (jump-vector-at t) jump-vector.Post
-jump-vector-returns t c = jump-vector-way _ _ _ _ _ _ _ _ _ _ _ _ _ _ _ _ _ _ _ _ _ _ _ _ (c .before .before .before .before .before .before .before .before .before .before .before .before .before .before .before .before .before .before .before .before .before .before .before .before .before .before .before .before .before .before .before .before .before .release-sample .ensures) (c .before .before .before .before .before .before .before .before .before .before .before .before .before .before .before .before .before .before .before .before .before .before .before .before .before .before .before .before .vector-address .ensures) (c .before .before .before .before .before .before .before .before .before .before .before .before .before .before .before .before .before .before .before .before .before .before .before .before .before .before .before .start-vector .ensures) (c .before .before .before .before .before .before .before .before .before .before .before .before .before .before .before .before .before .before .before .before .before .before .before .before .before .before .with-cpu .ensures) (c .before .before .before .before .before .before .before .before .before .before .before .before .before .before .before .before .before .before .before .before .before .before .before .read-at .ensures) (c .before .before .before .before .before .before .before .before .before .before .before .before .before .before .before .before .before .set-pc .ensures) (c .before .before .before .before .before .before .before .before .before .before .before .before .before .before .before .before .with-cpu2 .ensures) (c .before .before .before .before .before .before .before .before .before .before .before .before .before .prefetch-first .ensures) (c .before .before .before .before .before .before .before .before .internal-cycles .ensures) (c .before .before .before .before .before .before .before .with-cpu3 .ensures) (c .before .before .before .before .prefetch-second .ensures)
+jump-vector-returns t c = jump-vector-way (c .before .before .before .before .before .before .before .before .before .before .before .before .before .before .before .before .before .before .before .before .before .before .before .before .before .before .before .before .before .before .before .before .before .before .before .before .before .before .args .m) (now (c .before .before .before .before .before .before .before .before .before .before .before .before .before .before .before .before .before .before .before .before .before .before .before .before .before .before .before .before .before .before .before .before .before .before .before .before .before .before .args .store)) (now (c .before .before .before .before .before .before .before .before .before .before .before .before .before .before .before .before .before .before .before .before .before .before .before .before .before .before .before .before .before .before .before .before .before .before .before .before .before .before .args .log)) (c .before .before .before .before .before .before .before .before .before .before .before .before .before .before .before .before .before .before .before .before .before .before .before .before .before .before .before .before .before .before .before .before .before .before .before .before .before .before .args .levels) (c .before .before .before .before .before .before .before .before .before .before .before .before .before .before .before .before .before .before .before .before .before .before .before .before .before .before .before .before .before .before .before .before .before .before .before .before .before .before .args .vector) (c .before .before .before .before .before .before .before .before .before .before .before .before .before .before .before .before .before .before .before .before .before .before .before .before .before .before .before .before .before .before .before .before .before .release-sample .last .1 .0) (c .before .before .before .before .before .before .before .before .before .before .before .before .before .before .before .before .before .before .before .before .before .before .before .before .before .before .before .before .before .before .before .before .before .release-sample .last .1 .1 .0) (c .before .before .before .before .before .before .before .before .before .before .before .before .before .before .before .before .before .before .before .before .before .before .before .before .before .before .before .before .before .before .before .before .before .release-sample .result) (c .before .before .before .before .before .before .before .before .before .before .before .before .before .before .before .before .before .before .before .before .before .before .before .before .before .before .before .before .vector-address .result) (c .before .before .before .before .before .before .before .before .before .before .before .before .before .before .before .before .before .before .before .before .before .before .before .before .before .before .before .start-vector .result) (c .before .before .before .before .before .before .before .before .before .before .before .before .before .before .before .before .before .before .before .before .before .before .before .before .before .before .with-cpu .result) (c .before .before .before .before .before .before .before .before .before .before .before .before .before .before .before .before .before .before .before .before .before .before .before .read-at .last .1 .0) (c .before .before .before .before .before .before .before .before .before .before .before .before .before .before .before .before .before .before .before .before .before .before .before .read-at .last .1 .1 .0) (c .before .before .before .before .before .before .before .before .before .before .before .before .before .before .before .before .before .before .before .before .before .before .before .read-at .result) (c .before .before .before .before .before .before .before .before .before .before .before .before .before .before .before .before .before .set-pc .result) (c .before .before .before .before .before .before .before .before .before .before .before .before .before .before .before .before .with-cpu2 .result) (c .before .before .before .before .before .before .before .before .before .before .before .before .before .prefetch-first .last .1 .0) (c .before .before .before .before .before .before .before .before .before .before .before .before .before .prefetch-first .last .1 .1 .0) (c .before .before .before .before .before .before .before .before .before .before .before .before .before .prefetch-first .result) (c .before .before .before .before .before .before .before .before .internal-cycles .result) (c .before .before .before .before .before .before .before .with-cpu3 .result) (c .before .before .before .before .prefetch-second .last .1 .0) (c .before .before .before .before .prefetch-second .last .1 .1 .0) (c .before .before .before .before .prefetch-second .result) (c .before .before .before .before .before .before .before .before .before .before .before .before .before .before .before .before .before .before .before .before .before .before .before .before .before .before .before .before .before .before .before .before .before .release-sample .ensures) (c .before .before .before .before .before .before .before .before .before .before .before .before .before .before .before .before .before .before .before .before .before .before .before .before .before .before .before .before .vector-address .ensures) (c .before .before .before .before .before .before .before .before .before .before .before .before .before .before .before .before .before .before .before .before .before .before .before .before .before .before .before .start-vector .ensures) (c .before .before .before .before .before .before .before .before .before .before .before .before .before .before .before .before .before .before .before .before .before .before .before .before .before .before .with-cpu .ensures) (c .before .before .before .before .before .before .before .before .before .before .before .before .before .before .before .before .before .before .before .before .before .before .before .read-at .ensures) (c .before .before .before .before .before .before .before .before .before .before .before .before .before .before .before .before .before .set-pc .ensures) (c .before .before .before .before .before .before .before .before .before .before .before .before .before .before .before .before .with-cpu2 .ensures) (c .before .before .before .before .before .before .before .before .before .before .before .before .before .prefetch-first .ensures) (c .before .before .before .before .before .before .before .before .internal-cycles .ensures) (c .before .before .before .before .before .before .before .with-cpu3 .ensures) (c .before .before .before .before .prefetch-second .ensures)
 
 prefetch-first-prefetch-enabled-requires :
     (t : ℕ) → prefetch-first-lts.Need-prefetch-enabled-requires (
@@ -510,7 +511,7 @@ prefetch-first-with-cpu-requires : (t : ℕ) → prefetch-first-lts.Need-with-cp
 prefetch-first-with-cpu-requires t c κs = tt
 
 prefetch-first-returns : (t : ℕ) → prefetch-first-lts.Need-returns (prefetch-first-claims t) (prefetch-first-at t) prefetch-first.Post
-prefetch-first-returns t c = prefetch-first-way _ _ _ _ _ _ _ (c .before .before .before .before .before .prefetch-enabled .ensures) (c .before .before .before .before .if1 .taken) (c .before .before .before .clear-prefetch .ensures) (c .before .before .with-cpu .ensures) (c .if2 .taken)
+prefetch-first-returns t c = prefetch-first-way (c .before .before .before .before .before .before .before .before .args .m) (now (c .before .before .before .before .before .before .before .before .args .store)) (now (c .before .before .before .before .before .before .before .before .args .log)) (c .before .before .before .before .before .before .before .before .args .levels) (c .before .before .before .before .before .prefetch-enabled .result) (c .before .before .before .clear-prefetch .result) (c .before .before .with-cpu .result) (c .before .before .before .before .before .prefetch-enabled .ensures) (c .before .before .before .before .if1 .taken) (c .before .before .before .clear-prefetch .ensures) (c .before .before .with-cpu .ensures) (c .if2 .taken)
 
 prefetch-first-prefetch-read-requires : (t : ℕ) → prefetch-first-lts.Need-prefetch-read-requires (prefetch-first-claims t) (prefetch-first-at t) prefetch-first.Post
 prefetch-first-prefetch-read-requires t c κs = (omega (arith, c .before .before .before .before .before .before .before .before .before .before .pre .0, c .before .before .if2 .left), tt)
@@ -531,7 +532,7 @@ prefetch-first-same-length-2 : (t : ℕ) → prefetch-first-lts.Need-same-length
 prefetch-first-same-length-2 t c = c .before .before .before .before .before .before .before .before .before .prefetch-read .kept .1 .1 .0
 
 prefetch-first-returns-2 : (t : ℕ) → prefetch-first-lts.Need-returns-2 (prefetch-first-claims t) (prefetch-first-at t) prefetch-first.Post
-prefetch-first-returns-2 t c = prefetch-first-way-2 _ _ _ _ _ _ _ _ _ _ _ _ _ (c .before .before .before .before .before .before .before .before .before .before .before .before .before .before .before .before .before .prefetch-enabled .ensures) (c .before .before .before .before .before .before .before .before .before .before .before .before .before .before .before .before .if1 .taken) (c .before .before .before .before .before .before .before .before .before .before .before .before .before .before .before .clear-prefetch .ensures) (c .before .before .before .before .before .before .before .before .before .before .before .before .before .before .with-cpu .ensures) (c .before .before .before .before .before .before .before .before .before .before .before .before .if2 .left) (c .before .before .before .before .before .before .before .before .before .prefetch-read .ensures) (c .before .before .before .if3 .taken) (c .before .before .low-word .ensures) (c .before .first-word .ensures) (c .with-cpu2 .ensures)
+prefetch-first-returns-2 t c = prefetch-first-way-2 (c .before .before .before .before .before .before .before .before .before .before .before .before .before .before .before .before .before .before .before .before .args .m) (now (c .before .before .before .before .before .before .before .before .before .before .before .before .before .before .before .before .before .before .before .before .args .store)) (now (c .before .before .before .before .before .before .before .before .before .before .before .before .before .before .before .before .before .before .before .before .args .log)) (c .before .before .before .before .before .before .before .before .before .before .before .before .before .before .before .before .before .before .before .before .args .levels) (c .before .before .before .before .before .before .before .before .before .before .before .before .before .before .before .before .before .prefetch-enabled .result) (c .before .before .before .before .before .before .before .before .before .before .before .before .before .before .before .clear-prefetch .result) (c .before .before .before .before .before .before .before .before .before .before .before .before .before .before .with-cpu .result) (c .before .before .before .before .before .before .before .before .before .prefetch-read .last .1 .0) (c .before .before .before .before .before .before .before .before .before .prefetch-read .last .1 .1 .0) (c .before .before .before .before .before .before .before .before .before .prefetch-read .result) (c .before .before .low-word .result) (c .before .first-word .result) (c .with-cpu2 .result) (c .before .before .before .before .before .before .before .before .before .before .before .before .before .before .before .before .before .prefetch-enabled .ensures) (c .before .before .before .before .before .before .before .before .before .before .before .before .before .before .before .before .if1 .taken) (c .before .before .before .before .before .before .before .before .before .before .before .before .before .before .before .clear-prefetch .ensures) (c .before .before .before .before .before .before .before .before .before .before .before .before .before .before .with-cpu .ensures) (c .before .before .before .before .before .before .before .before .before .before .before .before .if2 .left) (c .before .before .before .before .before .before .before .before .before .prefetch-read .ensures) (c .before .before .before .if3 .taken) (c .before .before .low-word .ensures) (c .before .first-word .ensures) (c .with-cpu2 .ensures)
 
 prefetch-first-same-length-3 : (t : ℕ) → prefetch-first-lts.Need-same-length-3 (prefetch-first-claims t) (prefetch-first-at t) prefetch-first.Post
 prefetch-first-same-length-3 t c = c .before .before .before .before .before .before .prefetch-read .kept .1 .0
@@ -540,10 +541,10 @@ prefetch-first-same-length-4 : (t : ℕ) → prefetch-first-lts.Need-same-length
 prefetch-first-same-length-4 t c = c .before .before .before .before .before .before .prefetch-read .kept .1 .1 .0
 
 prefetch-first-returns-3 : (t : ℕ) → prefetch-first-lts.Need-returns-3 (prefetch-first-claims t) (prefetch-first-at t) prefetch-first.Post
-prefetch-first-returns-3 t c = prefetch-first-way-3 _ _ _ _ _ _ _ _ _ _ (c .before .before .before .before .before .before .before .before .before .before .before .before .before .before .prefetch-enabled .ensures) (c .before .before .before .before .before .before .before .before .before .before .before .before .before .if1 .taken) (c .before .before .before .before .before .before .before .before .before .before .before .before .clear-prefetch .ensures) (c .before .before .before .before .before .before .before .before .before .before .before .with-cpu .ensures) (c .before .before .before .before .before .before .before .before .before .if2 .left) (c .before .before .before .before .before .before .prefetch-read .ensures) (c .if3 .left)
+prefetch-first-returns-3 t c = prefetch-first-way-3 (c .before .before .before .before .before .before .before .before .before .before .before .before .before .before .before .before .before .args .m) (now (c .before .before .before .before .before .before .before .before .before .before .before .before .before .before .before .before .before .args .store)) (now (c .before .before .before .before .before .before .before .before .before .before .before .before .before .before .before .before .before .args .log)) (c .before .before .before .before .before .before .before .before .before .before .before .before .before .before .before .before .before .args .levels) (c .before .before .before .before .before .before .before .before .before .before .before .before .before .before .prefetch-enabled .result) (c .before .before .before .before .before .before .before .before .before .before .before .before .clear-prefetch .result) (c .before .before .before .before .before .before .before .before .before .before .before .with-cpu .result) (c .before .before .before .before .before .before .prefetch-read .last .1 .0) (c .before .before .before .before .before .before .prefetch-read .last .1 .1 .0) (c .before .before .before .before .before .before .prefetch-read .result) (c .before .before .before .before .before .before .before .before .before .before .before .before .before .before .prefetch-enabled .ensures) (c .before .before .before .before .before .before .before .before .before .before .before .before .before .if1 .taken) (c .before .before .before .before .before .before .before .before .before .before .before .before .clear-prefetch .ensures) (c .before .before .before .before .before .before .before .before .before .before .before .with-cpu .ensures) (c .before .before .before .before .before .before .before .before .before .if2 .left) (c .before .before .before .before .before .before .prefetch-read .ensures) (c .if3 .left)
 
 prefetch-first-returns-4 : (t : ℕ) → prefetch-first-lts.Need-returns-4 (prefetch-first-claims t) (prefetch-first-at t) prefetch-first.Post
-prefetch-first-returns-4 t c = prefetch-first-way-4 _ _ _ _ _ (c .before .prefetch-enabled .ensures) (c .if1 .left)
+prefetch-first-returns-4 t c = prefetch-first-way-4 (c .before .before .before .before .args .m) (now (c .before .before .before .before .args .store)) (now (c .before .before .before .before .args .log)) (c .before .before .before .before .args .levels) (c .before .prefetch-enabled .result) (c .before .prefetch-enabled .ensures) (c .if1 .left)
 
 -- ---- prefetch-read
 abbrev prefetch-read-claims : ℕ → prefetch-read-lts.Claims
@@ -565,7 +566,7 @@ prefetch-read-same-length-2 : (t : ℕ) → prefetch-read-lts.Need-same-length-2
 prefetch-read-same-length-2 t c = c .before .before .before .before .before .try-read .kept .1 .1 .0 ∙ c .before .before .before .before .before .before .before .before .before .before .before .before .before .flush-sync .kept .1 .1 .0
 
 prefetch-read-returns : (t : ℕ) → prefetch-read-lts.Need-returns (prefetch-read-claims t) (prefetch-read-at t) prefetch-read.Post
-prefetch-read-returns t c = prefetch-read-way _ _ _ _ _ _ _ _ _ _ _ _ (c .before .before .before .before .before .before .before .before .before .before .before .before .before .flush-sync .ensures) (c .before .before .before .before .before .before .before .before .address .ensures) (c .before .before .before .before .before .try-read .ensures) (c .if1 .taken)
+prefetch-read-returns t c = prefetch-read-way (c .before .before .before .before .before .before .before .before .before .before .before .before .before .before .before .before .before .before .args .m) (now (c .before .before .before .before .before .before .before .before .before .before .before .before .before .before .before .before .before .before .args .store)) (now (c .before .before .before .before .before .before .before .before .before .before .before .before .before .before .before .before .before .before .args .log)) (c .before .before .before .before .before .before .before .before .before .before .before .before .before .before .before .before .before .before .args .levels) (c .before .before .before .before .before .before .before .before .before .before .before .before .before .before .before .before .before .before .args .address) (c .before .before .before .before .before .before .before .before .before .before .before .before .before .flush-sync .last .1 .0) (c .before .before .before .before .before .before .before .before .before .before .before .before .before .flush-sync .last .1 .1 .0) (c .before .before .before .before .before .before .before .before .before .before .before .before .before .flush-sync .result) (c .before .before .before .before .before .before .before .before .address .result) (c .before .before .before .before .before .try-read .last .1 .0) (c .before .before .before .before .before .try-read .last .1 .1 .0) (c .before .before .before .before .before .try-read .result) (c .before .before .before .before .before .before .before .before .before .before .before .before .before .flush-sync .ensures) (c .before .before .before .before .before .before .before .before .address .ensures) (c .before .before .before .before .before .try-read .ensures) (c .if1 .taken)
 
 prefetch-read-trigger-bus-error-requires :
     (t : ℕ) → prefetch-read-lts.Need-trigger-bus-error-requires (
@@ -587,7 +588,7 @@ prefetch-read-same-length-4 : (t : ℕ) → prefetch-read-lts.Need-same-length-4
 prefetch-read-same-length-4 t c = c .before .before .before .before .trigger-bus-error .kept .1 .1 .0 ∙ c .before .before .before .before .before .before .before .before .before .before .before .before .before .try-read .kept .1 .1 .0 ∙ c .before .before .before .before .before .before .before .before .before .before .before .before .before .before .before .before .before .before .before .before .before .flush-sync .kept .1 .1 .0
 
 prefetch-read-returns-2 : (t : ℕ) → prefetch-read-lts.Need-returns-2 (prefetch-read-claims t) (prefetch-read-at t) prefetch-read.Post
-prefetch-read-returns-2 t c = prefetch-read-way-2 _ _ _ _ _ _ _ _ _ _ _ _ _ _ _ (c .before .before .before .before .before .before .before .before .before .before .before .before .before .before .before .before .before .before .before .before .before .flush-sync .ensures) (c .before .before .before .before .before .before .before .before .before .before .before .before .before .before .before .before .address .ensures) (c .before .before .before .before .before .before .before .before .before .before .before .before .before .try-read .ensures) (c .before .before .before .before .before .before .before .before .if1 .left) (c .before .before .before .before .trigger-bus-error .ensures)
+prefetch-read-returns-2 t c = prefetch-read-way-2 (c .before .before .before .before .before .before .before .before .before .before .before .before .before .before .before .before .before .before .before .before .before .before .before .before .before .before .args .m) (now (c .before .before .before .before .before .before .before .before .before .before .before .before .before .before .before .before .before .before .before .before .before .before .before .before .before .before .args .store)) (now (c .before .before .before .before .before .before .before .before .before .before .before .before .before .before .before .before .before .before .before .before .before .before .before .before .before .before .args .log)) (c .before .before .before .before .before .before .before .before .before .before .before .before .before .before .before .before .before .before .before .before .before .before .before .before .before .before .args .levels) (c .before .before .before .before .before .before .before .before .before .before .before .before .before .before .before .before .before .before .before .before .before .before .before .before .before .before .args .address) (c .before .before .before .before .before .before .before .before .before .before .before .before .before .before .before .before .before .before .before .before .before .flush-sync .last .1 .0) (c .before .before .before .before .before .before .before .before .before .before .before .before .before .before .before .before .before .before .before .before .before .flush-sync .last .1 .1 .0) (c .before .before .before .before .before .before .before .before .before .before .before .before .before .before .before .before .before .before .before .before .before .flush-sync .result) (c .before .before .before .before .before .before .before .before .before .before .before .before .before .before .before .before .address .result) (c .before .before .before .before .before .before .before .before .before .before .before .before .before .try-read .last .1 .0) (c .before .before .before .before .before .before .before .before .before .before .before .before .before .try-read .last .1 .1 .0) (c .before .before .before .before .before .before .before .before .before .before .before .before .before .try-read .result) (c .before .before .before .before .trigger-bus-error .last .1 .0) (c .before .before .before .before .trigger-bus-error .last .1 .1 .0) (c .before .before .before .before .trigger-bus-error .result) (c .before .before .before .before .before .before .before .before .before .before .before .before .before .before .before .before .before .before .before .before .before .flush-sync .ensures) (c .before .before .before .before .before .before .before .before .before .before .before .before .before .before .before .before .address .ensures) (c .before .before .before .before .before .before .before .before .before .before .before .before .before .try-read .ensures) (c .before .before .before .before .before .before .before .before .if1 .left) (c .before .before .before .before .trigger-bus-error .ensures)
 
 prefetch-second-prefetch-enabled-requires :
     (t : ℕ) → prefetch-second-lts.Need-prefetch-enabled-requires (
@@ -611,10 +612,10 @@ abbrev prefetch-second-claims : ℕ → prefetch-second-lts.Claims
 prefetch-second-claims t = (prefetch-enabled-reads.Asked, prefetch-enabled-reads.Learnt, wrapping-add-u32-reads.Asked, wrapping-add-u32-reads.Learnt, prefetch-read-below t, prefetch-read.Post, low-word-reads.Asked, low-word-reads.Learnt, second-word-reads.Asked, second-word-reads.Learnt, with-cpu-reads.Asked, with-cpu-reads.Learnt)
 
 prefetch-second-returns : (t : ℕ) → prefetch-second-lts.Need-returns (prefetch-second-claims t) (prefetch-second-at t) prefetch-second.Post
-prefetch-second-returns t c = prefetch-second-way _ _ _ _ _ (c .before .before .before .before .before .prefetch-enabled .ensures) (c .before .before .before .before .if1 .taken) (c .before .before .if2 .taken) (c .if3 .taken)
+prefetch-second-returns t c = prefetch-second-way (c .before .before .before .before .before .before .before .before .args .m) (now (c .before .before .before .before .before .before .before .before .args .store)) (now (c .before .before .before .before .before .before .before .before .args .log)) (c .before .before .before .before .before .before .before .before .args .levels) (c .before .before .before .before .before .prefetch-enabled .result) (c .before .before .before .before .before .prefetch-enabled .ensures) (c .before .before .before .before .if1 .taken) (c .before .before .if2 .taken) (c .if3 .taken)
 
 prefetch-second-returns-2 : (t : ℕ) → prefetch-second-lts.Need-returns-2 (prefetch-second-claims t) (prefetch-second-at t) prefetch-second.Post
-prefetch-second-returns-2 t c = prefetch-second-way-2 _ _ _ _ _ (c .before .before .before .before .before .before .before .prefetch-enabled .ensures) (c .before .before .before .before .before .before .if1 .taken) (c .before .before .before .before .if2 .taken) (c .before .before .if3 .left) (c .if4 .taken)
+prefetch-second-returns-2 t c = prefetch-second-way-2 (c .before .before .before .before .before .before .before .before .before .before .args .m) (now (c .before .before .before .before .before .before .before .before .before .before .args .store)) (now (c .before .before .before .before .before .before .before .before .before .before .args .log)) (c .before .before .before .before .before .before .before .before .before .before .args .levels) (c .before .before .before .before .before .before .before .prefetch-enabled .result) (c .before .before .before .before .before .before .before .prefetch-enabled .ensures) (c .before .before .before .before .before .before .if1 .taken) (c .before .before .before .before .if2 .taken) (c .before .before .if3 .left) (c .if4 .taken)
 
 prefetch-second-wrapping-add-u32-requires :
     (t : ℕ) → prefetch-second-lts.Need-wrapping-add-u32-requires (
@@ -652,7 +653,7 @@ prefetch-second-same-length-2 : (t : ℕ) → prefetch-second-lts.Need-same-leng
 prefetch-second-same-length-2 t c = c .before .before .before .before .before .before .before .before .before .prefetch-read .kept .1 .1 .0
 
 prefetch-second-returns-3 : (t : ℕ) → prefetch-second-lts.Need-returns-3 (prefetch-second-claims t) (prefetch-second-at t) prefetch-second.Post
-prefetch-second-returns-3 t c = prefetch-second-way-3 _ _ _ _ _ _ _ _ _ _ _ _ (c .before .before .before .before .before .before .before .before .before .before .before .before .before .before .before .before .before .before .before .before .prefetch-enabled .ensures) (c .before .before .before .before .before .before .before .before .before .before .before .before .before .before .before .before .before .before .before .if1 .taken) (c .before .before .before .before .before .before .before .before .before .before .before .before .before .before .before .before .before .if2 .taken) (c .before .before .before .before .before .before .before .before .before .before .before .before .before .before .before .if3 .left) (c .before .before .before .before .before .before .before .before .before .before .before .before .before .if4 .left) (c .before .before .before .before .before .before .before .before .before .before .before .before .wrapping-add-u32 .ensures) (c .before .before .before .before .before .before .before .before .before .prefetch-read .ensures) (c .before .before .before .if5 .taken) (c .before .before .low-word .ensures) (c .before .second-word .ensures) (c .with-cpu .ensures)
+prefetch-second-returns-3 t c = prefetch-second-way-3 (c .before .before .before .before .before .before .before .before .before .before .before .before .before .before .before .before .before .before .before .before .before .before .before .args .m) (now (c .before .before .before .before .before .before .before .before .before .before .before .before .before .before .before .before .before .before .before .before .before .before .before .args .store)) (now (c .before .before .before .before .before .before .before .before .before .before .before .before .before .before .before .before .before .before .before .before .before .before .before .args .log)) (c .before .before .before .before .before .before .before .before .before .before .before .before .before .before .before .before .before .before .before .before .before .before .before .args .levels) (c .before .before .before .before .before .before .before .before .before .before .before .before .before .before .before .before .before .before .before .before .prefetch-enabled .result) (c .before .before .before .before .before .before .before .before .before .before .before .before .wrapping-add-u32 .result) (c .before .before .before .before .before .before .before .before .before .prefetch-read .last .1 .0) (c .before .before .before .before .before .before .before .before .before .prefetch-read .last .1 .1 .0) (c .before .before .before .before .before .before .before .before .before .prefetch-read .result) (c .before .before .low-word .result) (c .before .second-word .result) (c .with-cpu .result) (c .before .before .before .before .before .before .before .before .before .before .before .before .before .before .before .before .before .before .before .before .prefetch-enabled .ensures) (c .before .before .before .before .before .before .before .before .before .before .before .before .before .before .before .before .before .before .before .if1 .taken) (c .before .before .before .before .before .before .before .before .before .before .before .before .before .before .before .before .before .if2 .taken) (c .before .before .before .before .before .before .before .before .before .before .before .before .before .before .before .if3 .left) (c .before .before .before .before .before .before .before .before .before .before .before .before .before .if4 .left) (c .before .before .before .before .before .before .before .before .before .before .before .before .wrapping-add-u32 .ensures) (c .before .before .before .before .before .before .before .before .before .prefetch-read .ensures) (c .before .before .before .if5 .taken) (c .before .before .low-word .ensures) (c .before .second-word .ensures) (c .with-cpu .ensures)
 
 prefetch-second-same-length-3 : (t : ℕ) → prefetch-second-lts.Need-same-length-3 (prefetch-second-claims t) (prefetch-second-at t) prefetch-second.Post
 prefetch-second-same-length-3 t c = c .before .before .before .before .before .before .prefetch-read .kept .1 .0
@@ -661,13 +662,13 @@ prefetch-second-same-length-4 : (t : ℕ) → prefetch-second-lts.Need-same-leng
 prefetch-second-same-length-4 t c = c .before .before .before .before .before .before .prefetch-read .kept .1 .1 .0
 
 prefetch-second-returns-4 : (t : ℕ) → prefetch-second-lts.Need-returns-4 (prefetch-second-claims t) (prefetch-second-at t) prefetch-second.Post
-prefetch-second-returns-4 t c = prefetch-second-way-4 _ _ _ _ _ _ _ _ _ (c .before .before .before .before .before .before .before .before .before .before .before .before .before .before .before .before .before .prefetch-enabled .ensures) (c .before .before .before .before .before .before .before .before .before .before .before .before .before .before .before .before .if1 .taken) (c .before .before .before .before .before .before .before .before .before .before .before .before .before .before .if2 .taken) (c .before .before .before .before .before .before .before .before .before .before .before .before .if3 .left) (c .before .before .before .before .before .before .before .before .before .before .if4 .left) (c .before .before .before .before .before .before .before .before .before .wrapping-add-u32 .ensures) (c .before .before .before .before .before .before .prefetch-read .ensures) (c .if5 .left)
+prefetch-second-returns-4 t c = prefetch-second-way-4 (c .before .before .before .before .before .before .before .before .before .before .before .before .before .before .before .before .before .before .before .before .args .m) (now (c .before .before .before .before .before .before .before .before .before .before .before .before .before .before .before .before .before .before .before .before .args .store)) (now (c .before .before .before .before .before .before .before .before .before .before .before .before .before .before .before .before .before .before .before .before .args .log)) (c .before .before .before .before .before .before .before .before .before .before .before .before .before .before .before .before .before .before .before .before .args .levels) (c .before .before .before .before .before .before .before .before .before .before .before .before .before .before .before .before .before .prefetch-enabled .result) (c .before .before .before .before .before .before .before .before .before .wrapping-add-u32 .result) (c .before .before .before .before .before .before .prefetch-read .last .1 .0) (c .before .before .before .before .before .before .prefetch-read .last .1 .1 .0) (c .before .before .before .before .before .before .prefetch-read .result) (c .before .before .before .before .before .before .before .before .before .before .before .before .before .before .before .before .before .prefetch-enabled .ensures) (c .before .before .before .before .before .before .before .before .before .before .before .before .before .before .before .before .if1 .taken) (c .before .before .before .before .before .before .before .before .before .before .before .before .before .before .if2 .taken) (c .before .before .before .before .before .before .before .before .before .before .before .before .if3 .left) (c .before .before .before .before .before .before .before .before .before .before .if4 .left) (c .before .before .before .before .before .before .before .before .before .wrapping-add-u32 .ensures) (c .before .before .before .before .before .before .prefetch-read .ensures) (c .if5 .left)
 
 prefetch-second-returns-5 : (t : ℕ) → prefetch-second-lts.Need-returns-5 (prefetch-second-claims t) (prefetch-second-at t) prefetch-second.Post
-prefetch-second-returns-5 t c = prefetch-second-way-5 _ _ _ _ _ (c .before .before .before .prefetch-enabled .ensures) (c .before .before .if1 .taken) (c .if2 .left)
+prefetch-second-returns-5 t c = prefetch-second-way-5 (c .before .before .before .before .before .before .args .m) (now (c .before .before .before .before .before .before .args .store)) (now (c .before .before .before .before .before .before .args .log)) (c .before .before .before .before .before .before .args .levels) (c .before .before .before .prefetch-enabled .result) (c .before .before .before .prefetch-enabled .ensures) (c .before .before .if1 .taken) (c .if2 .left)
 
 prefetch-second-returns-6 : (t : ℕ) → prefetch-second-lts.Need-returns-6 (prefetch-second-claims t) (prefetch-second-at t) prefetch-second.Post
-prefetch-second-returns-6 t c = prefetch-second-way-6 _ _ _ _ _ (c .before .prefetch-enabled .ensures) (c .if1 .left)
+prefetch-second-returns-6 t c = prefetch-second-way-6 (c .before .before .before .before .args .m) (now (c .before .before .before .before .args .store)) (now (c .before .before .before .before .args .log)) (c .before .before .before .before .args .levels) (c .before .prefetch-enabled .result) (c .before .prefetch-enabled .ensures) (c .if1 .left)
 
 -- ---- push-field
 abbrev push-field-claims : ℕ → push-field-lts.Claims
@@ -683,7 +684,7 @@ push-field-with-cpu-requires : (t : ℕ) → push-field-lts.Need-with-cpu-requir
 push-field-with-cpu-requires t c κs = tt
 
 push-field-returns : (t : ℕ) → push-field-lts.Need-returns (push-field-claims t) (push-field-at t) push-field.Post
-push-field-returns t c = push-field-way _ _ _ _ _ _ _ _ (c .before .before .before .before .width .ensures) (c .before .before .before .lower-a7 .ensures) (c .before .before .with-cpu .ensures) (c .if1 .taken)
+push-field-returns t c = push-field-way (c .before .before .before .before .before .before .before .args .m) (now (c .before .before .before .before .before .before .before .args .store)) (now (c .before .before .before .before .before .before .before .args .log)) (c .before .before .before .before .before .before .before .args .levels) (c .before .before .before .before .before .before .before .args .f) (c .before .before .before .before .width .result) (c .before .before .before .lower-a7 .result) (c .before .before .with-cpu .result) (c .before .before .before .before .width .ensures) (c .before .before .before .lower-a7 .ensures) (c .before .before .with-cpu .ensures) (c .if1 .taken)
 
 push-field-element-copy-out-at : (t : ℕ) → push-field-lts.Need-element-copy-out-at (push-field-claims t) (push-field-at t) push-field.Post
 push-field-element-copy-out-at t c = search needs
@@ -701,7 +702,7 @@ push-field-same-length-2 : (t : ℕ) → push-field-lts.Need-same-length-2 (push
 push-field-same-length-2 t c = c .before .before .before .before .raw-write .kept .1 .1 .0
 
 push-field-returns-2 : (t : ℕ) → push-field-lts.Need-returns-2 (push-field-claims t) (push-field-at t) push-field.Post
-push-field-returns-2 t c = push-field-way-2 _ _ _ _ _ _ _ _ _ _ _ _ (c .before .before .before .before .before .before .before .before .before .before .before .before .before .before .before .before .width .ensures) (c .before .before .before .before .before .before .before .before .before .before .before .before .before .before .before .lower-a7 .ensures) (c .before .before .before .before .before .before .before .before .before .before .before .before .before .before .with-cpu .ensures) (c .before .before .before .before .before .before .before .before .before .before .before .before .if1 .left) (c .before .before .before .before .before .before .before .before .if2 .taken) (c .before .before .before .before .before .before .before .address .ensures) (c .before .before .before .before .raw-write .ensures)
+push-field-returns-2 t c = push-field-way-2 (c .before .before .before .before .before .before .before .before .before .before .before .before .before .before .before .before .before .before .before .args .m) (now (c .before .before .before .before .before .before .before .before .before .before .before .before .before .before .before .before .before .before .before .args .store)) (now (c .before .before .before .before .before .before .before .before .before .before .before .before .before .before .before .before .before .before .before .args .log)) (c .before .before .before .before .before .before .before .before .before .before .before .before .before .before .before .before .before .before .before .args .levels) (c .before .before .before .before .before .before .before .before .before .before .before .before .before .before .before .before .before .before .before .args .f) (c .before .before .before .before .before .before .before .before .before .before .before .before .before .before .before .before .width .result) (c .before .before .before .before .before .before .before .before .before .before .before .before .before .before .before .lower-a7 .result) (c .before .before .before .before .before .before .before .before .before .before .before .before .before .before .with-cpu .result) (c .before .before .before .before .before .before .before .address .result) (c .before .before .before .before .raw-write .last .1 .0) (c .before .before .before .before .raw-write .last .1 .1 .0) (c .before .before .before .before .raw-write .result) (c .before .before .before .before .before .before .before .before .before .before .before .before .before .before .before .before .width .ensures) (c .before .before .before .before .before .before .before .before .before .before .before .before .before .before .before .lower-a7 .ensures) (c .before .before .before .before .before .before .before .before .before .before .before .before .before .before .with-cpu .ensures) (c .before .before .before .before .before .before .before .before .before .before .before .before .if1 .left) (c .before .before .before .before .before .before .before .before .if2 .taken) (c .before .before .before .before .before .before .before .address .ensures) (c .before .before .before .before .raw-write .ensures)
 
 push-field-write-at-requires : (t : ℕ) → push-field-lts.Need-write-at-requires (push-field-claims t) (push-field-at t) push-field.Post
 push-field-write-at-requires t c κs = (omega (arith, c .before .before .before .before .before .before .before .before .before .before .before .before .before .pre .0, c .before .before .if2 .left, c .before .before .before .before .before .before .if1 .left), tt)
@@ -713,14 +714,14 @@ push-field-same-length-4 : (t : ℕ) → push-field-lts.Need-same-length-4 (push
 push-field-same-length-4 t c = c .before .before .before .before .write-at .kept .1 .1 .0
 
 push-field-returns-3 : (t : ℕ) → push-field-lts.Need-returns-3 (push-field-claims t) (push-field-at t) push-field.Post
-push-field-returns-3 t c = push-field-way-3 _ _ _ _ _ _ _ _ _ _ _ (c .before .before .before .before .before .before .before .before .before .before .before .before .before .before .before .width .ensures) (c .before .before .before .before .before .before .before .before .before .before .before .before .before .before .lower-a7 .ensures) (c .before .before .before .before .before .before .before .before .before .before .before .before .before .with-cpu .ensures) (c .before .before .before .before .before .before .before .before .before .before .before .if1 .left) (c .before .before .before .before .before .before .before .if2 .left) (c .before .before .before .before .write-at .ensures)
+push-field-returns-3 t c = push-field-way-3 (c .before .before .before .before .before .before .before .before .before .before .before .before .before .before .before .before .before .before .args .m) (now (c .before .before .before .before .before .before .before .before .before .before .before .before .before .before .before .before .before .before .args .store)) (now (c .before .before .before .before .before .before .before .before .before .before .before .before .before .before .before .before .before .before .args .log)) (c .before .before .before .before .before .before .before .before .before .before .before .before .before .before .before .before .before .before .args .levels) (c .before .before .before .before .before .before .before .before .before .before .before .before .before .before .before .before .before .before .args .f) (c .before .before .before .before .before .before .before .before .before .before .before .before .before .before .before .width .result) (c .before .before .before .before .before .before .before .before .before .before .before .before .before .before .lower-a7 .result) (c .before .before .before .before .before .before .before .before .before .before .before .before .before .with-cpu .result) (c .before .before .before .before .write-at .last .1 .0) (c .before .before .before .before .write-at .last .1 .1 .0) (c .before .before .before .before .write-at .result) (c .before .before .before .before .before .before .before .before .before .before .before .before .before .before .before .width .ensures) (c .before .before .before .before .before .before .before .before .before .before .before .before .before .before .lower-a7 .ensures) (c .before .before .before .before .before .before .before .before .before .before .before .before .before .with-cpu .ensures) (c .before .before .before .before .before .before .before .before .before .before .before .if1 .left) (c .before .before .before .before .before .before .before .if2 .left) (c .before .before .before .before .write-at .ensures)
 
 -- ---- push-fields
 abbrev push-fields-claims : ℕ → push-fields-lts.Claims
 push-fields-claims t = (field-at-reads.Asked, field-at-reads.Learnt, push-field-below t, push-field.Post, push-fields-below t, push-fields.Post)
 
 push-fields-returns : (t : ℕ) → push-fields-lts.Need-returns (push-fields-claims t) (push-fields-at t) push-fields.Post
-push-fields-returns t c = push-fields-way _ _ _ _ _ _ (c .if1 .taken)
+push-fields-returns t c = push-fields-way (c .before .before .before .args .m) (now (c .before .before .before .args .store)) (now (c .before .before .before .args .log)) (c .before .before .before .args .levels) (c .before .before .before .args .f) (c .before .before .before .args .left) (c .if1 .taken)
 
 push-fields-sub-field-at : (t : ℕ) → push-fields-lts.Need-sub-field-at (push-fields-claims t) (push-fields-at t) push-fields.Post
 push-fields-sub-field-at t c = search needs
@@ -744,14 +745,14 @@ push-fields-same-length-2 : (t : ℕ) → push-fields-lts.Need-same-length-2 (pu
 push-fields-same-length-2 t c = c .before .before .before .before .push-fields .kept .1 .1 .0 ∙ c .before .before .before .before .before .before .before .before .before .before .before .push-field .kept .1 .1 .0
 
 push-fields-returns-2 : (t : ℕ) → push-fields-lts.Need-returns-2 (push-fields-claims t) (push-fields-at t) push-fields.Post
-push-fields-returns-2 t c = push-fields-way-2 _ _ _ _ _ _ _ _ _ _ _ _ _ (c .before .before .before .before .before .before .before .before .before .before .before .before .before .before .before .if1 .left) (c .before .before .before .before .before .before .before .before .before .before .before .before .before .before .field-at .ensures) (c .before .before .before .before .before .before .before .before .before .before .before .push-field .ensures) (c .before .before .before .before .push-fields .ensures)
+push-fields-returns-2 t c = push-fields-way-2 (c .before .before .before .before .before .before .before .before .before .before .before .before .before .before .before .before .before .before .args .m) (now (c .before .before .before .before .before .before .before .before .before .before .before .before .before .before .before .before .before .before .args .store)) (now (c .before .before .before .before .before .before .before .before .before .before .before .before .before .before .before .before .before .before .args .log)) (c .before .before .before .before .before .before .before .before .before .before .before .before .before .before .before .before .before .before .args .levels) (c .before .before .before .before .before .before .before .before .before .before .before .before .before .before .before .before .before .before .args .f) (c .before .before .before .before .before .before .before .before .before .before .before .before .before .before .before .before .before .before .args .left) (c .before .before .before .before .before .before .before .before .before .before .before .before .before .before .field-at .result) (c .before .before .before .before .before .before .before .before .before .before .before .push-field .last .1 .0) (c .before .before .before .before .before .before .before .before .before .before .before .push-field .last .1 .1 .0) (c .before .before .before .before .before .before .before .before .before .before .before .push-field .result) (c .before .before .before .before .push-fields .last .1 .0) (c .before .before .before .before .push-fields .last .1 .1 .0) (c .before .before .before .before .push-fields .result) (c .before .before .before .before .before .before .before .before .before .before .before .before .before .before .before .if1 .left) (c .before .before .before .before .before .before .before .before .before .before .before .before .before .before .field-at .ensures) (c .before .before .before .before .before .before .before .before .before .before .before .push-field .ensures) (c .before .before .before .before .push-fields .ensures)
 
 -- ---- read-at
 abbrev read-at-claims : ℕ → read-at-lts.Claims
 read-at-claims t = (flush-sync-reads.Asked, flush-sync-reads.Learnt, address-reads.Asked, address-reads.Learnt, refuses-odd-reads.Asked, refuses-odd-reads.Learnt, trigger-address-error-below t, trigger-address-error.Post, try-read-reads.Asked, try-read-reads.Learnt, width-reads.Asked, width-reads.Learnt, trigger-bus-error-below t, trigger-bus-error.Post)
 
 read-at-returns : (t : ℕ) → read-at-lts.Need-returns (read-at-claims t) (read-at-at t) read-at.Post
-read-at-returns t c = read-at-way _ _ _ _ _ _ (c .if1 .taken)
+read-at-returns t c = read-at-way (c .before .before .before .before .args .m) (now (c .before .before .before .before .args .store)) (now (c .before .before .before .before .args .log)) (c .before .before .before .before .args .levels) (c .before .before .before .before .args .address) (c .before .before .before .before .args .long) (c .if1 .taken)
 
 read-at-flush-sync-requires : (t : ℕ) → read-at-lts.Need-flush-sync-requires (read-at-claims t) (read-at-at t) read-at.Post
 read-at-flush-sync-requires t c κs = tt
@@ -772,7 +773,7 @@ read-at-same-length-2 : (t : ℕ) → read-at-lts.Need-same-length-2 (read-at-cl
 read-at-same-length-2 t c = c .before .before .before .before .trigger-address-error .kept .1 .1 .0 ∙ c .before .before .before .before .before .before .before .before .before .before .before .before .before .before .flush-sync .kept .1 .1 .0
 
 read-at-returns-2 : (t : ℕ) → read-at-lts.Need-returns-2 (read-at-claims t) (read-at-at t) read-at.Post
-read-at-returns-2 t c = read-at-way-2 _ _ _ _ _ _ _ _ _ _ _ _ _ _ (c .before .before .before .before .before .before .before .before .before .before .before .before .before .before .before .before .before .if1 .left) (c .before .before .before .before .before .before .before .before .before .before .before .before .before .before .flush-sync .ensures) (c .before .before .before .before .before .before .before .before .before .address .ensures) (c .before .before .before .before .before .before .before .before .refuses-odd .ensures) (c .before .before .before .before .before .before .before .if2 .taken) (c .before .before .before .before .trigger-address-error .ensures)
+read-at-returns-2 t c = read-at-way-2 (c .before .before .before .before .before .before .before .before .before .before .before .before .before .before .before .before .before .before .before .before .before .args .m) (now (c .before .before .before .before .before .before .before .before .before .before .before .before .before .before .before .before .before .before .before .before .before .args .store)) (now (c .before .before .before .before .before .before .before .before .before .before .before .before .before .before .before .before .before .before .before .before .before .args .log)) (c .before .before .before .before .before .before .before .before .before .before .before .before .before .before .before .before .before .before .before .before .before .args .levels) (c .before .before .before .before .before .before .before .before .before .before .before .before .before .before .before .before .before .before .before .before .before .args .address) (c .before .before .before .before .before .before .before .before .before .before .before .before .before .before .before .before .before .before .before .before .before .args .long) (c .before .before .before .before .before .before .before .before .before .before .before .before .before .before .flush-sync .last .1 .0) (c .before .before .before .before .before .before .before .before .before .before .before .before .before .before .flush-sync .last .1 .1 .0) (c .before .before .before .before .before .before .before .before .before .before .before .before .before .before .flush-sync .result) (c .before .before .before .before .before .before .before .before .before .address .result) (c .before .before .before .before .before .before .before .before .refuses-odd .result) (c .before .before .before .before .trigger-address-error .last .1 .0) (c .before .before .before .before .trigger-address-error .last .1 .1 .0) (c .before .before .before .before .trigger-address-error .result) (c .before .before .before .before .before .before .before .before .before .before .before .before .before .before .before .before .before .if1 .left) (c .before .before .before .before .before .before .before .before .before .before .before .before .before .before .flush-sync .ensures) (c .before .before .before .before .before .before .before .before .before .address .ensures) (c .before .before .before .before .before .before .before .before .refuses-odd .ensures) (c .before .before .before .before .before .before .before .if2 .taken) (c .before .before .before .before .trigger-address-error .ensures)
 
 read-at-try-read-requires : (t : ℕ) → read-at-lts.Need-try-read-requires (read-at-claims t) (read-at-at t) read-at.Post
 read-at-try-read-requires t c κs = tt
@@ -784,7 +785,7 @@ read-at-same-length-4 : (t : ℕ) → read-at-lts.Need-same-length-4 (read-at-cl
 read-at-same-length-4 t c = c .before .before .before .before .before .try-read .kept .1 .1 .0 ∙ c .before .before .before .before .before .before .before .before .before .before .before .before .before .before .before .flush-sync .kept .1 .1 .0
 
 read-at-returns-3 : (t : ℕ) → read-at-lts.Need-returns-3 (read-at-claims t) (read-at-at t) read-at.Post
-read-at-returns-3 t c = read-at-way-3 _ _ _ _ _ _ _ _ _ _ _ _ _ _ (c .before .before .before .before .before .before .before .before .before .before .before .before .before .before .before .before .before .before .if1 .left) (c .before .before .before .before .before .before .before .before .before .before .before .before .before .before .before .flush-sync .ensures) (c .before .before .before .before .before .before .before .before .before .before .address .ensures) (c .before .before .before .before .before .before .before .before .before .refuses-odd .ensures) (c .before .before .before .before .before .before .before .before .if2 .left) (c .before .before .before .before .before .try-read .ensures) (c .if3 .taken)
+read-at-returns-3 t c = read-at-way-3 (c .before .before .before .before .before .before .before .before .before .before .before .before .before .before .before .before .before .before .before .before .before .before .args .m) (now (c .before .before .before .before .before .before .before .before .before .before .before .before .before .before .before .before .before .before .before .before .before .before .args .store)) (now (c .before .before .before .before .before .before .before .before .before .before .before .before .before .before .before .before .before .before .before .before .before .before .args .log)) (c .before .before .before .before .before .before .before .before .before .before .before .before .before .before .before .before .before .before .before .before .before .before .args .levels) (c .before .before .before .before .before .before .before .before .before .before .before .before .before .before .before .before .before .before .before .before .before .before .args .address) (c .before .before .before .before .before .before .before .before .before .before .before .before .before .before .before .before .before .before .before .before .before .before .args .long) (c .before .before .before .before .before .before .before .before .before .before .before .before .before .before .before .flush-sync .last .1 .0) (c .before .before .before .before .before .before .before .before .before .before .before .before .before .before .before .flush-sync .last .1 .1 .0) (c .before .before .before .before .before .before .before .before .before .before .before .before .before .before .before .flush-sync .result) (c .before .before .before .before .before .before .before .before .before .before .address .result) (c .before .before .before .before .before .before .before .before .before .refuses-odd .result) (c .before .before .before .before .before .try-read .last .1 .0) (c .before .before .before .before .before .try-read .last .1 .1 .0) (c .before .before .before .before .before .try-read .result) (c .before .before .before .before .before .before .before .before .before .before .before .before .before .before .before .before .before .before .if1 .left) (c .before .before .before .before .before .before .before .before .before .before .before .before .before .before .before .flush-sync .ensures) (c .before .before .before .before .before .before .before .before .before .before .address .ensures) (c .before .before .before .before .before .before .before .before .before .refuses-odd .ensures) (c .before .before .before .before .before .before .before .before .if2 .left) (c .before .before .before .before .before .try-read .ensures) (c .if3 .taken)
 
 read-at-width-requires : (t : ℕ) → read-at-lts.Need-width-requires (read-at-claims t) (read-at-at t) read-at.Post
 read-at-width-requires t c κs = tt
@@ -799,14 +800,14 @@ read-at-same-length-6 : (t : ℕ) → read-at-lts.Need-same-length-6 (read-at-cl
 read-at-same-length-6 t c = c .before .before .before .before .trigger-bus-error .kept .1 .1 .0 ∙ c .before .before .before .before .before .before .before .before .before .before .before .before .before .before .try-read .kept .1 .1 .0 ∙ c .before .before .before .before .before .before .before .before .before .before .before .before .before .before .before .before .before .before .before .before .before .before .before .before .flush-sync .kept .1 .1 .0
 
 read-at-returns-4 : (t : ℕ) → read-at-lts.Need-returns-4 (read-at-claims t) (read-at-at t) read-at.Post
-read-at-returns-4 t c = read-at-way-4 _ _ _ _ _ _ _ _ _ _ _ _ _ _ _ _ _ _ (c .before .before .before .before .before .before .before .before .before .before .before .before .before .before .before .before .before .before .before .before .before .before .before .before .before .before .before .if1 .left) (c .before .before .before .before .before .before .before .before .before .before .before .before .before .before .before .before .before .before .before .before .before .before .before .before .flush-sync .ensures) (c .before .before .before .before .before .before .before .before .before .before .before .before .before .before .before .before .before .before .before .address .ensures) (c .before .before .before .before .before .before .before .before .before .before .before .before .before .before .before .before .before .before .refuses-odd .ensures) (c .before .before .before .before .before .before .before .before .before .before .before .before .before .before .before .before .before .if2 .left) (c .before .before .before .before .before .before .before .before .before .before .before .before .before .before .try-read .ensures) (c .before .before .before .before .before .before .before .before .before .if3 .left) (c .before .before .before .before .before .before .before .width .ensures) (c .before .before .before .before .trigger-bus-error .ensures)
+read-at-returns-4 t c = read-at-way-4 (c .before .before .before .before .before .before .before .before .before .before .before .before .before .before .before .before .before .before .before .before .before .before .before .before .before .before .before .before .before .before .before .args .m) (now (c .before .before .before .before .before .before .before .before .before .before .before .before .before .before .before .before .before .before .before .before .before .before .before .before .before .before .before .before .before .before .before .args .store)) (now (c .before .before .before .before .before .before .before .before .before .before .before .before .before .before .before .before .before .before .before .before .before .before .before .before .before .before .before .before .before .before .before .args .log)) (c .before .before .before .before .before .before .before .before .before .before .before .before .before .before .before .before .before .before .before .before .before .before .before .before .before .before .before .before .before .before .before .args .levels) (c .before .before .before .before .before .before .before .before .before .before .before .before .before .before .before .before .before .before .before .before .before .before .before .before .before .before .before .before .before .before .before .args .address) (c .before .before .before .before .before .before .before .before .before .before .before .before .before .before .before .before .before .before .before .before .before .before .before .before .before .before .before .before .before .before .before .args .long) (c .before .before .before .before .before .before .before .before .before .before .before .before .before .before .before .before .before .before .before .before .before .before .before .before .flush-sync .last .1 .0) (c .before .before .before .before .before .before .before .before .before .before .before .before .before .before .before .before .before .before .before .before .before .before .before .before .flush-sync .last .1 .1 .0) (c .before .before .before .before .before .before .before .before .before .before .before .before .before .before .before .before .before .before .before .before .before .before .before .before .flush-sync .result) (c .before .before .before .before .before .before .before .before .before .before .before .before .before .before .before .before .before .before .before .address .result) (c .before .before .before .before .before .before .before .before .before .before .before .before .before .before .before .before .before .before .refuses-odd .result) (c .before .before .before .before .before .before .before .before .before .before .before .before .before .before .try-read .last .1 .0) (c .before .before .before .before .before .before .before .before .before .before .before .before .before .before .try-read .last .1 .1 .0) (c .before .before .before .before .before .before .before .before .before .before .before .before .before .before .try-read .result) (c .before .before .before .before .before .before .before .width .result) (c .before .before .before .before .trigger-bus-error .last .1 .0) (c .before .before .before .before .trigger-bus-error .last .1 .1 .0) (c .before .before .before .before .trigger-bus-error .result) (c .before .before .before .before .before .before .before .before .before .before .before .before .before .before .before .before .before .before .before .before .before .before .before .before .before .before .before .if1 .left) (c .before .before .before .before .before .before .before .before .before .before .before .before .before .before .before .before .before .before .before .before .before .before .before .before .flush-sync .ensures) (c .before .before .before .before .before .before .before .before .before .before .before .before .before .before .before .before .before .before .before .address .ensures) (c .before .before .before .before .before .before .before .before .before .before .before .before .before .before .before .before .before .before .refuses-odd .ensures) (c .before .before .before .before .before .before .before .before .before .before .before .before .before .before .before .before .before .if2 .left) (c .before .before .before .before .before .before .before .before .before .before .before .before .before .before .try-read .ensures) (c .before .before .before .before .before .before .before .before .before .if3 .left) (c .before .before .before .before .before .before .before .width .ensures) (c .before .before .before .before .trigger-bus-error .ensures)
 
 -- ---- trigger-address-error
 abbrev trigger-address-error-claims : ℕ → trigger-address-error-lts.Claims
 trigger-address-error-claims t = (halt-reads.Asked, halt-reads.Learnt, with-cpu-reads.Asked, with-cpu-reads.Learnt, begin-address-reads.Asked, begin-address-reads.Learnt, exception-address-error-below t, exception-address-error.Post, keep-resume-reads.Asked, keep-resume-reads.Learnt)
 
 trigger-address-error-returns : (t : ℕ) → trigger-address-error-lts.Need-returns (trigger-address-error-claims t) (trigger-address-error-at t) trigger-address-error.Post
-trigger-address-error-returns t c = trigger-address-error-way _ _ _ _ _ _ _ (c .if1 .taken)
+trigger-address-error-returns t c = trigger-address-error-way (c .before .before .before .before .args .m) (now (c .before .before .before .before .args .store)) (now (c .before .before .before .before .args .log)) (c .before .before .before .before .args .levels) (c .before .before .before .before .args .address) (c .before .before .before .before .args .write) (c .before .before .before .before .args .instruction) (c .if1 .taken)
 
 trigger-address-error-halt-requires : (t : ℕ) → trigger-address-error-lts.Need-halt-requires (trigger-address-error-claims t) (trigger-address-error-at t) trigger-address-error.Post
 trigger-address-error-halt-requires t c κs = tt
@@ -827,7 +828,7 @@ trigger-address-error-with-cpu-requires :
 trigger-address-error-with-cpu-requires t c κs = tt
 
 trigger-address-error-returns-2 : (t : ℕ) → trigger-address-error-lts.Need-returns-2 (trigger-address-error-claims t) (trigger-address-error-at t) trigger-address-error.Post
-trigger-address-error-returns-2 t c = trigger-address-error-way-2 _ _ _ _ _ _ _ _ _ (c .before .before .before .if1 .left) (c .before .before .if2 .taken) (c .before .halt .ensures) (c .with-cpu .ensures)
+trigger-address-error-returns-2 t c = trigger-address-error-way-2 (c .before .before .before .before .before .before .before .args .m) (now (c .before .before .before .before .before .before .before .args .store)) (now (c .before .before .before .before .before .before .before .args .log)) (c .before .before .before .before .before .before .before .args .levels) (c .before .before .before .before .before .before .before .args .address) (c .before .before .before .before .before .before .before .args .write) (c .before .before .before .before .before .before .before .args .instruction) (c .before .halt .result) (c .with-cpu .result) (c .before .before .before .if1 .left) (c .before .before .if2 .taken) (c .before .halt .ensures) (c .with-cpu .ensures)
 
 trigger-address-error-begin-address-requires :
     (t : ℕ) → trigger-address-error-lts.Need-begin-address-requires (
@@ -926,14 +927,14 @@ trigger-address-error-same-length-2 : (t : ℕ) → trigger-address-error-lts.Ne
 trigger-address-error-same-length-2 t c = c .before .before .before .before .before .before .exception-address-error .kept .1 .1 .0
 
 trigger-address-error-returns-3 : (t : ℕ) → trigger-address-error-lts.Need-returns-3 (trigger-address-error-claims t) (trigger-address-error-at t) trigger-address-error.Post
-trigger-address-error-returns-3 t c = trigger-address-error-way-3 _ _ _ _ _ _ _ _ _ _ _ _ _ _ (c .before .before .before .before .before .before .before .before .before .before .before .before .if1 .left) (c .before .before .before .before .before .before .before .before .before .before .before .if2 .left) (c .before .before .before .before .before .before .before .before .before .before .begin-address .ensures) (c .before .before .before .before .before .before .before .before .before .with-cpu2 .ensures) (c .before .before .before .before .before .before .exception-address-error .ensures) (c .before .keep-resume .ensures) (c .with-cpu3 .ensures)
+trigger-address-error-returns-3 t c = trigger-address-error-way-3 (c .before .before .before .before .before .before .before .before .before .before .before .before .before .before .before .before .args .m) (now (c .before .before .before .before .before .before .before .before .before .before .before .before .before .before .before .before .args .store)) (now (c .before .before .before .before .before .before .before .before .before .before .before .before .before .before .before .before .args .log)) (c .before .before .before .before .before .before .before .before .before .before .before .before .before .before .before .before .args .levels) (c .before .before .before .before .before .before .before .before .before .before .before .before .before .before .before .before .args .address) (c .before .before .before .before .before .before .before .before .before .before .before .before .before .before .before .before .args .write) (c .before .before .before .before .before .before .before .before .before .before .before .before .before .before .before .before .args .instruction) (c .before .before .before .before .before .before .before .before .before .before .begin-address .result) (c .before .before .before .before .before .before .before .before .before .with-cpu2 .result) (c .before .before .before .before .before .before .exception-address-error .last .1 .0) (c .before .before .before .before .before .before .exception-address-error .last .1 .1 .0) (c .before .before .before .before .before .before .exception-address-error .result) (c .before .keep-resume .result) (c .with-cpu3 .result) (c .before .before .before .before .before .before .before .before .before .before .before .before .if1 .left) (c .before .before .before .before .before .before .before .before .before .before .before .if2 .left) (c .before .before .before .before .before .before .before .before .before .before .begin-address .ensures) (c .before .before .before .before .before .before .before .before .before .with-cpu2 .ensures) (c .before .before .before .before .before .before .exception-address-error .ensures) (c .before .keep-resume .ensures) (c .with-cpu3 .ensures)
 
 -- ---- trigger-bus-error
 abbrev trigger-bus-error-claims : ℕ → trigger-bus-error-lts.Claims
 trigger-bus-error-claims t = (halt-reads.Asked, halt-reads.Learnt, with-cpu-reads.Asked, with-cpu-reads.Learnt, begin-bus-reads.Asked, begin-bus-reads.Learnt, exception-bus-error-below t, exception-bus-error.Post, close-bus-reads.Asked, close-bus-reads.Learnt)
 
 trigger-bus-error-returns : (t : ℕ) → trigger-bus-error-lts.Need-returns (trigger-bus-error-claims t) (trigger-bus-error-at t) trigger-bus-error.Post
-trigger-bus-error-returns t c = trigger-bus-error-way _ _ _ _ _ _ _ _ (c .if1 .taken)
+trigger-bus-error-returns t c = trigger-bus-error-way (c .before .before .before .before .args .m) (now (c .before .before .before .before .args .store)) (now (c .before .before .before .before .args .log)) (c .before .before .before .before .args .levels) (c .before .before .before .before .args .address) (c .before .before .before .before .args .write) (c .before .before .before .before .args .instruction) (c .before .before .before .before .args .size) (c .if1 .taken)
 
 trigger-bus-error-halt-requires : (t : ℕ) → trigger-bus-error-lts.Need-halt-requires (trigger-bus-error-claims t) (trigger-bus-error-at t) trigger-bus-error.Post
 trigger-bus-error-halt-requires t c κs = tt
@@ -942,7 +943,7 @@ trigger-bus-error-with-cpu-requires : (t : ℕ) → trigger-bus-error-lts.Need-w
 trigger-bus-error-with-cpu-requires t c κs = tt
 
 trigger-bus-error-returns-2 : (t : ℕ) → trigger-bus-error-lts.Need-returns-2 (trigger-bus-error-claims t) (trigger-bus-error-at t) trigger-bus-error.Post
-trigger-bus-error-returns-2 t c = trigger-bus-error-way-2 _ _ _ _ _ _ _ _ _ _ (c .before .before .before .if1 .left) (c .before .before .if2 .taken) (c .before .halt .ensures) (c .with-cpu .ensures)
+trigger-bus-error-returns-2 t c = trigger-bus-error-way-2 (c .before .before .before .before .before .before .before .args .m) (now (c .before .before .before .before .before .before .before .args .store)) (now (c .before .before .before .before .before .before .before .args .log)) (c .before .before .before .before .before .before .before .args .levels) (c .before .before .before .before .before .before .before .args .address) (c .before .before .before .before .before .before .before .args .write) (c .before .before .before .before .before .before .before .args .instruction) (c .before .before .before .before .before .before .before .args .size) (c .before .halt .result) (c .with-cpu .result) (c .before .before .before .if1 .left) (c .before .before .if2 .taken) (c .before .halt .ensures) (c .with-cpu .ensures)
 
 trigger-bus-error-halt-requires-2 : (t : ℕ) → trigger-bus-error-lts.Need-halt-requires-2 (trigger-bus-error-claims t) (trigger-bus-error-at t) trigger-bus-error.Post
 trigger-bus-error-halt-requires-2 t c κs = tt
@@ -951,7 +952,7 @@ trigger-bus-error-with-cpu-requires-2 : (t : ℕ) → trigger-bus-error-lts.Need
 trigger-bus-error-with-cpu-requires-2 t c κs = tt
 
 trigger-bus-error-returns-3 : (t : ℕ) → trigger-bus-error-lts.Need-returns-3 (trigger-bus-error-claims t) (trigger-bus-error-at t) trigger-bus-error.Post
-trigger-bus-error-returns-3 t c = trigger-bus-error-way-3 _ _ _ _ _ _ _ _ _ _ (c .before .before .before .before .if1 .left) (c .before .before .before .if2 .left) (c .before .before .if3 .taken) (c .before .halt2 .ensures) (c .with-cpu2 .ensures)
+trigger-bus-error-returns-3 t c = trigger-bus-error-way-3 (c .before .before .before .before .before .before .before .before .args .m) (now (c .before .before .before .before .before .before .before .before .args .store)) (now (c .before .before .before .before .before .before .before .before .args .log)) (c .before .before .before .before .before .before .before .before .args .levels) (c .before .before .before .before .before .before .before .before .args .address) (c .before .before .before .before .before .before .before .before .args .write) (c .before .before .before .before .before .before .before .before .args .instruction) (c .before .before .before .before .before .before .before .before .args .size) (c .before .halt2 .result) (c .with-cpu2 .result) (c .before .before .before .before .if1 .left) (c .before .before .before .if2 .left) (c .before .before .if3 .taken) (c .before .halt2 .ensures) (c .with-cpu2 .ensures)
 
 trigger-bus-error-begin-bus-requires : (t : ℕ) → trigger-bus-error-lts.Need-begin-bus-requires (trigger-bus-error-claims t) (trigger-bus-error-at t) trigger-bus-error.Post
 trigger-bus-error-begin-bus-requires t c κs = tt
@@ -1002,14 +1003,14 @@ trigger-bus-error-same-length-2 : (t : ℕ) → trigger-bus-error-lts.Need-same-
 trigger-bus-error-same-length-2 t c = c .before .before .before .before .before .before .exception-bus-error .kept .1 .1 .0
 
 trigger-bus-error-returns-4 : (t : ℕ) → trigger-bus-error-lts.Need-returns-4 (trigger-bus-error-claims t) (trigger-bus-error-at t) trigger-bus-error.Post
-trigger-bus-error-returns-4 t c = trigger-bus-error-way-4 _ _ _ _ _ _ _ _ _ _ _ _ _ _ _ (c .before .before .before .before .before .before .before .before .before .before .before .before .before .if1 .left) (c .before .before .before .before .before .before .before .before .before .before .before .before .if2 .left) (c .before .before .before .before .before .before .before .before .before .before .before .if3 .left) (c .before .before .before .before .before .before .before .before .before .before .begin-bus .ensures) (c .before .before .before .before .before .before .before .before .before .with-cpu3 .ensures) (c .before .before .before .before .before .before .exception-bus-error .ensures) (c .before .close-bus .ensures) (c .with-cpu4 .ensures)
+trigger-bus-error-returns-4 t c = trigger-bus-error-way-4 (c .before .before .before .before .before .before .before .before .before .before .before .before .before .before .before .before .before .args .m) (now (c .before .before .before .before .before .before .before .before .before .before .before .before .before .before .before .before .before .args .store)) (now (c .before .before .before .before .before .before .before .before .before .before .before .before .before .before .before .before .before .args .log)) (c .before .before .before .before .before .before .before .before .before .before .before .before .before .before .before .before .before .args .levels) (c .before .before .before .before .before .before .before .before .before .before .before .before .before .before .before .before .before .args .address) (c .before .before .before .before .before .before .before .before .before .before .before .before .before .before .before .before .before .args .write) (c .before .before .before .before .before .before .before .before .before .before .before .before .before .before .before .before .before .args .instruction) (c .before .before .before .before .before .before .before .before .before .before .before .before .before .before .before .before .before .args .size) (c .before .before .before .before .before .before .before .before .before .before .begin-bus .result) (c .before .before .before .before .before .before .before .before .before .with-cpu3 .result) (c .before .before .before .before .before .before .exception-bus-error .last .1 .0) (c .before .before .before .before .before .before .exception-bus-error .last .1 .1 .0) (c .before .before .before .before .before .before .exception-bus-error .result) (c .before .close-bus .result) (c .with-cpu4 .result) (c .before .before .before .before .before .before .before .before .before .before .before .before .before .if1 .left) (c .before .before .before .before .before .before .before .before .before .before .before .before .if2 .left) (c .before .before .before .before .before .before .before .before .before .before .before .if3 .left) (c .before .before .before .before .before .before .before .before .before .before .begin-bus .ensures) (c .before .before .before .before .before .before .before .before .before .with-cpu3 .ensures) (c .before .before .before .before .before .before .exception-bus-error .ensures) (c .before .close-bus .ensures) (c .with-cpu4 .ensures)
 
 -- ---- write-at
 abbrev write-at-claims : ℕ → write-at-lts.Claims
 write-at-claims t = (flush-sync-reads.Asked, flush-sync-reads.Learnt, address-reads.Asked, address-reads.Learnt, refuses-odd-reads.Asked, refuses-odd-reads.Learnt, trigger-address-error-below t, trigger-address-error.Post, set-wdata-reads.Asked, set-wdata-reads.Learnt, with-cpu-reads.Asked, with-cpu-reads.Learnt, try-write-reads.Asked, try-write-reads.Learnt, width-reads.Asked, width-reads.Learnt, trigger-bus-error-below t, trigger-bus-error.Post)
 
 write-at-returns : (t : ℕ) → write-at-lts.Need-returns (write-at-claims t) (write-at-at t) write-at.Post
-write-at-returns t c = write-at-way _ _ _ _ _ _ _ (c .if1 .taken)
+write-at-returns t c = write-at-way (c .before .before .before .before .args .m) (now (c .before .before .before .before .args .store)) (now (c .before .before .before .before .args .log)) (c .before .before .before .before .args .levels) (c .before .before .before .before .args .address) (c .before .before .before .before .args .long) (c .before .before .before .before .args .value) (c .if1 .taken)
 
 write-at-flush-sync-requires : (t : ℕ) → write-at-lts.Need-flush-sync-requires (write-at-claims t) (write-at-at t) write-at.Post
 write-at-flush-sync-requires t c κs = tt
@@ -1050,7 +1051,7 @@ write-at-same-length-2 : (t : ℕ) → write-at-lts.Need-same-length-2 (write-at
 write-at-same-length-2 t c = c .before .before .before .before .trigger-address-error .kept .1 .1 .0 ∙ c .before .before .before .before .before .before .before .before .before .before .before .before .before .before .flush-sync .kept .1 .1 .0
 
 write-at-returns-2 : (t : ℕ) → write-at-lts.Need-returns-2 (write-at-claims t) (write-at-at t) write-at.Post
-write-at-returns-2 t c = write-at-way-2 _ _ _ _ _ _ _ _ _ _ _ _ _ _ _ (c .before .before .before .before .before .before .before .before .before .before .before .before .before .before .before .before .before .if1 .left) (c .before .before .before .before .before .before .before .before .before .before .before .before .before .before .flush-sync .ensures) (c .before .before .before .before .before .before .before .before .before .address .ensures) (c .before .before .before .before .before .before .before .before .refuses-odd .ensures) (c .before .before .before .before .before .before .before .if2 .taken) (c .before .before .before .before .trigger-address-error .ensures)
+write-at-returns-2 t c = write-at-way-2 (c .before .before .before .before .before .before .before .before .before .before .before .before .before .before .before .before .before .before .before .before .before .args .m) (now (c .before .before .before .before .before .before .before .before .before .before .before .before .before .before .before .before .before .before .before .before .before .args .store)) (now (c .before .before .before .before .before .before .before .before .before .before .before .before .before .before .before .before .before .before .before .before .before .args .log)) (c .before .before .before .before .before .before .before .before .before .before .before .before .before .before .before .before .before .before .before .before .before .args .levels) (c .before .before .before .before .before .before .before .before .before .before .before .before .before .before .before .before .before .before .before .before .before .args .address) (c .before .before .before .before .before .before .before .before .before .before .before .before .before .before .before .before .before .before .before .before .before .args .long) (c .before .before .before .before .before .before .before .before .before .before .before .before .before .before .before .before .before .before .before .before .before .args .value) (c .before .before .before .before .before .before .before .before .before .before .before .before .before .before .flush-sync .last .1 .0) (c .before .before .before .before .before .before .before .before .before .before .before .before .before .before .flush-sync .last .1 .1 .0) (c .before .before .before .before .before .before .before .before .before .before .before .before .before .before .flush-sync .result) (c .before .before .before .before .before .before .before .before .before .address .result) (c .before .before .before .before .before .before .before .before .refuses-odd .result) (c .before .before .before .before .trigger-address-error .last .1 .0) (c .before .before .before .before .trigger-address-error .last .1 .1 .0) (c .before .before .before .before .trigger-address-error .result) (c .before .before .before .before .before .before .before .before .before .before .before .before .before .before .before .before .before .if1 .left) (c .before .before .before .before .before .before .before .before .before .before .before .before .before .before .flush-sync .ensures) (c .before .before .before .before .before .before .before .before .before .address .ensures) (c .before .before .before .before .before .before .before .before .refuses-odd .ensures) (c .before .before .before .before .before .before .before .if2 .taken) (c .before .before .before .before .trigger-address-error .ensures)
 
 write-at-set-wdata-requires : (t : ℕ) → write-at-lts.Need-set-wdata-requires (write-at-claims t) (write-at-at t) write-at.Post
 write-at-set-wdata-requires t c κs = tt
@@ -1068,7 +1069,7 @@ write-at-same-length-4 : (t : ℕ) → write-at-lts.Need-same-length-4 (write-at
 write-at-same-length-4 t c = c .before .before .before .before .before .before .try-write .kept .1 .1 .0 ∙ c .before .before .before .before .before .before .before .before .before .before .before .before .before .before .before .before .before .before .flush-sync .kept .1 .1 .0
 
 write-at-returns-3 : (t : ℕ) → write-at-lts.Need-returns-3 (write-at-claims t) (write-at-at t) write-at.Post
-write-at-returns-3 t c = write-at-way-3 _ _ _ _ _ _ _ _ _ _ _ _ _ _ _ _ _ (c .before .before .before .before .before .before .before .before .before .before .before .before .before .before .before .before .before .before .before .before .before .if1 .left) (c .before .before .before .before .before .before .before .before .before .before .before .before .before .before .before .before .before .before .flush-sync .ensures) (c .before .before .before .before .before .before .before .before .before .before .before .before .before .address .ensures) (c .before .before .before .before .before .before .before .before .before .before .before .before .refuses-odd .ensures) (c .before .before .before .before .before .before .before .before .before .before .before .if2 .left) (c .before .before .before .before .before .before .before .before .before .before .set-wdata .ensures) (c .before .before .before .before .before .before .before .before .before .with-cpu .ensures) (c .before .before .before .before .before .before .try-write .ensures) (c .if3 .taken)
+write-at-returns-3 t c = write-at-way-3 (c .before .before .before .before .before .before .before .before .before .before .before .before .before .before .before .before .before .before .before .before .before .before .before .before .before .args .m) (now (c .before .before .before .before .before .before .before .before .before .before .before .before .before .before .before .before .before .before .before .before .before .before .before .before .before .args .store)) (now (c .before .before .before .before .before .before .before .before .before .before .before .before .before .before .before .before .before .before .before .before .before .before .before .before .before .args .log)) (c .before .before .before .before .before .before .before .before .before .before .before .before .before .before .before .before .before .before .before .before .before .before .before .before .before .args .levels) (c .before .before .before .before .before .before .before .before .before .before .before .before .before .before .before .before .before .before .before .before .before .before .before .before .before .args .address) (c .before .before .before .before .before .before .before .before .before .before .before .before .before .before .before .before .before .before .before .before .before .before .before .before .before .args .long) (c .before .before .before .before .before .before .before .before .before .before .before .before .before .before .before .before .before .before .before .before .before .before .before .before .before .args .value) (c .before .before .before .before .before .before .before .before .before .before .before .before .before .before .before .before .before .before .flush-sync .last .1 .0) (c .before .before .before .before .before .before .before .before .before .before .before .before .before .before .before .before .before .before .flush-sync .last .1 .1 .0) (c .before .before .before .before .before .before .before .before .before .before .before .before .before .before .before .before .before .before .flush-sync .result) (c .before .before .before .before .before .before .before .before .before .before .before .before .before .address .result) (c .before .before .before .before .before .before .before .before .before .before .before .before .refuses-odd .result) (c .before .before .before .before .before .before .before .before .before .before .set-wdata .result) (c .before .before .before .before .before .before .before .before .before .with-cpu .result) (c .before .before .before .before .before .before .try-write .last .1 .0) (c .before .before .before .before .before .before .try-write .last .1 .1 .0) (c .before .before .before .before .before .before .try-write .result) (c .before .before .before .before .before .before .before .before .before .before .before .before .before .before .before .before .before .before .before .before .before .if1 .left) (c .before .before .before .before .before .before .before .before .before .before .before .before .before .before .before .before .before .before .flush-sync .ensures) (c .before .before .before .before .before .before .before .before .before .before .before .before .before .address .ensures) (c .before .before .before .before .before .before .before .before .before .before .before .before .refuses-odd .ensures) (c .before .before .before .before .before .before .before .before .before .before .before .if2 .left) (c .before .before .before .before .before .before .before .before .before .before .set-wdata .ensures) (c .before .before .before .before .before .before .before .before .before .with-cpu .ensures) (c .before .before .before .before .before .before .try-write .ensures) (c .if3 .taken)
 
 write-at-width-requires : (t : ℕ) → write-at-lts.Need-width-requires (write-at-claims t) (write-at-at t) write-at.Post
 write-at-width-requires t c κs = tt
@@ -1083,7 +1084,7 @@ write-at-same-length-6 : (t : ℕ) → write-at-lts.Need-same-length-6 (write-at
 write-at-same-length-6 t c = c .before .before .before .before .trigger-bus-error .kept .1 .1 .0 ∙ c .before .before .before .before .before .before .before .before .before .before .before .before .before .before .try-write .kept .1 .1 .0 ∙ c .before .before .before .before .before .before .before .before .before .before .before .before .before .before .before .before .before .before .before .before .before .before .before .before .before .before .flush-sync .kept .1 .1 .0
 
 write-at-returns-4 : (t : ℕ) → write-at-lts.Need-returns-4 (write-at-claims t) (write-at-at t) write-at.Post
-write-at-returns-4 t c = write-at-way-4 _ _ _ _ _ _ _ _ _ _ _ _ _ _ _ _ _ _ _ _ _ (c .before .before .before .before .before .before .before .before .before .before .before .before .before .before .before .before .before .before .before .before .before .before .before .before .before .before .before .before .before .if1 .left) (c .before .before .before .before .before .before .before .before .before .before .before .before .before .before .before .before .before .before .before .before .before .before .before .before .before .before .flush-sync .ensures) (c .before .before .before .before .before .before .before .before .before .before .before .before .before .before .before .before .before .before .before .before .before .address .ensures) (c .before .before .before .before .before .before .before .before .before .before .before .before .before .before .before .before .before .before .before .before .refuses-odd .ensures) (c .before .before .before .before .before .before .before .before .before .before .before .before .before .before .before .before .before .before .before .if2 .left) (c .before .before .before .before .before .before .before .before .before .before .before .before .before .before .before .before .before .before .set-wdata .ensures) (c .before .before .before .before .before .before .before .before .before .before .before .before .before .before .before .before .before .with-cpu .ensures) (c .before .before .before .before .before .before .before .before .before .before .before .before .before .before .try-write .ensures) (c .before .before .before .before .before .before .before .before .if3 .left) (c .before .before .before .before .before .before .before .width .ensures) (c .before .before .before .before .trigger-bus-error .ensures)
+write-at-returns-4 t c = write-at-way-4 (c .before .before .before .before .before .before .before .before .before .before .before .before .before .before .before .before .before .before .before .before .before .before .before .before .before .before .before .before .before .before .before .before .before .args .m) (now (c .before .before .before .before .before .before .before .before .before .before .before .before .before .before .before .before .before .before .before .before .before .before .before .before .before .before .before .before .before .before .before .before .before .args .store)) (now (c .before .before .before .before .before .before .before .before .before .before .before .before .before .before .before .before .before .before .before .before .before .before .before .before .before .before .before .before .before .before .before .before .before .args .log)) (c .before .before .before .before .before .before .before .before .before .before .before .before .before .before .before .before .before .before .before .before .before .before .before .before .before .before .before .before .before .before .before .before .before .args .levels) (c .before .before .before .before .before .before .before .before .before .before .before .before .before .before .before .before .before .before .before .before .before .before .before .before .before .before .before .before .before .before .before .before .before .args .address) (c .before .before .before .before .before .before .before .before .before .before .before .before .before .before .before .before .before .before .before .before .before .before .before .before .before .before .before .before .before .before .before .before .before .args .long) (c .before .before .before .before .before .before .before .before .before .before .before .before .before .before .before .before .before .before .before .before .before .before .before .before .before .before .before .before .before .before .before .before .before .args .value) (c .before .before .before .before .before .before .before .before .before .before .before .before .before .before .before .before .before .before .before .before .before .before .before .before .before .before .flush-sync .last .1 .0) (c .before .before .before .before .before .before .before .before .before .before .before .before .before .before .before .before .before .before .before .before .before .before .before .before .before .before .flush-sync .last .1 .1 .0) (c .before .before .before .before .before .before .before .before .before .before .before .before .before .before .before .before .before .before .before .before .before .before .before .before .before .before .flush-sync .result) (c .before .before .before .before .before .before .before .before .before .before .before .before .before .before .before .before .before .before .before .before .before .address .result) (c .before .before .before .before .before .before .before .before .before .before .before .before .before .before .before .before .before .before .before .before .refuses-odd .result) (c .before .before .before .before .before .before .before .before .before .before .before .before .before .before .before .before .before .before .set-wdata .result) (c .before .before .before .before .before .before .before .before .before .before .before .before .before .before .before .before .before .with-cpu .result) (c .before .before .before .before .before .before .before .before .before .before .before .before .before .before .try-write .last .1 .0) (c .before .before .before .before .before .before .before .before .before .before .before .before .before .before .try-write .last .1 .1 .0) (c .before .before .before .before .before .before .before .before .before .before .before .before .before .before .try-write .result) (c .before .before .before .before .before .before .before .width .result) (c .before .before .before .before .trigger-bus-error .last .1 .0) (c .before .before .before .before .trigger-bus-error .last .1 .1 .0) (c .before .before .before .before .trigger-bus-error .result) (c .before .before .before .before .before .before .before .before .before .before .before .before .before .before .before .before .before .before .before .before .before .before .before .before .before .before .before .before .before .if1 .left) (c .before .before .before .before .before .before .before .before .before .before .before .before .before .before .before .before .before .before .before .before .before .before .before .before .before .before .flush-sync .ensures) (c .before .before .before .before .before .before .before .before .before .before .before .before .before .before .before .before .before .before .before .before .before .address .ensures) (c .before .before .before .before .before .before .before .before .before .before .before .before .before .before .before .before .before .before .before .before .refuses-odd .ensures) (c .before .before .before .before .before .before .before .before .before .before .before .before .before .before .before .before .before .before .before .if2 .left) (c .before .before .before .before .before .before .before .before .before .before .before .before .before .before .before .before .before .before .set-wdata .ensures) (c .before .before .before .before .before .before .before .before .before .before .before .before .before .before .before .before .before .with-cpu .ensures) (c .before .before .before .before .before .before .before .before .before .before .before .before .before .before .try-write .ensures) (c .before .before .before .before .before .before .before .before .if3 .left) (c .before .before .before .before .before .before .before .width .ensures) (c .before .before .before .before .trigger-bus-error .ensures)
 
 pub +exception-address-error+exception-bus-error+jump-vector+prefetch-first+prefetch-read+prefetch-second+push-field+push-fields+read-at+trigger-address-error+trigger-bus-error+write-at-spec :
     {M : Type 1} → statement M
