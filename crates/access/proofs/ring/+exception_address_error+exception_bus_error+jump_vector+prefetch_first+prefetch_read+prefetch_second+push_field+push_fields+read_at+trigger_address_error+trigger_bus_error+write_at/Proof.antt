@@ -263,96 +263,26 @@ abbrev write-at-below : ℕ → In 2 write-at-kinds.ps
 write-at-below t =
     and 2 write-at-kinds.ps (falls 2 write-at-kinds.ps _<_ μ-write-at t) write-at.Pre
 
-exception-address-error-address-frame-requires :
-    (t : ℕ) → exception-address-error-lts.Need-address-frame-requires (
-      address-frame-reads.Asked,
-      address-frame-reads.Learnt,
-      enter-supervisor-reads.Asked,
-      enter-supervisor-reads.Learnt,
-      with-cpu-reads.Asked,
-      with-cpu-reads.Learnt,
-      count-reads.Asked,
-      count-reads.Learnt,
-      push-fields-below t,
-      push-fields.Post,
-      jump-vector-below t,
-      jump-vector.Post,
-    ) (exception-address-error-at t) exception-address-error.Post
-exception-address-error-address-frame-requires t c κs = tt
-
-exception-address-error-enter-supervisor-requires :
-    (t : ℕ) → exception-address-error-lts.Need-enter-supervisor-requires (
-      address-frame-reads.Asked,
-      address-frame-reads.Learnt,
-      enter-supervisor-reads.Asked,
-      enter-supervisor-reads.Learnt,
-      with-cpu-reads.Asked,
-      with-cpu-reads.Learnt,
-      count-reads.Asked,
-      count-reads.Learnt,
-      push-fields-below t,
-      push-fields.Post,
-      jump-vector-below t,
-      jump-vector.Post,
-    ) (exception-address-error-at t) exception-address-error.Post
-exception-address-error-enter-supervisor-requires t c κs = tt
-
-exception-address-error-with-cpu-requires :
-    (t : ℕ) → exception-address-error-lts.Need-with-cpu-requires (
-      address-frame-reads.Asked,
-      address-frame-reads.Learnt,
-      enter-supervisor-reads.Asked,
-      enter-supervisor-reads.Learnt,
-      with-cpu-reads.Asked,
-      with-cpu-reads.Learnt,
-      count-reads.Asked,
-      count-reads.Learnt,
-      push-fields-below t,
-      push-fields.Post,
-      jump-vector-below t,
-      jump-vector.Post,
-    ) (exception-address-error-at t) exception-address-error.Post
-exception-address-error-with-cpu-requires t c κs = tt
-
 -- ---- exception-address-error
 abbrev exception-address-error-claims : ℕ → exception-address-error-lts.Claims
 exception-address-error-claims t = (address-frame-reads.Asked, address-frame-reads.Learnt, enter-supervisor-reads.Asked, enter-supervisor-reads.Learnt, with-cpu-reads.Asked, with-cpu-reads.Learnt, count-reads.Asked, count-reads.Learnt, push-fields-below t, push-fields.Post, jump-vector-below t, jump-vector.Post)
 
+exception-address-error-address-frame-requires : (t : ℕ) → exception-address-error-lts.Need-address-frame-requires (exception-address-error-claims t) (exception-address-error-at t) exception-address-error.Post
+exception-address-error-address-frame-requires t c κs = tt
+
+exception-address-error-enter-supervisor-requires : (t : ℕ) → exception-address-error-lts.Need-enter-supervisor-requires (exception-address-error-claims t) (exception-address-error-at t) exception-address-error.Post
+exception-address-error-enter-supervisor-requires t c κs = tt
+
+exception-address-error-with-cpu-requires : (t : ℕ) → exception-address-error-lts.Need-with-cpu-requires (exception-address-error-claims t) (exception-address-error-at t) exception-address-error.Post
+exception-address-error-with-cpu-requires t c κs = tt
+
 exception-address-error-count-requires : (t : ℕ) → exception-address-error-lts.Need-count-requires (exception-address-error-claims t) (exception-address-error-at t) exception-address-error.Post
 exception-address-error-count-requires t c κs = tt
 
-exception-address-error-push-fields-requires :
-    (t : ℕ) → exception-address-error-lts.Need-push-fields-requires (
-      address-frame-reads.Asked,
-      address-frame-reads.Learnt,
-      enter-supervisor-reads.Asked,
-      enter-supervisor-reads.Learnt,
-      with-cpu-reads.Asked,
-      with-cpu-reads.Learnt,
-      count-reads.Asked,
-      count-reads.Learnt,
-      push-fields-below t,
-      push-fields.Post,
-      jump-vector-below t,
-      jump-vector.Post,
-    ) (exception-address-error-at t) exception-address-error.Post
+exception-address-error-push-fields-requires : (t : ℕ) → exception-address-error-lts.Need-push-fields-requires (exception-address-error-claims t) (exception-address-error-at t) exception-address-error.Post
 exception-address-error-push-fields-requires t c κs = (omega (arith, c .before .before .before .before .before .before .before .before .pre .0, c .before .before .count .ensures .1), tt)
 
-exception-address-error-jump-vector-requires :
-    (t : ℕ) → exception-address-error-lts.Need-jump-vector-requires (
-      address-frame-reads.Asked,
-      address-frame-reads.Learnt,
-      enter-supervisor-reads.Asked,
-      enter-supervisor-reads.Learnt,
-      with-cpu-reads.Asked,
-      with-cpu-reads.Learnt,
-      count-reads.Asked,
-      count-reads.Learnt,
-      push-fields-below t,
-      push-fields.Post,
-      jump-vector-below t,
-      jump-vector.Post,
-    ) (exception-address-error-at t) exception-address-error.Post
+exception-address-error-jump-vector-requires : (t : ℕ) → exception-address-error-lts.Need-jump-vector-requires (exception-address-error-claims t) (exception-address-error-at t) exception-address-error.Post
 exception-address-error-jump-vector-requires t c κs = (omega (arith, c .before .before .before .before .before .before .before .before .before .before .before .before .before .before .before .pre .0, c .before .before .before .before .before .before .before .before .before .count .ensures .1), tt)
 
 exception-address-error-same-length : (t : ℕ) → exception-address-error-lts.Need-same-length (exception-address-error-claims t) (exception-address-error-at t) exception-address-error.Post
@@ -371,21 +301,7 @@ exception-bus-error-claims t = (bus-frame-reads.Asked, bus-frame-reads.Learnt, e
 exception-bus-error-bus-frame-requires : (t : ℕ) → exception-bus-error-lts.Need-bus-frame-requires (exception-bus-error-claims t) (exception-bus-error-at t) exception-bus-error.Post
 exception-bus-error-bus-frame-requires t c κs = tt
 
-exception-bus-error-enter-bus-error-requires :
-    (t : ℕ) → exception-bus-error-lts.Need-enter-bus-error-requires (
-      bus-frame-reads.Asked,
-      bus-frame-reads.Learnt,
-      enter-bus-error-reads.Asked,
-      enter-bus-error-reads.Learnt,
-      with-cpu-reads.Asked,
-      with-cpu-reads.Learnt,
-      count-reads.Asked,
-      count-reads.Learnt,
-      push-fields-below t,
-      push-fields.Post,
-      jump-vector-below t,
-      jump-vector.Post,
-    ) (exception-bus-error-at t) exception-bus-error.Post
+exception-bus-error-enter-bus-error-requires : (t : ℕ) → exception-bus-error-lts.Need-enter-bus-error-requires (exception-bus-error-claims t) (exception-bus-error-at t) exception-bus-error.Post
 exception-bus-error-enter-bus-error-requires t c κs = tt
 
 exception-bus-error-with-cpu-requires : (t : ℕ) → exception-bus-error-lts.Need-with-cpu-requires (exception-bus-error-claims t) (exception-bus-error-at t) exception-bus-error.Post
@@ -394,38 +310,10 @@ exception-bus-error-with-cpu-requires t c κs = tt
 exception-bus-error-count-requires : (t : ℕ) → exception-bus-error-lts.Need-count-requires (exception-bus-error-claims t) (exception-bus-error-at t) exception-bus-error.Post
 exception-bus-error-count-requires t c κs = tt
 
-exception-bus-error-push-fields-requires :
-    (t : ℕ) → exception-bus-error-lts.Need-push-fields-requires (
-      bus-frame-reads.Asked,
-      bus-frame-reads.Learnt,
-      enter-bus-error-reads.Asked,
-      enter-bus-error-reads.Learnt,
-      with-cpu-reads.Asked,
-      with-cpu-reads.Learnt,
-      count-reads.Asked,
-      count-reads.Learnt,
-      push-fields-below t,
-      push-fields.Post,
-      jump-vector-below t,
-      jump-vector.Post,
-    ) (exception-bus-error-at t) exception-bus-error.Post
+exception-bus-error-push-fields-requires : (t : ℕ) → exception-bus-error-lts.Need-push-fields-requires (exception-bus-error-claims t) (exception-bus-error-at t) exception-bus-error.Post
 exception-bus-error-push-fields-requires t c κs = (omega (arith, c .before .before .before .before .before .before .before .before .pre .0, c .before .before .count .ensures .1), tt)
 
-exception-bus-error-jump-vector-requires :
-    (t : ℕ) → exception-bus-error-lts.Need-jump-vector-requires (
-      bus-frame-reads.Asked,
-      bus-frame-reads.Learnt,
-      enter-bus-error-reads.Asked,
-      enter-bus-error-reads.Learnt,
-      with-cpu-reads.Asked,
-      with-cpu-reads.Learnt,
-      count-reads.Asked,
-      count-reads.Learnt,
-      push-fields-below t,
-      push-fields.Post,
-      jump-vector-below t,
-      jump-vector.Post,
-    ) (exception-bus-error-at t) exception-bus-error.Post
+exception-bus-error-jump-vector-requires : (t : ℕ) → exception-bus-error-lts.Need-jump-vector-requires (exception-bus-error-claims t) (exception-bus-error-at t) exception-bus-error.Post
 exception-bus-error-jump-vector-requires t c κs = (omega (arith, c .before .before .before .before .before .before .before .before .before .before .before .before .before .before .before .pre .0, c .before .before .before .before .before .before .before .before .before .count .ensures .1), tt)
 
 exception-bus-error-same-length : (t : ℕ) → exception-bus-error-lts.Need-same-length (exception-bus-error-claims t) (exception-bus-error-at t) exception-bus-error.Post
@@ -483,26 +371,12 @@ jump-vector-same-length-2 t c = c .before .before .before .before .prefetch-seco
 jump-vector-returns : (t : ℕ) → jump-vector-lts.Need-returns (jump-vector-claims t) (jump-vector-at t) jump-vector.Post
 jump-vector-returns t c = jump-vector-way (c .before .before .before .before .before .before .before .before .before .before .before .before .before .before .before .before .before .before .before .before .before .before .before .before .before .before .before .before .before .before .before .before .before .before .before .before .before .before .args .m) (now (c .before .before .before .before .before .before .before .before .before .before .before .before .before .before .before .before .before .before .before .before .before .before .before .before .before .before .before .before .before .before .before .before .before .before .before .before .before .before .args .store)) (now (c .before .before .before .before .before .before .before .before .before .before .before .before .before .before .before .before .before .before .before .before .before .before .before .before .before .before .before .before .before .before .before .before .before .before .before .before .before .before .args .log)) (c .before .before .before .before .before .before .before .before .before .before .before .before .before .before .before .before .before .before .before .before .before .before .before .before .before .before .before .before .before .before .before .before .before .before .before .before .before .before .args .levels) (c .before .before .before .before .before .before .before .before .before .before .before .before .before .before .before .before .before .before .before .before .before .before .before .before .before .before .before .before .before .before .before .before .before .before .before .before .before .before .args .vector) (c .before .before .before .before .before .before .before .before .before .before .before .before .before .before .before .before .before .before .before .before .before .before .before .before .before .before .before .before .before .before .before .before .before .release-sample .last .1 .0) (c .before .before .before .before .before .before .before .before .before .before .before .before .before .before .before .before .before .before .before .before .before .before .before .before .before .before .before .before .before .before .before .before .before .release-sample .last .1 .1 .0) (c .before .before .before .before .before .before .before .before .before .before .before .before .before .before .before .before .before .before .before .before .before .before .before .before .before .before .before .before .before .before .before .before .before .release-sample .result) (c .before .before .before .before .before .before .before .before .before .before .before .before .before .before .before .before .before .before .before .before .before .before .before .before .before .before .before .before .vector-address .result) (c .before .before .before .before .before .before .before .before .before .before .before .before .before .before .before .before .before .before .before .before .before .before .before .before .before .before .before .start-vector .result) (c .before .before .before .before .before .before .before .before .before .before .before .before .before .before .before .before .before .before .before .before .before .before .before .before .before .before .with-cpu .result) (c .before .before .before .before .before .before .before .before .before .before .before .before .before .before .before .before .before .before .before .before .before .before .before .read-at .last .1 .0) (c .before .before .before .before .before .before .before .before .before .before .before .before .before .before .before .before .before .before .before .before .before .before .before .read-at .last .1 .1 .0) (c .before .before .before .before .before .before .before .before .before .before .before .before .before .before .before .before .before .before .before .before .before .before .before .read-at .result) (c .before .before .before .before .before .before .before .before .before .before .before .before .before .before .before .before .before .set-pc .result) (c .before .before .before .before .before .before .before .before .before .before .before .before .before .before .before .before .with-cpu2 .result) (c .before .before .before .before .before .before .before .before .before .before .before .before .before .prefetch-first .last .1 .0) (c .before .before .before .before .before .before .before .before .before .before .before .before .before .prefetch-first .last .1 .1 .0) (c .before .before .before .before .before .before .before .before .before .before .before .before .before .prefetch-first .result) (c .before .before .before .before .before .before .before .before .internal-cycles .result) (c .before .before .before .before .before .before .before .with-cpu3 .result) (c .before .before .before .before .prefetch-second .last .1 .0) (c .before .before .before .before .prefetch-second .last .1 .1 .0) (c .before .before .before .before .prefetch-second .result) (c .before .before .before .before .before .before .before .before .before .before .before .before .before .before .before .before .before .before .before .before .before .before .before .before .before .before .before .before .before .before .before .before .before .release-sample .ensures) (c .before .before .before .before .before .before .before .before .before .before .before .before .before .before .before .before .before .before .before .before .before .before .before .before .before .before .before .before .vector-address .ensures) (c .before .before .before .before .before .before .before .before .before .before .before .before .before .before .before .before .before .before .before .before .before .before .before .before .before .before .before .start-vector .ensures) (c .before .before .before .before .before .before .before .before .before .before .before .before .before .before .before .before .before .before .before .before .before .before .before .before .before .before .with-cpu .ensures) (c .before .before .before .before .before .before .before .before .before .before .before .before .before .before .before .before .before .before .before .before .before .before .before .read-at .ensures) (c .before .before .before .before .before .before .before .before .before .before .before .before .before .before .before .before .before .set-pc .ensures) (c .before .before .before .before .before .before .before .before .before .before .before .before .before .before .before .before .with-cpu2 .ensures) (c .before .before .before .before .before .before .before .before .before .before .before .before .before .prefetch-first .ensures) (c .before .before .before .before .before .before .before .before .internal-cycles .ensures) (c .before .before .before .before .before .before .before .with-cpu3 .ensures) (c .before .before .before .before .prefetch-second .ensures)
 
-prefetch-first-prefetch-enabled-requires :
-    (t : ℕ) → prefetch-first-lts.Need-prefetch-enabled-requires (
-      prefetch-enabled-reads.Asked,
-      prefetch-enabled-reads.Learnt,
-      clear-prefetch-reads.Asked,
-      clear-prefetch-reads.Learnt,
-      with-cpu-reads.Asked,
-      with-cpu-reads.Learnt,
-      prefetch-read-below t,
-      prefetch-read.Post,
-      low-word-reads.Asked,
-      low-word-reads.Learnt,
-      first-word-reads.Asked,
-      first-word-reads.Learnt,
-    ) (prefetch-first-at t) prefetch-first.Post
-prefetch-first-prefetch-enabled-requires t c κs = tt
-
 -- ---- prefetch-first
 abbrev prefetch-first-claims : ℕ → prefetch-first-lts.Claims
 prefetch-first-claims t = (prefetch-enabled-reads.Asked, prefetch-enabled-reads.Learnt, clear-prefetch-reads.Asked, clear-prefetch-reads.Learnt, with-cpu-reads.Asked, with-cpu-reads.Learnt, prefetch-read-below t, prefetch-read.Post, low-word-reads.Asked, low-word-reads.Learnt, first-word-reads.Asked, first-word-reads.Learnt)
+
+prefetch-first-prefetch-enabled-requires : (t : ℕ) → prefetch-first-lts.Need-prefetch-enabled-requires (prefetch-first-claims t) (prefetch-first-at t) prefetch-first.Post
+prefetch-first-prefetch-enabled-requires t c κs = tt
 
 prefetch-first-clear-prefetch-requires : (t : ℕ) → prefetch-first-lts.Need-clear-prefetch-requires (prefetch-first-claims t) (prefetch-first-at t) prefetch-first.Post
 prefetch-first-clear-prefetch-requires t c κs = tt
@@ -568,17 +442,7 @@ prefetch-read-same-length-2 t c = c .before .before .before .before .before .try
 prefetch-read-returns : (t : ℕ) → prefetch-read-lts.Need-returns (prefetch-read-claims t) (prefetch-read-at t) prefetch-read.Post
 prefetch-read-returns t c = prefetch-read-way (c .before .before .before .before .before .before .before .before .before .before .before .before .before .before .before .before .before .before .args .m) (now (c .before .before .before .before .before .before .before .before .before .before .before .before .before .before .before .before .before .before .args .store)) (now (c .before .before .before .before .before .before .before .before .before .before .before .before .before .before .before .before .before .before .args .log)) (c .before .before .before .before .before .before .before .before .before .before .before .before .before .before .before .before .before .before .args .levels) (c .before .before .before .before .before .before .before .before .before .before .before .before .before .before .before .before .before .before .args .address) (c .before .before .before .before .before .before .before .before .before .before .before .before .before .flush-sync .last .1 .0) (c .before .before .before .before .before .before .before .before .before .before .before .before .before .flush-sync .last .1 .1 .0) (c .before .before .before .before .before .before .before .before .before .before .before .before .before .flush-sync .result) (c .before .before .before .before .before .before .before .before .address .result) (c .before .before .before .before .before .try-read .last .1 .0) (c .before .before .before .before .before .try-read .last .1 .1 .0) (c .before .before .before .before .before .try-read .result) (c .before .before .before .before .before .before .before .before .before .before .before .before .before .flush-sync .ensures) (c .before .before .before .before .before .before .before .before .address .ensures) (c .before .before .before .before .before .try-read .ensures) (c .if1 .taken)
 
-prefetch-read-trigger-bus-error-requires :
-    (t : ℕ) → prefetch-read-lts.Need-trigger-bus-error-requires (
-      flush-sync-reads.Asked,
-      flush-sync-reads.Learnt,
-      address-reads.Asked,
-      address-reads.Learnt,
-      try-read-reads.Asked,
-      try-read-reads.Learnt,
-      trigger-bus-error-below t,
-      trigger-bus-error.Post,
-    ) (prefetch-read-at t) prefetch-read.Post
+prefetch-read-trigger-bus-error-requires : (t : ℕ) → prefetch-read-lts.Need-trigger-bus-error-requires (prefetch-read-claims t) (prefetch-read-at t) prefetch-read.Post
 prefetch-read-trigger-bus-error-requires t c κs = (omega (arith, c .before .before .before .before .before .before .before .before .before .before .before .before .before .before .before .before .before .before .before .before .before .pre .0), tt)
 
 prefetch-read-same-length-3 : (t : ℕ) → prefetch-read-lts.Need-same-length-3 (prefetch-read-claims t) (prefetch-read-at t) prefetch-read.Post
@@ -590,26 +454,12 @@ prefetch-read-same-length-4 t c = c .before .before .before .before .trigger-bus
 prefetch-read-returns-2 : (t : ℕ) → prefetch-read-lts.Need-returns-2 (prefetch-read-claims t) (prefetch-read-at t) prefetch-read.Post
 prefetch-read-returns-2 t c = prefetch-read-way-2 (c .before .before .before .before .before .before .before .before .before .before .before .before .before .before .before .before .before .before .before .before .before .before .before .before .before .before .args .m) (now (c .before .before .before .before .before .before .before .before .before .before .before .before .before .before .before .before .before .before .before .before .before .before .before .before .before .before .args .store)) (now (c .before .before .before .before .before .before .before .before .before .before .before .before .before .before .before .before .before .before .before .before .before .before .before .before .before .before .args .log)) (c .before .before .before .before .before .before .before .before .before .before .before .before .before .before .before .before .before .before .before .before .before .before .before .before .before .before .args .levels) (c .before .before .before .before .before .before .before .before .before .before .before .before .before .before .before .before .before .before .before .before .before .before .before .before .before .before .args .address) (c .before .before .before .before .before .before .before .before .before .before .before .before .before .before .before .before .before .before .before .before .before .flush-sync .last .1 .0) (c .before .before .before .before .before .before .before .before .before .before .before .before .before .before .before .before .before .before .before .before .before .flush-sync .last .1 .1 .0) (c .before .before .before .before .before .before .before .before .before .before .before .before .before .before .before .before .before .before .before .before .before .flush-sync .result) (c .before .before .before .before .before .before .before .before .before .before .before .before .before .before .before .before .address .result) (c .before .before .before .before .before .before .before .before .before .before .before .before .before .try-read .last .1 .0) (c .before .before .before .before .before .before .before .before .before .before .before .before .before .try-read .last .1 .1 .0) (c .before .before .before .before .before .before .before .before .before .before .before .before .before .try-read .result) (c .before .before .before .before .trigger-bus-error .last .1 .0) (c .before .before .before .before .trigger-bus-error .last .1 .1 .0) (c .before .before .before .before .trigger-bus-error .result) (c .before .before .before .before .before .before .before .before .before .before .before .before .before .before .before .before .before .before .before .before .before .flush-sync .ensures) (c .before .before .before .before .before .before .before .before .before .before .before .before .before .before .before .before .address .ensures) (c .before .before .before .before .before .before .before .before .before .before .before .before .before .try-read .ensures) (c .before .before .before .before .before .before .before .before .if1 .left) (c .before .before .before .before .trigger-bus-error .ensures)
 
-prefetch-second-prefetch-enabled-requires :
-    (t : ℕ) → prefetch-second-lts.Need-prefetch-enabled-requires (
-      prefetch-enabled-reads.Asked,
-      prefetch-enabled-reads.Learnt,
-      wrapping-add-u32-reads.Asked,
-      wrapping-add-u32-reads.Learnt,
-      prefetch-read-below t,
-      prefetch-read.Post,
-      low-word-reads.Asked,
-      low-word-reads.Learnt,
-      second-word-reads.Asked,
-      second-word-reads.Learnt,
-      with-cpu-reads.Asked,
-      with-cpu-reads.Learnt,
-    ) (prefetch-second-at t) prefetch-second.Post
-prefetch-second-prefetch-enabled-requires t c κs = tt
-
 -- ---- prefetch-second
 abbrev prefetch-second-claims : ℕ → prefetch-second-lts.Claims
 prefetch-second-claims t = (prefetch-enabled-reads.Asked, prefetch-enabled-reads.Learnt, wrapping-add-u32-reads.Asked, wrapping-add-u32-reads.Learnt, prefetch-read-below t, prefetch-read.Post, low-word-reads.Asked, low-word-reads.Learnt, second-word-reads.Asked, second-word-reads.Learnt, with-cpu-reads.Asked, with-cpu-reads.Learnt)
+
+prefetch-second-prefetch-enabled-requires : (t : ℕ) → prefetch-second-lts.Need-prefetch-enabled-requires (prefetch-second-claims t) (prefetch-second-at t) prefetch-second.Post
+prefetch-second-prefetch-enabled-requires t c κs = tt
 
 prefetch-second-returns : (t : ℕ) → prefetch-second-lts.Need-returns (prefetch-second-claims t) (prefetch-second-at t) prefetch-second.Post
 prefetch-second-returns t c = prefetch-second-way (c .before .before .before .before .before .before .before .before .args .m) (now (c .before .before .before .before .before .before .before .before .args .store)) (now (c .before .before .before .before .before .before .before .before .args .log)) (c .before .before .before .before .before .before .before .before .args .levels) (c .before .before .before .before .before .prefetch-enabled .result) (c .before .before .before .before .before .prefetch-enabled .ensures) (c .before .before .before .before .if1 .taken) (c .before .before .if2 .taken) (c .if3 .taken)
@@ -617,21 +467,7 @@ prefetch-second-returns t c = prefetch-second-way (c .before .before .before .be
 prefetch-second-returns-2 : (t : ℕ) → prefetch-second-lts.Need-returns-2 (prefetch-second-claims t) (prefetch-second-at t) prefetch-second.Post
 prefetch-second-returns-2 t c = prefetch-second-way-2 (c .before .before .before .before .before .before .before .before .before .before .args .m) (now (c .before .before .before .before .before .before .before .before .before .before .args .store)) (now (c .before .before .before .before .before .before .before .before .before .before .args .log)) (c .before .before .before .before .before .before .before .before .before .before .args .levels) (c .before .before .before .before .before .before .before .prefetch-enabled .result) (c .before .before .before .before .before .before .before .prefetch-enabled .ensures) (c .before .before .before .before .before .before .if1 .taken) (c .before .before .before .before .if2 .taken) (c .before .before .if3 .left) (c .if4 .taken)
 
-prefetch-second-wrapping-add-u32-requires :
-    (t : ℕ) → prefetch-second-lts.Need-wrapping-add-u32-requires (
-      prefetch-enabled-reads.Asked,
-      prefetch-enabled-reads.Learnt,
-      wrapping-add-u32-reads.Asked,
-      wrapping-add-u32-reads.Learnt,
-      prefetch-read-below t,
-      prefetch-read.Post,
-      low-word-reads.Asked,
-      low-word-reads.Learnt,
-      second-word-reads.Asked,
-      second-word-reads.Learnt,
-      with-cpu-reads.Asked,
-      with-cpu-reads.Learnt,
-    ) (prefetch-second-at t) prefetch-second.Post
+prefetch-second-wrapping-add-u32-requires : (t : ℕ) → prefetch-second-lts.Need-wrapping-add-u32-requires (prefetch-second-claims t) (prefetch-second-at t) prefetch-second.Post
 prefetch-second-wrapping-add-u32-requires t c κs = tt
 
 prefetch-second-prefetch-read-requires : (t : ℕ) → prefetch-second-lts.Need-prefetch-read-requires (prefetch-second-claims t) (prefetch-second-at t) prefetch-second.Post
@@ -812,112 +648,28 @@ trigger-address-error-returns t c = trigger-address-error-way (c .before .before
 trigger-address-error-halt-requires : (t : ℕ) → trigger-address-error-lts.Need-halt-requires (trigger-address-error-claims t) (trigger-address-error-at t) trigger-address-error.Post
 trigger-address-error-halt-requires t c κs = tt
 
-trigger-address-error-with-cpu-requires :
-    (t : ℕ) → trigger-address-error-lts.Need-with-cpu-requires (
-      halt-reads.Asked,
-      halt-reads.Learnt,
-      with-cpu-reads.Asked,
-      with-cpu-reads.Learnt,
-      begin-address-reads.Asked,
-      begin-address-reads.Learnt,
-      exception-address-error-below t,
-      exception-address-error.Post,
-      keep-resume-reads.Asked,
-      keep-resume-reads.Learnt,
-    ) (trigger-address-error-at t) trigger-address-error.Post
+trigger-address-error-with-cpu-requires : (t : ℕ) → trigger-address-error-lts.Need-with-cpu-requires (trigger-address-error-claims t) (trigger-address-error-at t) trigger-address-error.Post
 trigger-address-error-with-cpu-requires t c κs = tt
 
 trigger-address-error-returns-2 : (t : ℕ) → trigger-address-error-lts.Need-returns-2 (trigger-address-error-claims t) (trigger-address-error-at t) trigger-address-error.Post
 trigger-address-error-returns-2 t c = trigger-address-error-way-2 (c .before .before .before .before .before .before .before .args .m) (now (c .before .before .before .before .before .before .before .args .store)) (now (c .before .before .before .before .before .before .before .args .log)) (c .before .before .before .before .before .before .before .args .levels) (c .before .before .before .before .before .before .before .args .address) (c .before .before .before .before .before .before .before .args .write) (c .before .before .before .before .before .before .before .args .instruction) (c .before .halt .result) (c .with-cpu .result) (c .before .before .before .if1 .left) (c .before .before .if2 .taken) (c .before .halt .ensures) (c .with-cpu .ensures)
 
-trigger-address-error-begin-address-requires :
-    (t : ℕ) → trigger-address-error-lts.Need-begin-address-requires (
-      halt-reads.Asked,
-      halt-reads.Learnt,
-      with-cpu-reads.Asked,
-      with-cpu-reads.Learnt,
-      begin-address-reads.Asked,
-      begin-address-reads.Learnt,
-      exception-address-error-below t,
-      exception-address-error.Post,
-      keep-resume-reads.Asked,
-      keep-resume-reads.Learnt,
-    ) (trigger-address-error-at t) trigger-address-error.Post
+trigger-address-error-begin-address-requires : (t : ℕ) → trigger-address-error-lts.Need-begin-address-requires (trigger-address-error-claims t) (trigger-address-error-at t) trigger-address-error.Post
 trigger-address-error-begin-address-requires t c κs = tt
 
-trigger-address-error-with-cpu-requires-2 :
-    (t : ℕ) → trigger-address-error-lts.Need-with-cpu-requires-2 (
-      halt-reads.Asked,
-      halt-reads.Learnt,
-      with-cpu-reads.Asked,
-      with-cpu-reads.Learnt,
-      begin-address-reads.Asked,
-      begin-address-reads.Learnt,
-      exception-address-error-below t,
-      exception-address-error.Post,
-      keep-resume-reads.Asked,
-      keep-resume-reads.Learnt,
-    ) (trigger-address-error-at t) trigger-address-error.Post
+trigger-address-error-with-cpu-requires-2 : (t : ℕ) → trigger-address-error-lts.Need-with-cpu-requires-2 (trigger-address-error-claims t) (trigger-address-error-at t) trigger-address-error.Post
 trigger-address-error-with-cpu-requires-2 t c κs = tt
 
-trigger-address-error-sub-exception-address-error :
-    (t : ℕ) → trigger-address-error-lts.Need-sub-exception-address-error (
-      halt-reads.Asked,
-      halt-reads.Learnt,
-      with-cpu-reads.Asked,
-      with-cpu-reads.Learnt,
-      begin-address-reads.Asked,
-      begin-address-reads.Learnt,
-      exception-address-error-below t,
-      exception-address-error.Post,
-      keep-resume-reads.Asked,
-      keep-resume-reads.Learnt,
-    ) (trigger-address-error-at t) trigger-address-error.Post
+trigger-address-error-sub-exception-address-error : (t : ℕ) → trigger-address-error-lts.Need-sub-exception-address-error (trigger-address-error-claims t) (trigger-address-error-at t) trigger-address-error.Post
 trigger-address-error-sub-exception-address-error t c = search needs
 
-trigger-address-error-exception-address-error-requires :
-    (t : ℕ) → trigger-address-error-lts.Need-exception-address-error-requires (
-      halt-reads.Asked,
-      halt-reads.Learnt,
-      with-cpu-reads.Asked,
-      with-cpu-reads.Learnt,
-      begin-address-reads.Asked,
-      begin-address-reads.Learnt,
-      exception-address-error-below t,
-      exception-address-error.Post,
-      keep-resume-reads.Asked,
-      keep-resume-reads.Learnt,
-    ) (trigger-address-error-at t) trigger-address-error.Post
+trigger-address-error-exception-address-error-requires : (t : ℕ) → trigger-address-error-lts.Need-exception-address-error-requires (trigger-address-error-claims t) (trigger-address-error-at t) trigger-address-error.Post
 trigger-address-error-exception-address-error-requires t c κs = (omega (arith, c .before .before .before .before .before .before .before .before .before .pre .0, c .before .before .before .before .if2 .left, c .before .before .before .before .before .if1 .left), tt)
 
-trigger-address-error-keep-resume-requires :
-    (t : ℕ) → trigger-address-error-lts.Need-keep-resume-requires (
-      halt-reads.Asked,
-      halt-reads.Learnt,
-      with-cpu-reads.Asked,
-      with-cpu-reads.Learnt,
-      begin-address-reads.Asked,
-      begin-address-reads.Learnt,
-      exception-address-error-below t,
-      exception-address-error.Post,
-      keep-resume-reads.Asked,
-      keep-resume-reads.Learnt,
-    ) (trigger-address-error-at t) trigger-address-error.Post
+trigger-address-error-keep-resume-requires : (t : ℕ) → trigger-address-error-lts.Need-keep-resume-requires (trigger-address-error-claims t) (trigger-address-error-at t) trigger-address-error.Post
 trigger-address-error-keep-resume-requires t c κs = tt
 
-trigger-address-error-with-cpu-requires-3 :
-    (t : ℕ) → trigger-address-error-lts.Need-with-cpu-requires-3 (
-      halt-reads.Asked,
-      halt-reads.Learnt,
-      with-cpu-reads.Asked,
-      with-cpu-reads.Learnt,
-      begin-address-reads.Asked,
-      begin-address-reads.Learnt,
-      exception-address-error-below t,
-      exception-address-error.Post,
-      keep-resume-reads.Asked,
-      keep-resume-reads.Learnt,
-    ) (trigger-address-error-at t) trigger-address-error.Post
+trigger-address-error-with-cpu-requires-3 : (t : ℕ) → trigger-address-error-lts.Need-with-cpu-requires-3 (trigger-address-error-claims t) (trigger-address-error-at t) trigger-address-error.Post
 trigger-address-error-with-cpu-requires-3 t c κs = tt
 
 trigger-address-error-same-length : (t : ℕ) → trigger-address-error-lts.Need-same-length (trigger-address-error-claims t) (trigger-address-error-at t) trigger-address-error.Post
@@ -960,34 +712,10 @@ trigger-bus-error-begin-bus-requires t c κs = tt
 trigger-bus-error-with-cpu-requires-3 : (t : ℕ) → trigger-bus-error-lts.Need-with-cpu-requires-3 (trigger-bus-error-claims t) (trigger-bus-error-at t) trigger-bus-error.Post
 trigger-bus-error-with-cpu-requires-3 t c κs = tt
 
-trigger-bus-error-sub-exception-bus-error :
-    (t : ℕ) → trigger-bus-error-lts.Need-sub-exception-bus-error (
-      halt-reads.Asked,
-      halt-reads.Learnt,
-      with-cpu-reads.Asked,
-      with-cpu-reads.Learnt,
-      begin-bus-reads.Asked,
-      begin-bus-reads.Learnt,
-      exception-bus-error-below t,
-      exception-bus-error.Post,
-      close-bus-reads.Asked,
-      close-bus-reads.Learnt,
-    ) (trigger-bus-error-at t) trigger-bus-error.Post
+trigger-bus-error-sub-exception-bus-error : (t : ℕ) → trigger-bus-error-lts.Need-sub-exception-bus-error (trigger-bus-error-claims t) (trigger-bus-error-at t) trigger-bus-error.Post
 trigger-bus-error-sub-exception-bus-error t c = search needs
 
-trigger-bus-error-exception-bus-error-requires :
-    (t : ℕ) → trigger-bus-error-lts.Need-exception-bus-error-requires (
-      halt-reads.Asked,
-      halt-reads.Learnt,
-      with-cpu-reads.Asked,
-      with-cpu-reads.Learnt,
-      begin-bus-reads.Asked,
-      begin-bus-reads.Learnt,
-      exception-bus-error-below t,
-      exception-bus-error.Post,
-      close-bus-reads.Asked,
-      close-bus-reads.Learnt,
-    ) (trigger-bus-error-at t) trigger-bus-error.Post
+trigger-bus-error-exception-bus-error-requires : (t : ℕ) → trigger-bus-error-lts.Need-exception-bus-error-requires (trigger-bus-error-claims t) (trigger-bus-error-at t) trigger-bus-error.Post
 trigger-bus-error-exception-bus-error-requires t c κs = (omega (arith, c .before .before .before .before .before .before .before .before .before .before .pre .0, c .before .before .before .before .if3 .left, c .before .before .before .before .before .before .if1 .left), tt)
 
 trigger-bus-error-close-bus-requires : (t : ℕ) → trigger-bus-error-lts.Need-close-bus-requires (trigger-bus-error-claims t) (trigger-bus-error-at t) trigger-bus-error.Post
@@ -1021,27 +749,7 @@ write-at-address-requires t c κs = tt
 write-at-refuses-odd-requires : (t : ℕ) → write-at-lts.Need-refuses-odd-requires (write-at-claims t) (write-at-at t) write-at.Post
 write-at-refuses-odd-requires t c κs = tt
 
-write-at-trigger-address-error-requires :
-    (t : ℕ) → write-at-lts.Need-trigger-address-error-requires (
-      flush-sync-reads.Asked,
-      flush-sync-reads.Learnt,
-      address-reads.Asked,
-      address-reads.Learnt,
-      refuses-odd-reads.Asked,
-      refuses-odd-reads.Learnt,
-      trigger-address-error-below t,
-      trigger-address-error.Post,
-      set-wdata-reads.Asked,
-      set-wdata-reads.Learnt,
-      with-cpu-reads.Asked,
-      with-cpu-reads.Learnt,
-      try-write-reads.Asked,
-      try-write-reads.Learnt,
-      width-reads.Asked,
-      width-reads.Learnt,
-      trigger-bus-error-below t,
-      trigger-bus-error.Post,
-    ) (write-at-at t) write-at.Post
+write-at-trigger-address-error-requires : (t : ℕ) → write-at-lts.Need-trigger-address-error-requires (write-at-claims t) (write-at-at t) write-at.Post
 write-at-trigger-address-error-requires t c κs = (omega (arith, c .before .before .before .before .before .before .before .before .before .before .before .before .before .before .before .before .pre .0, c .before .before .before .before .before .before .before .before .before .before .before .before .if1 .left), tt)
 
 write-at-same-length : (t : ℕ) → write-at-lts.Need-same-length (write-at-claims t) (write-at-at t) write-at.Post
@@ -1102,20 +810,7 @@ pub +exception-address-error+exception-bus-error+jump-vector+prefetch-first+pref
     μ-trigger-address-error
     μ-trigger-bus-error
     μ-write-at
-    (λ t. exception-address-error-lts.spec (
-      address-frame-reads.Asked,
-      address-frame-reads.Learnt,
-      enter-supervisor-reads.Asked,
-      enter-supervisor-reads.Learnt,
-      with-cpu-reads.Asked,
-      with-cpu-reads.Learnt,
-      count-reads.Asked,
-      count-reads.Learnt,
-      push-fields-below t,
-      push-fields.Post,
-      jump-vector-below t,
-      jump-vector.Post,
-    )
+    (λ t. exception-address-error-lts.spec (exception-address-error-claims t)
     (exception-address-error-at t)
     exception-address-error.Post
     (exception-address-error-address-frame-requires t)
@@ -1127,20 +822,7 @@ pub +exception-address-error+exception-bus-error+jump-vector+prefetch-first+pref
     (exception-address-error-same-length t)
     (exception-address-error-same-length-2 t)
     (exception-address-error-returns t))
-    (λ t. exception-bus-error-lts.spec (
-      bus-frame-reads.Asked,
-      bus-frame-reads.Learnt,
-      enter-bus-error-reads.Asked,
-      enter-bus-error-reads.Learnt,
-      with-cpu-reads.Asked,
-      with-cpu-reads.Learnt,
-      count-reads.Asked,
-      count-reads.Learnt,
-      push-fields-below t,
-      push-fields.Post,
-      jump-vector-below t,
-      jump-vector.Post,
-    )
+    (λ t. exception-bus-error-lts.spec (exception-bus-error-claims t)
     (exception-bus-error-at t)
     exception-bus-error.Post
     (exception-bus-error-bus-frame-requires t)
@@ -1152,26 +834,7 @@ pub +exception-address-error+exception-bus-error+jump-vector+prefetch-first+pref
     (exception-bus-error-same-length t)
     (exception-bus-error-same-length-2 t)
     (exception-bus-error-returns t))
-    (λ t. jump-vector-lts.spec (
-      release-sample-reads.Asked,
-      release-sample-reads.Learnt,
-      vector-address-reads.Asked,
-      vector-address-reads.Learnt,
-      start-vector-reads.Asked,
-      start-vector-reads.Learnt,
-      with-cpu-reads.Asked,
-      with-cpu-reads.Learnt,
-      read-at-below t,
-      read-at.Post,
-      set-pc-reads.Asked,
-      set-pc-reads.Learnt,
-      prefetch-first-below t,
-      prefetch-first.Post,
-      internal-cycles-reads.Asked,
-      internal-cycles-reads.Learnt,
-      prefetch-second-below t,
-      prefetch-second.Post,
-    )
+    (λ t. jump-vector-lts.spec (jump-vector-claims t)
     (jump-vector-at t)
     jump-vector.Post
     (jump-vector-release-sample-requires t)
@@ -1188,20 +851,7 @@ pub +exception-address-error+exception-bus-error+jump-vector+prefetch-first+pref
     (jump-vector-same-length t)
     (jump-vector-same-length-2 t)
     (jump-vector-returns t))
-    (λ t. prefetch-first-lts.spec (
-      prefetch-enabled-reads.Asked,
-      prefetch-enabled-reads.Learnt,
-      clear-prefetch-reads.Asked,
-      clear-prefetch-reads.Learnt,
-      with-cpu-reads.Asked,
-      with-cpu-reads.Learnt,
-      prefetch-read-below t,
-      prefetch-read.Post,
-      low-word-reads.Asked,
-      low-word-reads.Learnt,
-      first-word-reads.Asked,
-      first-word-reads.Learnt,
-    )
+    (λ t. prefetch-first-lts.spec (prefetch-first-claims t)
     (prefetch-first-at t)
     prefetch-first.Post
     (prefetch-first-prefetch-enabled-requires t)
@@ -1219,16 +869,7 @@ pub +exception-address-error+exception-bus-error+jump-vector+prefetch-first+pref
     (prefetch-first-same-length-4 t)
     (prefetch-first-returns-3 t)
     (prefetch-first-returns-4 t))
-    (λ t. prefetch-read-lts.spec (
-      flush-sync-reads.Asked,
-      flush-sync-reads.Learnt,
-      address-reads.Asked,
-      address-reads.Learnt,
-      try-read-reads.Asked,
-      try-read-reads.Learnt,
-      trigger-bus-error-below t,
-      trigger-bus-error.Post,
-    )
+    (λ t. prefetch-read-lts.spec (prefetch-read-claims t)
     (prefetch-read-at t)
     prefetch-read.Post
     (prefetch-read-flush-sync-requires t)
@@ -1241,20 +882,7 @@ pub +exception-address-error+exception-bus-error+jump-vector+prefetch-first+pref
     (prefetch-read-same-length-3 t)
     (prefetch-read-same-length-4 t)
     (prefetch-read-returns-2 t))
-    (λ t. prefetch-second-lts.spec (
-      prefetch-enabled-reads.Asked,
-      prefetch-enabled-reads.Learnt,
-      wrapping-add-u32-reads.Asked,
-      wrapping-add-u32-reads.Learnt,
-      prefetch-read-below t,
-      prefetch-read.Post,
-      low-word-reads.Asked,
-      low-word-reads.Learnt,
-      second-word-reads.Asked,
-      second-word-reads.Learnt,
-      with-cpu-reads.Asked,
-      with-cpu-reads.Learnt,
-    )
+    (λ t. prefetch-second-lts.spec (prefetch-second-claims t)
     (prefetch-second-at t)
     prefetch-second.Post
     (prefetch-second-prefetch-enabled-requires t)
@@ -1273,20 +901,7 @@ pub +exception-address-error+exception-bus-error+jump-vector+prefetch-first+pref
     (prefetch-second-returns-4 t)
     (prefetch-second-returns-5 t)
     (prefetch-second-returns-6 t))
-    (λ t. push-field-lts.spec (
-      width-reads.Asked,
-      width-reads.Learnt,
-      lower-a7-reads.Asked,
-      lower-a7-reads.Learnt,
-      with-cpu-reads.Asked,
-      with-cpu-reads.Learnt,
-      address-reads.Asked,
-      address-reads.Learnt,
-      raw-write-reads.Asked,
-      raw-write-reads.Learnt,
-      write-at-below t,
-      write-at.Post,
-    )
+    (λ t. push-field-lts.spec (push-field-claims t)
     (push-field-at t)
     push-field.Post
     (push-field-width-requires t)
@@ -1303,14 +918,7 @@ pub +exception-address-error+exception-bus-error+jump-vector+prefetch-first+pref
     (push-field-same-length-3 t)
     (push-field-same-length-4 t)
     (push-field-returns-3 t))
-    (λ t. push-fields-lts.spec (
-      field-at-reads.Asked,
-      field-at-reads.Learnt,
-      push-field-below t,
-      push-field.Post,
-      push-fields-below t,
-      push-fields.Post,
-    )
+    (λ t. push-fields-lts.spec (push-fields-claims t)
     (push-fields-at t)
     push-fields.Post
     (push-fields-returns t)
@@ -1322,22 +930,7 @@ pub +exception-address-error+exception-bus-error+jump-vector+prefetch-first+pref
     (push-fields-same-length t)
     (push-fields-same-length-2 t)
     (push-fields-returns-2 t))
-    (λ t. read-at-lts.spec (
-      flush-sync-reads.Asked,
-      flush-sync-reads.Learnt,
-      address-reads.Asked,
-      address-reads.Learnt,
-      refuses-odd-reads.Asked,
-      refuses-odd-reads.Learnt,
-      trigger-address-error-below t,
-      trigger-address-error.Post,
-      try-read-reads.Asked,
-      try-read-reads.Learnt,
-      width-reads.Asked,
-      width-reads.Learnt,
-      trigger-bus-error-below t,
-      trigger-bus-error.Post,
-    )
+    (λ t. read-at-lts.spec (read-at-claims t)
     (read-at-at t)
     read-at.Post
     (read-at-returns t)
@@ -1357,18 +950,7 @@ pub +exception-address-error+exception-bus-error+jump-vector+prefetch-first+pref
     (read-at-same-length-5 t)
     (read-at-same-length-6 t)
     (read-at-returns-4 t))
-    (λ t. trigger-address-error-lts.spec (
-      halt-reads.Asked,
-      halt-reads.Learnt,
-      with-cpu-reads.Asked,
-      with-cpu-reads.Learnt,
-      begin-address-reads.Asked,
-      begin-address-reads.Learnt,
-      exception-address-error-below t,
-      exception-address-error.Post,
-      keep-resume-reads.Asked,
-      keep-resume-reads.Learnt,
-    )
+    (λ t. trigger-address-error-lts.spec (trigger-address-error-claims t)
     (trigger-address-error-at t)
     trigger-address-error.Post
     (trigger-address-error-returns t)
@@ -1384,18 +966,7 @@ pub +exception-address-error+exception-bus-error+jump-vector+prefetch-first+pref
     (trigger-address-error-same-length t)
     (trigger-address-error-same-length-2 t)
     (trigger-address-error-returns-3 t))
-    (λ t. trigger-bus-error-lts.spec (
-      halt-reads.Asked,
-      halt-reads.Learnt,
-      with-cpu-reads.Asked,
-      with-cpu-reads.Learnt,
-      begin-bus-reads.Asked,
-      begin-bus-reads.Learnt,
-      exception-bus-error-below t,
-      exception-bus-error.Post,
-      close-bus-reads.Asked,
-      close-bus-reads.Learnt,
-    )
+    (λ t. trigger-bus-error-lts.spec (trigger-bus-error-claims t)
     (trigger-bus-error-at t)
     trigger-bus-error.Post
     (trigger-bus-error-returns t)
@@ -1414,26 +985,7 @@ pub +exception-address-error+exception-bus-error+jump-vector+prefetch-first+pref
     (trigger-bus-error-same-length t)
     (trigger-bus-error-same-length-2 t)
     (trigger-bus-error-returns-4 t))
-    λ t. write-at-lts.spec (
-      flush-sync-reads.Asked,
-      flush-sync-reads.Learnt,
-      address-reads.Asked,
-      address-reads.Learnt,
-      refuses-odd-reads.Asked,
-      refuses-odd-reads.Learnt,
-      trigger-address-error-below t,
-      trigger-address-error.Post,
-      set-wdata-reads.Asked,
-      set-wdata-reads.Learnt,
-      with-cpu-reads.Asked,
-      with-cpu-reads.Learnt,
-      try-write-reads.Asked,
-      try-write-reads.Learnt,
-      width-reads.Asked,
-      width-reads.Learnt,
-      trigger-bus-error-below t,
-      trigger-bus-error.Post,
-    )
+    λ t. write-at-lts.spec (write-at-claims t)
     (write-at-at t)
     write-at.Post
     (write-at-returns t)
