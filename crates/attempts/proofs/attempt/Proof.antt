@@ -16,25 +16,25 @@ use Rattle.fast_frames.proofs.go.Reads as go-reads′
 use Rattle.fast_frames.proofs.rows.is_framed.Reads as is-framed-reads
 
 is-tidy-requires : tie.Need-is-tidy-requires
-is-tidy-requires c κs = search needs
+is-tidy-requires c κs = tt
 
 fits-requires : tie.Need-fits-requires
-fits-requires c κs = search needs
+fits-requires c κs = tt
 
 view-requires : tie.Need-view-requires
-view-requires c κs = search needs
+view-requires c κs = tt
 
 is-framed-requires : tie.Need-is-framed-requires
-is-framed-requires c κs = search needs
+is-framed-requires c κs = tt
 
 go-requires : tie.Need-go-requires
-go-requires c κs = search needs
+go-requires c κs = tt
 
 words-requires : tie.Need-words-requires
-words-requires c κs = search needs
+words-requires c κs = tt
 
 hand-over-requires : tie.Need-hand-over-requires
-hand-over-requires c κs = search needs
+hand-over-requires c κs = tt
 
 same-length : tie.Need-same-length
 same-length c = search needs
@@ -47,13 +47,13 @@ returns c =
     framed-way _ _ _ _ (c .before .before .before .before .before .before .before .before .before .before .before .before .before .before .before .before .before .is-tidy .ensures) (c .before .before .before .before .before .before .before .before .before .before .before .before .before .before .before .before .if1 .taken) (c .before .before .before .before .before .before .before .before .before .before .before .before .fits2 .ensures) (c .before .before .before .before .before .before .before .before .before .before .before .view .ensures) (c .before .before .before .before .before .before .go .ensures) (c .before .words .ensures) (c .hand-over .ensures)
 
 go-requires-2 : tie.Need-go-requires-2
-go-requires-2 c κs = search needs
+go-requires-2 c κs = tt
 
 words-requires-2 : tie.Need-words-requires-2
-words-requires-2 c κs = search needs
+words-requires-2 c κs = tt
 
 hand-over-requires-2 : tie.Need-hand-over-requires-2
-hand-over-requires-2 c κs = search needs
+hand-over-requires-2 c κs = tt
 
 same-length-3 : tie.Need-same-length-3
 same-length-3 c = search needs
@@ -66,10 +66,10 @@ returns-2 c =
     attempt-way _ _ _ _ (c .before .before .before .before .before .before .before .before .before .before .before .before .before .before .before .before .before .is-tidy .ensures) (c .before .before .before .before .before .before .before .before .before .before .before .before .before .before .before .before .if1 .taken) (c .before .before .before .before .before .before .before .before .before .before .before .before .fits2 .ensures) (c .before .before .before .before .before .before .before .before .before .before .before .view .ensures) (c .before .before .before .before .before .before .go2 .ensures) (c .before .words2 .ensures) (c .hand-over2 .ensures)
 
 none-requires : tie.Need-none-requires
-none-requires c κs = search needs
+none-requires c κs = tt
 
 hand-over-requires-3 : tie.Need-hand-over-requires-3
-hand-over-requires-3 c κs = search needs
+hand-over-requires-3 c κs = tt
 
 returns-3 : tie.Need-returns-3
 returns-3 c = attempt-way-2 _ _ _ _ (c .before .none .ensures) (c .hand-over3 .ensures)

@@ -14,22 +14,22 @@ use Rattle.fast.proofs.own.take_exception.Reads as take-exception-reads
 use Rattle.fast_plans.proofs.none.Reads as none-reads
 
 is-tidy-requires : tie.Need-is-tidy-requires
-is-tidy-requires c κs = search needs
+is-tidy-requires c κs = tt
 
 fits-requires : tie.Need-fits-requires
-fits-requires c κs = search needs
+fits-requires c κs = tt
 
 view-requires : tie.Need-view-requires
-view-requires c κs = search needs
+view-requires c κs = tt
 
 take-exception-requires : tie.Need-take-exception-requires
-take-exception-requires c κs = search needs
+take-exception-requires c κs = tt
 
 words-requires : tie.Need-words-requires
-words-requires c κs = search needs
+words-requires c κs = tt
 
 hand-over-requires : tie.Need-hand-over-requires
-hand-over-requires c κs = search needs
+hand-over-requires c κs = tt
 
 same-length : tie.Need-same-length
 same-length c = search needs
@@ -42,10 +42,10 @@ returns c =
     attempt-way _ _ _ _ (c .before .before .before .before .before .before .before .before .before .before .before .before .before .before .before .is-tidy .ensures) (c .before .before .before .before .before .before .before .before .before .before .before .before .before .before .if1 .taken) (c .before .before .before .before .before .before .before .before .before .before .fits2 .ensures) (c .before .before .before .before .before .before .before .before .before .view .ensures) (c .before .before .before .before .before .before .take-exception .ensures) (c .before .words .ensures) (c .hand-over .ensures)
 
 none-requires : tie.Need-none-requires
-none-requires c κs = search needs
+none-requires c κs = tt
 
 hand-over-requires-2 : tie.Need-hand-over-requires-2
-hand-over-requires-2 c κs = search needs
+hand-over-requires-2 c κs = tt
 
 returns-2 : tie.Need-returns-2
 returns-2 c = attempt-way-2 _ _ _ _ (c .before .none .ensures) (c .hand-over2 .ensures)

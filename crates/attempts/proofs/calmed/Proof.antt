@@ -1,10 +1,4 @@
-use mathlib.Core.Path.{_≡_, refl, sym, ap, _∙_}
-use native.Mathlib.Omega.{arith}
-use lib.ListN.{length-set}
-use borrow.Author.Tests.{lt-ltb, le-ltb, eq-eqb, ne-eqb}
-use Rattle.memory.specs.Log.{withEvents}
-use Rattle.attempts.specs.Attempts.{calmedBy}
-use borrow.Author.Needs.{needs}
+use Rattle.attempts.proofs.Ways.{calmed-way}
 use Rattle.attempts.proofs.calmed.Statement.{statement}
 use Rattle.attempts.proofs.calmed.Tie as tie
 use Rattle.attempts.proofs.calmed.Reads as reads
@@ -12,11 +6,10 @@ use Rattle.attempts.proofs.calmed.Lts as lts
 use Rattle.attempts.proofs.patches.calmed_cpu.Reads as calmed-cpu-reads
 
 calmed-cpu-requires : tie.Need-calmed-cpu-requires
-calmed-cpu-requires c κs = search needs
+calmed-cpu-requires c κs = tt
 
 returns : tie.Need-returns
-unfolding calmedBy
-returns c = cc
+returns c = calmed-way _ _ _ (c .before .calmed-cpu .ensures)
 
 pub calmed-spec : {M : Type 1} → statement M
 calmed-spec = tie.close (tie.spec calmed-cpu-requires returns)

@@ -10,13 +10,13 @@ use Rattle.records.proofs.raise.core.Reads as core-reads
 use Rattle.attempts.proofs.record_after.Reads as record-after-reads
 
 core-requires : tie.Need-core-requires
-core-requires c κs = search needs
+core-requires c κs = tt
 
 raw-call-requires : tie.Need-raw-call-requires
-raw-call-requires c κs = search needs
+raw-call-requires c κs = tt
 
 record-after-requires : tie.Need-record-after-requires
-record-after-requires c κs = search needs
+record-after-requires c κs = tt
 
 same-length : tie.Need-same-length
 same-length c = search needs

@@ -1,6 +1,4 @@
-use mathlib.Core.Path.{_≡_, refl}
-use Rattle.attempts.specs.Lent.{setSr}
-use borrow.Author.Needs.{needs}
+use Rattle.attempts.proofs.Ways.{set-sr-way}
 use Rattle.attempts.proofs.set_sr.Statement.{statement}
 use Rattle.attempts.proofs.set_sr.Tie as tie
 use Rattle.attempts.proofs.set_sr.Reads as reads
@@ -10,17 +8,16 @@ use Rattle.status.proofs.banks.restore_sp.Reads as restore-sp-reads
 use Rattle.status.proofs.set_sr_noint_nosp.Reads as set-sr-noint-nosp-reads
 
 backup-sp-requires : tie.Need-backup-sp-requires
-backup-sp-requires c κs = search needs
+backup-sp-requires c κs = tt
 
 set-sr-noint-nosp-requires : tie.Need-set-sr-noint-nosp-requires
-set-sr-noint-nosp-requires c κs = search needs
+set-sr-noint-nosp-requires c κs = tt
 
 restore-sp-requires : tie.Need-restore-sp-requires
-restore-sp-requires c κs = search needs
+restore-sp-requires c κs = tt
 
 returns : tie.Need-returns
-unfolding setSr
-returns c = cc
+returns c = set-sr-way _ _ _ _ _ (c .before .before .backup-sp .ensures) (c .before .set-sr-noint-nosp .ensures) (c .restore-sp .ensures)
 
 pub set-sr-spec : {M : Type 1} → statement M
 set-sr-spec =

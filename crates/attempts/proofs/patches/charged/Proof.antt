@@ -5,7 +5,6 @@ use borrow.Author.Tests.{lt-ltb, le-ltb, eq-eqb, ne-eqb}
 use mir.Syntax.{w32}
 use mir.Facts.{toZ-ofZ}
 use Rattle.attempts.specs.Attempts.{chargedBy}
-use borrow.Author.Needs.{needs}
 use Rattle.attempts.proofs.patches.charged.Statement.{statement}
 use Rattle.attempts.proofs.patches.charged.Tie as tie
 use Rattle.attempts.proofs.patches.charged.Reads as reads
@@ -13,7 +12,7 @@ use Rattle.attempts.proofs.patches.charged.Lts as lts
 use Rattle.pending.proofs.interrupts.less_cycles.Reads as less-cycles-reads
 
 less-cycles-requires : tie.Need-less-cycles-requires
-less-cycles-requires c κs = search needs
+less-cycles-requires c κs = tt
 
 returns : tie.Need-returns
 unfolding chargedBy

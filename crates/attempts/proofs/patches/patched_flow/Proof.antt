@@ -5,7 +5,6 @@ use borrow.Author.Tests.{lt-ltb, le-ltb, eq-eqb, ne-eqb}
 use mir.Syntax.{w32}
 use mir.Facts.{toZ-ofZ}
 use Rattle.attempts.specs.Attempts.{patchedFlow}
-use borrow.Author.Needs.{needs}
 use Rattle.attempts.proofs.patches.patched_flow.Statement.{statement}
 use Rattle.attempts.proofs.patches.patched_flow.Tie as tie
 use Rattle.attempts.proofs.patches.patched_flow.Reads as reads
@@ -13,10 +12,10 @@ use Rattle.attempts.proofs.patches.patched_flow.Lts as lts
 use Rattle.attempts.proofs.patches.charged.Reads as charged-reads
 
 charged-requires : tie.Need-charged-requires
-charged-requires c κs = search needs
+charged-requires c κs = tt
 
 choose-requires : tie.Need-choose-requires
-choose-requires c κs = search needs
+choose-requires c κs = tt
 
 returns : tie.Need-returns
 unfolding patchedFlow

@@ -15,16 +15,16 @@ array-read-choose16 : tie.Need-array-read-choose16
 array-read-choose16 c = search needs
 
 choose16-requires : tie.Need-choose16-requires
-choose16-requires c κs = search needs
+choose16-requires c κs = tt
 
 array-read-choose16-2 : tie.Need-array-read-choose16-2
 array-read-choose16-2 c = search needs
 
 choose16-requires-2 : tie.Need-choose16-requires-2
-choose16-requires-2 c κs = search needs
+choose16-requires-2 c κs = tt
 
 choose8-requires : tie.Need-choose8-requires
-choose8-requires c κs = search needs
+choose8-requires c κs = tt
 
 element-write-g : tie.Need-element-write-g
 element-write-g c = search needs

@@ -4,7 +4,6 @@ use lib.ListN.{length-set}
 use borrow.Author.Tests.{lt-ltb, le-ltb, eq-eqb, ne-eqb}
 use mir.Syntax.{w32}
 use mir.Facts.{toZ-ofZ}
-use borrow.Author.Needs.{needs}
 use Rattle.attempts.proofs.views.has_room.Statement.{statement}
 use Rattle.attempts.proofs.views.has_room.Tie as tie
 use Rattle.attempts.proofs.views.has_room.Reads as reads
@@ -12,7 +11,7 @@ use Rattle.attempts.proofs.views.has_room.Lts as lts
 use Rattle.pending.proofs.interrupts.has_room.Reads as has-room-reads
 
 has-room-requires : tie.Need-has-room-requires
-has-room-requires c κs = search needs
+has-room-requires c κs = tt
 
 returns : tie.Need-returns
 returns c = let back = toZ-ofZ {w = w32} {z = c .before .before .args .f .«cycles_remaining»} (record { sfits = c .before .struct-told .given .1 .1 .1 .1 .1 .1 .1 .1 .1 .1 .1 .0 .1 }) in rw back at (c .has-room .ensures)

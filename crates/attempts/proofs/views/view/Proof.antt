@@ -11,7 +11,7 @@ use Rattle.attempts.proofs.views.view.Lts as lts
 use Rattle.attempts.proofs.views.has_room.Reads as has-room-reads
 
 has-room-requires : tie.Need-has-room-requires
-has-room-requires c κs = search needs
+has-room-requires c κs = tt
 
 element-copy-out-t8 : tie.Need-element-copy-out-t8
 element-copy-out-t8 c = search needs
