@@ -16,8 +16,9 @@ use Rattle.boundary.specs.declared.RawCall.{RawCall}
 use Rattle.boundary.specs.declared.RawAnswer.{RawAnswer}
 use Rattle.boundary.specs.Calls.{outcome, rawCall}
 use Rattle.unwind.specs.declared.Returned.{Returned}
-use Rattle.unwind.specs.Unwind.{returnFrom, walkFrom}
+use Rattle.unwind.specs.Unwind.{returnFrom}
 use Rattle.unwind.specs.Returns.{Walk}
+use Rattle.unwind.specs.Unwind.{walkFrom}
 use Rattle.fast_plans.specs.declared.Patch.{Patch}
 use Rattle.records.specs.declared.LentCpu.{LentCpu}
 use Rattle.records.specs.declared.LentCore.{LentCore}
