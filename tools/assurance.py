@@ -5,7 +5,7 @@ A reference stands in backticks, in one of these forms; paths count from the roo
 
     CRATE/specs/File: name, name       crates/CRATE/specs/File.antt declares each name `pub`
     CRATE/src/file.rt: name            crates/CRATE/src/file.rt has the function
-    CRATE/must-fail/name.edit          the edit is there
+    CRATE/must-fail/name.edit          the edit is there; CRATE/must-fail-long/name.edit one that ./test leaves out
     path/file.rs: name                 the Rust file has the test `fn name`
     path                               the file or folder is there (a slash in it)
     name                               a file in specs/ or src/ of some crate has the word
@@ -37,7 +37,7 @@ UNEQUAL = {
 NAME = r"[^\s,:`/()]+"
 SPEC = re.compile(rf"(\w+)/specs/(\w+): ({NAME}(?:, {NAME})*)")
 SOURCE = re.compile(rf"(\w+)/src/([\w/]+\.rt): (\w+(?:, \w+)*)")
-EDIT = re.compile(r"(\w+)/must-fail/(\w+)\.edit")
+EDIT = re.compile(r"(\w+)/must-fail(?:-long)?/(\w+)\.edit")
 TEST = re.compile(r"([\w/.-]+\.rs): (\w+(?:, \w+)*)")
 PATH = re.compile(r"[\w.-]*(?:/[\w.-]*)+")
 WORD = re.compile(r"[\w·′-]+")
@@ -48,7 +48,7 @@ ROWS = ([f"D{n}" for n in (1, 2, 3)] + [f"P{n}" for n in range(1, 12)] + ["Also"
         + [f"M{n}" for n in range(1, 5)] + [f"F{n}" for n in range(1, 10)] + [f"N{n}" for n in range(1, 15)])
 
 WRONG = ["types/specs/Tables: exceptionCycle", "types/specs/Tables: exceptionCycles, nothing", "types/specs/Table: exceptionCycles",
-         "typo/specs/Tables: exceptionCycles", "types/must-fail/none.edit", "calls/src/lib.rt: performs", "host/tests/boundary.rs: calls",
+         "typo/specs/Tables: exceptionCycles", "types/must-fail/none.edit", "types/must-fail-long/none.edit", "calls/src/lib.rt: performs", "host/tests/boundary.rs: calls",
          "host/tests/boundary.rs: no_such_test", "host/tests/none.rs: no_such_test", "docs/NONE.md", "noSuchWordAnywhere", "two words",
          "types/specs/Tables:exceptionCycles", "Tables: exceptionCycles"]
 WRONG_LINES = ["see docs/NONE.md.", "see (docs/DECISIONS.md, 999)", "a `backtick", "`types/specs/Tables: exceptionCycles` and `docs/NONE.md`"]
