@@ -2,6 +2,8 @@
 // level less at each trigger. It uses `steps`, `frames`, `memory` and everything below; `exceptions` and `interrupts` push their frames and
 // jump through it, and `calls` calls it. Here are the Rust's names over the functions that call each other, with two levels: inside the
 // domain more change nothing.
+#![tactic(auto)]
+
 use frames::Frame;
 use memory::{Core, Reply};
 

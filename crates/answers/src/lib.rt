@@ -1,6 +1,8 @@
 // What a call is, what it is given and what it answers: one enum of calls, the matter of each that decides which numbers it checks, and the
 // answers with record and bus after a call. It uses `refusals`, `interrupts`, `exceptions` and everything below; `calls` uses it, and
 // whoever makes a call or reads an answer.
+#![tactic(auto)]
+
 use cpu::Cpu;
 use exceptions::Entered;
 use interrupts::Serviced;
@@ -15,7 +17,7 @@ ghost use Rattle.memory.specs.World.{put_cpu};
 ghost use Rattle.answers.specs.Answers.{eventsOf};
 
 // The calls, in the order of the case format and by the names of the Rust.
-#[derive(Drop)]
+#[derive(Clone, Copy)]
 pub enum Call {
     TakeException(u32),
     Trap(u8),
@@ -50,7 +52,7 @@ pub enum Call {
 }
 
 // What a call answers, with the number of its events; or the number of its refusal.
-#[derive(Drop)]
+#[derive(Clone, Copy)]
 pub enum Answer {
     Cycles(u32, u32),
     Flag(bool, u32),
@@ -60,7 +62,7 @@ pub enum Answer {
 }
 
 // Record and bus after a call, and its answer.
-#[derive(Drop)]
+#[derive(Clone, Copy)]
 pub struct Performed {
     pub core: Core,
     pub answer: Answer,

@@ -1,6 +1,8 @@
 // The calls over a lent record by value: the plain way of each, and the fast way that is tried first. What is tried tests everything and then
 // writes, or touches nothing; its patch is laid into the lent record by the exported call. It uses `fast`, `fast_frames`, `fast_return`, `boundary`,
 // `unwind`, `records` and `status`; `lent` exports the calls.
+#![tactic(auto)]
+
 use cpu::Cpu;
 use fast_plans::Patch;
 use fast_return::ReturnPatch;
@@ -22,7 +24,7 @@ ghost use Rattle.attempts.specs.Restored.{restored_by, TriedReturn};
 
 // What a call says. `refused` is 0, the number of the refusal, or 99 where the number names no call.
 #[repr(C)]
-#[derive(Drop)]
+#[derive(Clone, Copy)]
 pub struct Said {
     pub refused: u32,
     pub answer: u32,
@@ -31,21 +33,21 @@ pub struct Said {
 
 // What a return says: 0 and its row, or the number of the refusal and a row of zeros.
 #[repr(C)]
-#[derive(Drop)]
+#[derive(Clone, Copy)]
 pub struct SaidReturn {
     pub refused: u32,
     pub row: Row,
 }
 
 // What the functions by value hand back: the lent record after a call, and what the call says.
-#[derive(Drop)]
+#[derive(Clone, Copy)]
 pub struct Served {
     pub said: Said,
     pub core: LentCore,
 }
 
 // What an attempt hands back: whether it did the call, in one of three ways, and then what the call says and the patch of the record.
-#[derive(Drop)]
+#[derive(Clone, Copy)]
 pub struct Attempted {
     pub said: Said,
     pub idle: bool,
@@ -54,21 +56,21 @@ pub struct Attempted {
     pub patch: Patch,
 }
 
-#[derive(Drop)]
+#[derive(Clone, Copy)]
 pub struct ServedReturn {
     pub said: SaidReturn,
     pub core: LentCore,
 }
 
 // The same of a return, in one way.
-#[derive(Drop)]
+#[derive(Clone, Copy)]
 pub struct AttemptedReturn {
     pub said: SaidReturn,
     pub ok: bool,
     pub patch: ReturnPatch,
 }
 
-#[derive(Drop)]
+#[derive(Clone, Copy)]
 pub struct ServedStatus {
     pub status: u32,
     pub cpu: LentCpu,

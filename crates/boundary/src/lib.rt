@@ -1,6 +1,8 @@
 // The calls by number: a call given as numbers, on a record and a bus by value and lent slices, and its answer as numbers. The numbers are
 // those of the case format. It uses `calls`, `answers` and `numbers`; `fast_laws`, `fast_calls`, `sessions`, `attempts`
 // and `replay` use it.
+#![tactic(auto)]
+
 ghost use Rattle.std.specs.Prelude.{◌≡◌, true, false, eqb, ◌%◌};
 ghost use Rattle.memory.specs.World.{world};
 ghost use Rattle.types.specs.Causes.{cause_of};
@@ -14,7 +16,7 @@ use numbers::RawCall;
 
 // `refused` is 0, the number of the refusal, or 99 where the number names no call.
 #[repr(C)]
-#[derive(Drop)]
+#[derive(Clone, Copy)]
 pub struct RawAnswer {
     pub core: Core,
     pub refused: u32,
@@ -23,7 +25,7 @@ pub struct RawAnswer {
 }
 
 // A call by number is a call, or none.
-#[derive(Drop)]
+#[derive(Clone, Copy)]
 pub enum Decoded {
     Known(Call),
     Unknown,

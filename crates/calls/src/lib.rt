@@ -1,5 +1,7 @@
 // The public calls: one function that refuses a call by number, with nothing touched, or performs it. It uses `answers` for calls and
 // answers, `refusals`, `interrupts`, `exceptions`, `access` and everything below; `boundary` takes it by number.
+#![tactic(auto)]
+
 ghost use Rattle.std.specs.Prelude.{◌≡◌, eqb};
 ghost use Rattle.memory.specs.World.{world, reply, tried};
 ghost use Rattle.answers.specs.Answers.{answered};

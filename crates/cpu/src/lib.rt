@@ -5,26 +5,28 @@
 //
 // An option of the Rust is a struct with a flag and a value; where the flag is false the value means nothing. A fault cause is
 // a number here, 0 for none, so that the record crosses the C boundary. Masks follow from the kind and are no fields.
+#![tactic(auto)]
+
 pub mod clocks; // clocks that wait to be reported, and the prefetch queue
 pub mod fields; // registers, flow and faults, one field at a time
 pub mod fresh; // a record as `new()` and `set_cpu_type` leave it
 
 #[repr(C)]
-#[derive(Drop)]
+#[derive(Clone, Copy)]
 pub struct OptionalVector {
     pub some: bool,
     pub value: u32,
 }
 
 #[repr(C)]
-#[derive(Drop)]
+#[derive(Clone, Copy)]
 pub struct OptionalCode {
     pub some: bool,
     pub value: u8,
 }
 
 #[repr(C)]
-#[derive(Drop)]
+#[derive(Clone, Copy)]
 pub struct Regs {
     pub dar: [u32; 16],
     pub dar_save: [u32; 16],
@@ -32,7 +34,7 @@ pub struct Regs {
 }
 
 #[repr(C)]
-#[derive(Drop)]
+#[derive(Clone, Copy)]
 pub struct Flow {
     pub ppc: u32,
     pub pc: u32,
@@ -49,7 +51,7 @@ pub struct Flow {
 }
 
 #[repr(C)]
-#[derive(Drop)]
+#[derive(Clone, Copy)]
 pub struct Flags {
     pub t1_flag: u32,
     pub t0_flag: u32,
@@ -66,7 +68,7 @@ pub struct Flags {
 }
 
 #[repr(C)]
-#[derive(Drop)]
+#[derive(Clone, Copy)]
 pub struct Queue {
     pub prefetch_queue: [u16; 2],
     pub prefetch_count: u8,
@@ -75,7 +77,7 @@ pub struct Queue {
 }
 
 #[repr(C)]
-#[derive(Drop)]
+#[derive(Clone, Copy)]
 pub struct Fault {
     pub instruction_exception_vector: OptionalVector,
     pub last_exception_vector: OptionalVector,
@@ -85,7 +87,7 @@ pub struct Fault {
 }
 
 #[repr(C)]
-#[derive(Drop)]
+#[derive(Clone, Copy)]
 pub struct Resume {
     pub some: bool,
     pub pc: u32,
@@ -94,7 +96,7 @@ pub struct Resume {
 }
 
 #[repr(C)]
-#[derive(Drop)]
+#[derive(Clone, Copy)]
 pub struct Cpu {
     pub regs: Regs,
     pub flow: Flow,

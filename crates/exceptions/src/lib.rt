@@ -1,5 +1,7 @@
 // The exceptions that are no errors: `take_exception` and the wrappers around it, the group 2 exceptions, trace, and the two floating-point
 // entries of the 68060. It uses `formats`, `access` and everything below; `answers` and `calls` use it.
+#![tactic(auto)]
+
 ghost use Rattle.std.specs.Prelude.{◌≡◌};
 ghost use Rattle.types.specs.Vectors.{illegal_instruction, zero_divide, chk, privilege_violation, line1010, line1111};
 ghost use Rattle.memory.specs.World.{world};
@@ -8,7 +10,7 @@ ghost use Rattle.exceptions.specs.Exceptions.{entry, stack_short, taken, take_ex
 use memory::Core;
 
 // A core after an entry, and the cycles that the entry answers.
-#[derive(Drop)]
+#[derive(Clone, Copy)]
 pub struct Entered {
     pub core: Core,
     pub cycles: u32,

@@ -6,7 +6,7 @@ use crate::bytes;
 use fast_plans::{View, places};
 
 // A jump: the address of its vector, the handler, and the two words of the queue where there is one.
-#[derive(Drop)]
+#[derive(Clone, Copy)]
 pub struct Landing {
     pub ok: bool,
     pub from: u32,

@@ -2,6 +2,8 @@
 // window counts. Everything is tested first; then store and log are written, or nothing is. What the record becomes is said as numbers (`Patch`),
 // so that no record is copied. It uses `fast_plans` for what is to be written, and `numbers` for the call by number; `attempts` and `fast_calls`
 // try it before the plain way, and `fast_frames` uses its jumps.
+#![tactic(auto)]
+
 use fast_plans::places::Spot;
 use fast_plans::plans::Plan;
 use fast_plans::{Patch, View, places};

@@ -1,6 +1,8 @@
 // The call by number and the return by value, the fast way first: what `fast` and `fast_return` take is done by numbers and laid into the
 // record; what they do not take they have not touched, and it goes the plain way. The contracts are those of the plain ones, word for word. It uses
 // `fast`, `fast_return`, `boundary`, `unwind`, `pending` and the record's crates; `sessions` uses it.
+#![tactic(auto)]
+
 use boundary::RawAnswer;
 use fast_return::ReturnPatch;
 use memory::Core;

@@ -1,6 +1,8 @@
 // The fast way of entries whose frame is data: its fields, all guarded, are written from the last down to the first where nothing is refused
 // and nothing faults. Everything is tested first, as in `fast`, and what the record becomes is said as numbers. It uses `fast` for the tests, the
 // places and the jump, `frames` and `formats` for the frames and `numbers` for the call by number; `attempts` tries it before the plain way.
+#![tactic(auto)]
+
 use fast::landings::Landing;
 use fast_plans::places::Spot;
 use fast_plans::{Patch, View, places};

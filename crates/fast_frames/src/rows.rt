@@ -9,7 +9,7 @@ use frames::Frame;
 use numbers::RawCall;
 
 // An entry: the bytes of its frame, all of whose fields are guarded, or 0; its vector and the cycles that it answers.
-#[derive(Drop)]
+#[derive(Clone, Copy)]
 pub struct FrameRow {
     pub bytes: u32,
     pub vector: u32,

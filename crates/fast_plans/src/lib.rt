@@ -1,6 +1,8 @@
 // A call as numbers: what the fast way reads of a record (`View`), which records it takes, where a frame lies (`places`), what an entry writes
 // (`plans`), and what a call without an access leaves (`quiet`). Nothing here reads or writes a store or a log. It uses `numbers` for the call by
 // number, `status`, `steps` and `types`; `fast` and `fast_frames` write what is planned here.
+#![tactic(auto)]
+
 use cpu::Flags;
 
 pub mod places; // where a frame lies
@@ -12,7 +14,7 @@ ghost use Rattle.fast_plans.specs.Views.{span_of, is_other, accepts_of};
 ghost use Rattle.fast_plans.specs.Quiet.{quiet, no_patch};
 
 // What the fast way reads of a record and its bus.
-#[derive(Drop)]
+#[derive(Clone, Copy)]
 pub struct View {
     pub kind: u8,
     pub flags: Flags,
@@ -38,7 +40,7 @@ pub struct View {
 
 // What a call leaves of record and bus, and what it answers. `fast`: an entry was made. `calm`: no access is made, and at most the level and the
 // change of flow change. `idle`: nothing changes. None of them: the fast way does not take the call, and nothing was touched.
-#[derive(Drop)]
+#[derive(Clone, Copy)]
 pub struct Patch {
     pub idle: bool,
     pub calm: bool,

@@ -6,7 +6,7 @@ ghost use Rattle.fast_plans.specs.Places.{fetches_of, top_of, user_of, no_spot, 
 use crate::View;
 
 // A frame of n bytes: its lowest address, A7 then, and the place of it in the store.
-#[derive(Drop)]
+#[derive(Clone, Copy)]
 pub struct Spot {
     pub ok: bool,
     pub a7: u32,

@@ -9,7 +9,7 @@ use numbers::RawCall;
 
 // An entry. Ways: 0 none; 1 take_exception; 2 take_group2_exception; 3 the same for a trace. `rewound`: PC goes back to the
 // instruction first.
-#[derive(Drop)]
+#[derive(Clone, Copy)]
 pub struct EntryRow {
     pub way: u8,
     pub vector: u32,
@@ -18,7 +18,7 @@ pub struct EntryRow {
 
 // What an entry writes and answers. Shapes: 0 none; 1 the 68000's three words; 2 format 0; 3 format 2; 4, 5, 6 an interrupt on kind 1, on
 // kind 2, on another.
-#[derive(Drop)]
+#[derive(Clone, Copy)]
 pub struct Plan {
     pub shape: u8,
     pub bytes: u32,

@@ -2,6 +2,8 @@
 // `unwind`, and both are proved equal to it. A return is tried on a record that is only read, and says what changes in a few numbers, so
 // that the record stays where it is; a walk goes over the six numbers that tell where the next frame lies. It uses `unwind`, `memory`,
 // `cpu` and `types`, and the definitions of `refusals` and `status`; `attempts`, `fast_calls` and `sessions` use it.
+#![tactic(auto)]
+
 use cpu::{Cpu, Flags, Regs};
 use memory::Core;
 use quick::Found;
@@ -21,7 +23,7 @@ ghost use Rattle.fast_return.specs.Seen.{banked_regs, back_flags};
 ghost use Rattle.fast_return.specs.Patch.{no_patch, done_patch, found_patch, patch_back, patch_returned};
 
 // Whether the return goes, its row and the frame that it takes; where `ok` is false the plain return is to be called.
-#[derive(Drop)]
+#[derive(Clone, Copy)]
 pub struct ReturnPatch {
     pub ok: bool,
     pub row: Row,

@@ -8,7 +8,7 @@ ghost use Rattle.fast_return.specs.Quick.{word_at, long_at, lies, not_found, tak
 
 use unwind::frames::Frame;
 
-#[derive(Drop)]
+#[derive(Clone, Copy)]
 pub struct Found {
     pub ok: bool,
     pub frame: Frame,

@@ -11,7 +11,7 @@ use unwind::frames::Frame;
 use unwind::returns::{Row, Walked};
 
 // What is kept after a return and its row; or the number that refuses it.
-#[derive(Drop)]
+#[derive(Clone, Copy)]
 pub struct Step {
     pub seen: Seen,
     pub refused: u32,

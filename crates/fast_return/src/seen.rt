@@ -6,7 +6,7 @@ ghost use Rattle.fast_return.specs.Seen.{seen, seen_in_user, stack_of, bank_of, 
 use cpu::Cpu;
 use unwind::frames::Frame;
 
-#[derive(Drop)]
+#[derive(Clone, Copy)]
 pub struct Seen {
     pub a7: u32,
     pub user: u32,

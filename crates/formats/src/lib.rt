@@ -1,5 +1,7 @@
 // The frames of exceptions that are no errors, and the words of format and vector in them. It uses `frames`; `exceptions` and
 // `interrupts` use it, and so do the theorems about them.
+#![tactic(auto)]
+
 ghost use Rattle.std.specs.Prelude.{◌≡◌, ◌%◌};
 ghost use Rattle.formats.specs.Formats.{format_word, offset_word, short_frame, long_frame, disabled_frame};
 

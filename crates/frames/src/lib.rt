@@ -1,6 +1,8 @@
 // Frames as data: the fields upward from the new A7, so that the first is pushed last; what the two error entries stack, kind by kind, with
 // the status words in it. It uses `status`, `cpu` and `types`; `access` pushes these frames, and `formats` describes those of the other
 // exceptions with the same fields.
+#![tactic(auto)]
+
 use cpu::Cpu;
 
 mod codes; // status words of error frames
@@ -12,7 +14,7 @@ ghost use Rattle.status.specs.Status.{get_sr};
 ghost use Rattle.frames.specs.Frames.{word, long, field_at, frame68000, frame8, frame2, frame0, frame4, frame7, frame11, write_data, address_frame, bus_frame};
 
 // A field is pushed by a guarded access (mode 0), by a raw one (1), or only counted (2).
-#[derive(Drop)]
+#[derive(Clone, Copy)]
 pub struct Field {
     pub mode: u8,
     pub long: bool,
@@ -20,7 +22,7 @@ pub struct Field {
 }
 
 // The first `count` fields are the frame.
-#[derive(Drop)]
+#[derive(Clone, Copy)]
 pub struct Frame {
     pub fields: [Field; 28],
     pub count: u8,

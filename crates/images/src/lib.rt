@@ -1,2 +1,4 @@
 // What lies in the store after an error entry whose accesses are served: mathematics only, in `specs`. It uses `access` and everything
 // below; `instances`, `forms`, `entered`, `rule3` and `manual` use it.
+#![tactic(auto)]
+

@@ -1,1 +1,3 @@
 // The instances of paper 01: mathematics only, in `specs`. It uses `calls` and `images`; `rule3`, `manual` and `claims` use it.
+#![tactic(auto)]
+

@@ -1,5 +1,7 @@
 // The interrupt call: `check_and_service_interrupts` with `service_interrupt`, kind by kind. It uses `formats` for the frames, `access` and
 // everything below; `answers` and `calls` use it.
+#![tactic(auto)]
+
 ghost use Rattle.std.specs.Prelude.{◌≡◌, true, false};
 ghost use Rattle.memory.specs.World.{world, reply, tried};
 ghost use Rattle.interrupts.specs.Interrupts.{acknowledge_level, synced_acknowledge, from68000, writes68010, first_frame, throwaway, second_frame, service_interrupt, check_and_service, push_interrupt68000, push_interrupt68010, push_interrupt_other};
@@ -7,14 +9,14 @@ ghost use Rattle.interrupts.specs.Interrupts.{acknowledge_level, synced_acknowle
 use memory::Core;
 
 // A core after the first frame, and the vector that the acknowledge gave.
-#[derive(Drop)]
+#[derive(Clone, Copy)]
 pub struct Stacked {
     pub core: Core,
     pub vector: u32,
 }
 
 // A core after the interrupt call, and whether an interrupt was taken.
-#[derive(Drop)]
+#[derive(Clone, Copy)]
 pub struct Serviced {
     pub core: Core,
     pub taken: bool,

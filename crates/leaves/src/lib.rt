@@ -1,6 +1,8 @@
 // The leaf functions of the record, exported by value for the comparison of each with the Rust's (host/leaves; `put_back_sr`, which the Rust
 // has not, with the test's own). It uses `status`, `cpu` and `pending`; what it exports is proved equal to their definitions. No program
 // that runs a processor needs it: `lent` has the calls.
+#![tactic(auto)]
+
 ghost use Rattle.std.specs.Prelude.{◌≡◌};
 ghost use Rattle.status.specs.Status.{get_sr, set_sr_noint_nosp, put_back_sr, set_ccr};
 ghost use Rattle.status.specs.Banks.{sp_index, backup_sp, restore_sp, set_sflag, set_sm_flag, set_sm_flag_nosp};

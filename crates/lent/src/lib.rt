@@ -2,6 +2,8 @@
 // a lent record tries the fast way first, on a copy of which the compiler keeps what is read, and lays the patch into the record; else it copies the
 // record whole, calls the plain way by value and stores the record that comes back. It uses `attempts`, `records` and `cpu`; programs in
 // other languages use what it exports.
+#![tactic(auto)]
+
 ghost use Rattle.std.specs.Prelude.{◌≡◌};
 ghost use Rattle.numbers.specs.Numbers.{exception_call, interrupt_call};
 ghost use Rattle.unwind.specs.Returns.{walk};

@@ -1,5 +1,7 @@
 // One line of a session to a command: names, numbers with their digits, one space between fields. It uses `types` for its
 // definitions; `sessions` acts on what it answers.
+#![tactic(auto)]
+
 use numbers::Number;
 
 mod numbers; // digits to a number
@@ -10,7 +12,7 @@ ghost use Rattle.lines.specs.Commands.{starts_with, space_in, kind_in, pc_in, pp
 ghost use Rattle.types.specs.Kinds.{pick};
 
 // What a line asks for; `Wrong` is a line not understood or over 80 bytes.
-#[derive(Drop)]
+#[derive(Clone, Copy)]
 pub enum Command {
     Wrong,
     Kind(u8),

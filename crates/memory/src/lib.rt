@@ -1,6 +1,8 @@
 // The bus by value and the two lent slices beside it: the store, its fault windows, the acknowledge responses, the log of bus events, and
 // one access, served or not. It uses `types` and `cpu`; `access` and everything above reach the store and the log through it, but that
 // `unwind` reads the bytes of a frame and `sessions` clears the store.
+#![tactic(auto)]
+
 use cpu::Cpu;
 
 mod bytes; // big-endian words and longs in a slice
@@ -17,7 +19,7 @@ ghost use Rattle.memory.specs.Log.{counted};
 // `base` and the store's length are the addresses that the store holds; of the windows the first `windows` count, each from a
 // start on, some bytes long; a window of length 0 holds no byte; `responses` are by level; `events` counts what was logged.
 #[repr(C)]
-#[derive(Drop)]
+#[derive(Clone, Copy)]
 pub struct Bus {
     pub base: u32,
     pub windows: u32,
@@ -29,21 +31,21 @@ pub struct Bus {
 
 // The record and the bus: what a function of the core takes and hands back.
 #[repr(C)]
-#[derive(Drop)]
+#[derive(Clone, Copy)]
 pub struct Core {
     pub cpu: Cpu,
     pub bus: Bus,
 }
 
 // A write that was tried: whether it was served.
-#[derive(Drop)]
+#[derive(Clone, Copy)]
 pub struct Tried {
     pub core: Core,
     pub ok: bool,
 }
 
 // A read that was tried: whether it was served, and its value, 0 if not.
-#[derive(Drop)]
+#[derive(Clone, Copy)]
 pub struct Reply {
     pub core: Core,
     pub ok: bool,
@@ -51,7 +53,7 @@ pub struct Reply {
 }
 
 // An acknowledge cycle: the response of the level.
-#[derive(Drop)]
+#[derive(Clone, Copy)]
 pub struct Acknowledged {
     pub core: Core,
     pub response: u32,

@@ -5,7 +5,7 @@ ghost use Rattle.pending.specs.Trace.{check_trace, asks_trace, trace_t0_sr_write
 use cpu::Cpu;
 
 // The record after a check, and whether a trace exception is asked for.
-#[derive(Drop)]
+#[derive(Clone, Copy)]
 pub struct Traced {
     pub cpu: Cpu,
     pub trace: bool,

@@ -1,5 +1,7 @@
 // Bytes of a line that a session prints, laid into a buffer from a place on: digits, the line of an acting command, the line of a
 // row, the line of a refusal. Each answers the place after. It uses `types` for its definitions; `sessions` uses it.
+#![tactic(auto)]
+
 ghost use Rattle.std.specs.Prelude.{◌≡◌, [], ◌∷◌, ◌+◌, ◌%◌, ◌≤◌, ◌<◌, length, leb};
 ghost use Rattle.prints.specs.Prints.{before, more, hex_byte, hex1, hex2, hex3, hex4, hex8, decimal_of, state_line, row_line, refused_word, refused_line, laid};
 

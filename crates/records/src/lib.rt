@@ -1,6 +1,8 @@
 // The lent record: the record and the bus as a program in another language has them, and the way to the core's record and back. Where those of
 // `cpu` have bools they have numbers, so that every value of every field has a meaning: a flag byte is set if it is not 0. It uses `cpu`,
 // `memory` and `numbers`; `attempts` and `lent` use it.
+#![tactic(auto)]
+
 use cpu::{Flags, Regs};
 use memory::Bus;
 
@@ -8,21 +10,21 @@ pub mod raise; // a lent record as the core has it
 pub mod lower; // a record of the core as it is lent
 
 #[repr(C)]
-#[derive(Drop)]
+#[derive(Clone, Copy)]
 pub struct LentVector {
     pub some: u8,
     pub value: u32,
 }
 
 #[repr(C)]
-#[derive(Drop)]
+#[derive(Clone, Copy)]
 pub struct LentCode {
     pub some: u8,
     pub value: u8,
 }
 
 #[repr(C)]
-#[derive(Drop)]
+#[derive(Clone, Copy)]
 pub struct LentFlow {
     pub ppc: u32,
     pub pc: u32,
@@ -39,7 +41,7 @@ pub struct LentFlow {
 }
 
 #[repr(C)]
-#[derive(Drop)]
+#[derive(Clone, Copy)]
 pub struct LentQueue {
     pub prefetch_queue: [u16; 2],
     pub prefetch_count: u8,
@@ -48,7 +50,7 @@ pub struct LentQueue {
 }
 
 #[repr(C)]
-#[derive(Drop)]
+#[derive(Clone, Copy)]
 pub struct LentFault {
     pub instruction_exception_vector: LentVector,
     pub last_exception_vector: LentVector,
@@ -58,7 +60,7 @@ pub struct LentFault {
 }
 
 #[repr(C)]
-#[derive(Drop)]
+#[derive(Clone, Copy)]
 pub struct LentResume {
     pub some: u8,
     pub pc: u32,
@@ -67,7 +69,7 @@ pub struct LentResume {
 }
 
 #[repr(C)]
-#[derive(Drop)]
+#[derive(Clone, Copy)]
 pub struct LentCpu {
     pub regs: Regs,
     pub flow: LentFlow,
@@ -78,7 +80,7 @@ pub struct LentCpu {
 }
 
 #[repr(C)]
-#[derive(Drop)]
+#[derive(Clone, Copy)]
 pub struct LentCore {
     pub cpu: LentCpu,
     pub bus: Bus,

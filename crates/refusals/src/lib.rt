@@ -1,5 +1,7 @@
 // The refusals 1 to 9: what each number tests, and the lowest that applies to a call, given what the call is lent. It uses `memory`,
 // `pending`, `cpu` and `types`; `answers`, `calls` and `unwind` use it; `answers` says what each call is given.
+#![tactic(auto)]
+
 ghost use Rattle.std.specs.Prelude.{◌≡◌, Bool, true, false, not, ◌<◌, ◌≤◌, eqb, ltb};
 ghost use Rattle.types.specs.Kinds.{either, both};
 ghost use Rattle.refusals.specs.Refusals.{bad_flags, odd_base, bad_cycles, bad_code, bad_store, past_top, any_past, bad_windows, short_log, bad_vector, bad_kind, refusal_of};
@@ -9,7 +11,7 @@ use memory::{Bus, Core};
 
 // What a call is given besides the record: a store, a log; a vector, 0 where there is none; and whether it is the interrupt call or
 // a floating-point entry.
-#[derive(Drop)]
+#[derive(Clone, Copy)]
 pub struct Matter {
     pub store: bool,
     pub log: bool,

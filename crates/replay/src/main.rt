@@ -2,6 +2,8 @@
 // code, and its answer, the number of events, each event word, each word of a row, the whole record and the whole store must be those
 // that the oracle gave, and log and rows behind them as they were. It uses `boundary`, `unwind` and, for the verdict, `same`; nothing uses
 // it.
+#![tactic(auto)]
+
 use boundary::RawAnswer;
 use memory::Core;
 use numbers::RawCall;
@@ -150,7 +152,7 @@ fn is_same(b: &[u8]) -> bool {
 }
 
 // What was replayed so far: cases, those that differ, and the number of the first that does, from 1.
-#[derive(Drop)]
+#[derive(Clone, Copy)]
 struct Tally {
     cases: u64,
     differ: u64,

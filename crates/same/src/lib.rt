@@ -1,5 +1,7 @@
 // Whether what a call left is what was recorded of it: the words of a case, the words of its log and of its rows, the bytes of its
 // store. It uses `check` of the toolchain for the bytes; `replay` uses it, and takes its verdict on a case from here.
+#![tactic(auto)]
+
 ghost use Rattle.std.specs.Prelude.{true, ◌↔◌, ◌≡◌};
 
 // Whether two lists of words are the same.

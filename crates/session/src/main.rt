@@ -1,10 +1,12 @@
 // The session program: lines of commands on standard input, answers on standard output. What it prints for which bytes is `printed` of
 // sessions/specs/Printed: the library takes blocks of the input, cut anywhere, and lays what they print into a buffer; here blocks are
 // read and buffers written. Its memory does not grow with the input. It uses `sessions`, `io`, `libc` and `os`; nothing uses it.
+#![tactic(auto)]
+
 use sessions::input::Fed;
 
 // The session, and whether the input goes on.
-#[derive(Drop)]
+#[derive(Clone, Copy)]
 struct Run {
     fed: Fed,
     more: bool,

@@ -10,7 +10,7 @@ ghost use Rattle.sessions.specs.Runs.{take_end, scanned, scan, Runs};
 use memory::Core;
 
 // Record and bus, the bytes kept of the line, the place after what is printed.
-#[derive(Drop)]
+#[derive(Clone, Copy)]
 pub struct Fed {
     pub core: Core,
     pub kept: usize,
@@ -18,7 +18,7 @@ pub struct Fed {
 }
 
 // The same after a block, and how many of its bytes were taken.
-#[derive(Drop)]
+#[derive(Clone, Copy)]
 pub struct Consumed {
     pub fed: Fed,
     pub used: usize,
@@ -37,7 +37,7 @@ fn keep(line: &mut [u8], n: usize, b: u8) -> usize
 }
 
 // Where the bytes of a line end in a block, or the block ends, and how many bytes of the line are kept.
-#[derive(Drop)]
+#[derive(Clone, Copy)]
 struct Run {
     kept: usize,
     next: usize,

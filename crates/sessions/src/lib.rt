@@ -1,6 +1,8 @@
 // What a session does on a line and on the bytes of its input: entries go through the call by number, returns and walks through theirs, each the
 // fast way first, other commands set fields and bytes, and what is printed is laid into a buffer. It uses `lines`, `prints`, `fast_calls`, `fast_return`,
 // `boundary`, `memory` and the record's crates; the program `session` lends it the buffers, reads and writes.
+#![tactic(auto)]
+
 use lines::Command;
 use memory::{Bus, Core};
 use numbers::RawCall;
@@ -16,14 +18,14 @@ ghost use Rattle.sessions.specs.Sessions.{session, fresh_bus, fresh_core, charge
 ghost use Rattle.sessions.specs.Numbered.{numbered, cycles_of, shown_of, told, entered_by};
 
 // Record and bus after a line, and the place after what is printed.
-#[derive(Drop)]
+#[derive(Clone, Copy)]
 pub struct Stepped {
     pub core: Core,
     pub at: usize,
 }
 
 // What an acting command prints of the record: numbers, so that no record is copied for it.
-#[derive(Drop)]
+#[derive(Clone, Copy)]
 pub struct Shown {
     pub pc: u32,
     pub sr: u32,

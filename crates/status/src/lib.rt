@@ -1,6 +1,8 @@
 // The status register and the stack banks: the status composed from the flags and put back under the kind's mask, what a faulted
 // instruction keeps of it, and A7 exchanged with the saved pointers when S and M change. It uses `cpu` and `types` and stores to
 // the record's fields, as `cpu` does; `frames` and everything above use it.
+#![tactic(auto)]
+
 use cpu::{Cpu, Flags, Resume};
 
 pub mod banks; // the stack pointers of user, interrupt and master state

@@ -1,5 +1,7 @@
 // What an entry tests and changes on the record, one step each, and the numbers that it computes. It uses `pending` for the end of an
 // interrupt, `status` and everything below; `access`, `exceptions` and `interrupts` use it.
+#![tactic(auto)]
+
 ghost use Rattle.std.specs.Prelude.{◌≡◌, ◌+◌, ◌/◌, ◌%◌, ◌^◌, true, false};
 ghost use Rattle.steps.specs.Steps.{refuses_odd, vector_address, begin_bus, begin_address, close_bus, enter_bus_error, stacks_next, stacked_address, begin_entry, begin_trace, enter_level, close_interrupt, iack_vector, with_s};
 

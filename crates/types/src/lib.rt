@@ -1,6 +1,8 @@
 // What follows from the kind of processor and from constants alone: the kinds by the numbers of `CpuType`, the families
 // that the Rust tests, vector numbers by their Rust names, the fault causes, the table of cycles by vector and the table of
 // frame lengths by kind and format. It uses nothing of the repository; every crate that knows the record uses it.
+#![tactic(auto)]
+
 ghost use Rattle.std.specs.Prelude.{◌≡◌, ◌<◌, ◌≤◌};
 ghost use Rattle.types.specs.Kinds.{is040, is060, is_pre68020, is_ec020_plus, address_bits, mask_address, status_mask, mask_status, has_t0, has_m, pick};
 ghost use Rattle.types.specs.Causes.{cause_number, cause_of};
@@ -77,7 +79,7 @@ pub const FP_UNIMPLEMENTED_EA: u32 = 60;
 pub const UNIMPLEMENTED_INTEGER: u32 = 61;
 
 // Why a guarded access failed. `Absent` stands for the Rust's `None`.
-#[derive(Drop)]
+#[derive(Clone, Copy)]
 pub enum FaultCause {
     Absent,
     PointerA,

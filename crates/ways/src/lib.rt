@@ -1,5 +1,7 @@
 // Which way a call over a lent record goes, for the comparison, which counts it. The record is given by value, so that nothing of it changes. It uses
 // `attempts`; no program that runs a processor needs it.
+#![tactic(auto)]
+
 ghost use Rattle.std.specs.Prelude.{◌≡◌};
 
 use numbers::RawCall;
