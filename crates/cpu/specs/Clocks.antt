@@ -1,5 +1,5 @@
 -- Clocks that wait to be reported, and the prefetch queue.
-use Rattle.std.specs.Prelude.{ℕ, ◌+◌, ◌-◌, ◌%◌, ◌^◌, Bool, false, ◌==◌, nat_lt, slice_set}
+use Rattle.std.specs.Prelude.{ℕ, ◌+◌, ◌%◌, ◌^◌, Bool, false, ◌==◌, nat_lt, slice_set}
 use Rattle.types.specs.Kinds.{pick, is_prefetch_kind}
 use Rattle.cpu.specs.declared.Cpu.{Cpu}
 use Rattle.cpu.specs.Setters.{with_pending_sync_clocks, with_prefetch_count, with_prefetch_queue}

@@ -1,6 +1,6 @@
 -- Registers, flow and faults, one field at a time.
 use Rattle.std.specs.Prelude.{ℕ, ◌+◌, ◌-◌, ◌%◌, ◌^◌, Bool, true, false, ◌==◌, slice_index, slice_set}
-use Rattle.types.specs.Kinds.{both, is_pre68020, mask_address}
+use Rattle.types.specs.Kinds.{is_pre68020, mask_address}
 use Rattle.cpu.specs.declared.Cpu.{Cpu}
 use Rattle.cpu.specs.Setters.{with_dar, with_exception_processing, with_fpiar, with_instruction_exception_vector, with_last_exception_vector, with_loop_mode, with_mmu_fc_override, with_pc, with_pending_fault_cause, with_pending_fault_wdata, with_ppc, with_run_mode, with_stopped}
 

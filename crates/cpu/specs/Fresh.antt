@@ -1,5 +1,5 @@
 -- A fresh record.
-use Rattle.std.specs.Prelude.{ℕ, ◌-◌, true, false, replicate, pos}
+use Rattle.std.specs.Prelude.{ℕ, true, false, replicate, pos}
 use Rattle.cpu.specs.declared.Regs.{Regs}
 use Rattle.cpu.specs.declared.Flow.{Flow}
 use Rattle.cpu.specs.declared.Flags.{Flags}

@@ -1,7 +1,7 @@
 -- A law for each way through a function that branches or calls others: its premises are how each test went and what each call
 -- ensures, in the order of the code.
 use Prim.Native.Nat.{ℕ, ◌+◌}
-use mathlib.Core.Path.{◌≡◌, refl}
+use mathlib.Core.Path.{◌≡◌}
 use mathlib.Core.Bool.{true}
 use lib.Dec.{eqb}
 use lib.ListN.{set, get_or}

@@ -1,5 +1,5 @@
 -- The stack pointers of user, interrupt and master state.
-use Rattle.std.specs.Prelude.{ℕ, ◌-◌, ◌*◌, ◌/◌, ◌%◌, eqb, set, get_or}
+use Rattle.std.specs.Prelude.{ℕ, ◌*◌, ◌/◌, ◌%◌, eqb, set, get_or}
 use Rattle.types.specs.Kinds.{pick, is060}
 use Rattle.cpu.specs.declared.Cpu.{Cpu}
 use Rattle.cpu.specs.Setters.{with_dar, with_mflag, with_sflag, with_sp}

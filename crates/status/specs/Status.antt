@@ -1,6 +1,6 @@
 -- The status register: `get_sr`, `set_sr_noint_nosp`, `set_ccr_internal`, and the status put back by a return.
-use Rattle.std.specs.Prelude.{ℕ, ◌+◌, ◌-◌, ◌*◌, ◌/◌, ◌%◌, Bool, true, not, eqb, set}
-use Rattle.types.specs.Kinds.{pick, both, mask_status}
+use Rattle.std.specs.Prelude.{ℕ, ◌+◌, ◌-◌, ◌*◌, ◌/◌, ◌%◌, Bool, true, not, eqb}
+use Rattle.types.specs.Kinds.{pick, mask_status}
 use Rattle.cpu.specs.declared.Flags.{Flags}
 use Rattle.cpu.specs.declared.Cpu.{Cpu}
 use Rattle.cpu.specs.Groups.{with_fault_resume, with_flags}

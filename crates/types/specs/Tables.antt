@@ -1,6 +1,6 @@
 -- The two constant tables, each by its rule.
 use Rattle.std.specs.Prelude.{ℕ, Bool, false, eqb, ltb, leb}
-use Rattle.types.specs.Kinds.{pick, either, both, is_pre68020, is_ec020_plus, is040, is060}
+use Rattle.types.specs.Kinds.{pick, either, both, is040, is060}
 
 -- `exception_cycles`: 40 for 0, 1, 6; 50 for 2, 3; 38 for 5; 44 for 24 to 31; else 34
 unfoldable pub exception_cycles : ℕ → ℕ

@@ -1,0 +1,16 @@
+use Rattle.lines.specs.Numbers.{number_of}
+use native.Mathlib.Omega.{arith}
+use mathlib.Core.Path.{◌≡◌, refl, sym, ap, ◌∙◌}
+use Prim.Native.Nat.{ℕ, ◌+◌, ◌-◌, ◌*◌, ◌^◌, ◌<◌, ◌≤◌}
+use lib.ListN.{length, drop, get_or}
+use borrow.Author.Tests.{lt-ltb, le-ltb, le-leb, lt-leb, eq-eqb, ne_eqb}
+use Rattle.lines.proofs.Loops.{none_from, rest}
+use Rattle.lines.specs.Commands.{long_fields, ret_in, word_in, command_of}
+use borrow.Author.Rules.{rules}
+use Rattle.lines.proofs.hex_from.Goals as goal
+
+pub returns-then-s-at : goal.returns-then-s-at
+returns-then-s-at c = none_from _ _ _ _ c.if-s-at.true
+
+pub returns : goal.returns
+returns c = c.read.ensures ∙ ap (number_of 16 8) (rest c.args.s.now c.args.at)

@@ -1,0 +1,20 @@
+use Rattle.lines.proofs.Commands.{kind_small, kind_large}
+use mathlib.Core.Path.{◌≡◌, refl, sym, ◌∙◌}
+use native.Mathlib.Omega.{arith}
+use lib.ListN.{length-set}
+use borrow.Author.Tests.{lt-ltb, le-ltb, le-leb, lt-leb, eq-eqb, ne_eqb}
+use Rattle.lines.specs.Commands.{kind_in}
+use borrow.Author.Rules.{rules}
+use Rattle.lines.proofs.kind_in.Goals as goal
+
+pub returns-then-v-lt256 : goal.returns-then-v-lt256
+unfolding kind_in
+returns-then-v-lt256 c = kind_small _ _ c.in-Is.is c.if-v-lt256.true
+
+pub returns-else-v-lt256 : goal.returns-else-v-lt256
+unfolding kind_in
+returns-else-v-lt256 c = kind_large _ _ c.in-Is.is c.if-v-lt256.false
+
+pub returns-in-Not : goal.returns-in-Not
+unfolding kind_in
+returns-in-Not c = cc

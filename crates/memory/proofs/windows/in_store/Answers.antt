@@ -1,0 +1,15 @@
+use mathlib.Core.Path.{◌≡◌, refl, sym, ◌∙◌}
+use native.Mathlib.Omega.{arith}
+use lib.ListN.{length-set}
+use borrow.Author.Tests.{lt-ltb, le-ltb, le-leb, lt-leb, eq-eqb, ne_eqb}
+use Rattle.memory.specs.Served.{in_store}
+use borrow.Author.Rules.{rules}
+use Rattle.memory.proofs.windows.in_store.Goals as goal
+
+pub returns-then-a-b : goal.returns-then-a-b
+unfolding in_store
+returns-then-a-b c = simp (lt-ltb _ _ c.if-a-b.true)
+
+pub returns : goal.returns
+unfolding in_store
+returns c = simp (le-ltb _ _ c.if-a-b.false)

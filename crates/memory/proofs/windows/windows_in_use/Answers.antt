@@ -1,0 +1,14 @@
+use mathlib.Core.Path.{◌≡◌, refl, sym, ◌∙◌}
+use native.Mathlib.Omega.{arith}
+use lib.ListN.{length-set}
+use borrow.Author.Tests.{lt-ltb, le-ltb, le-leb, lt-leb, eq-eqb, ne_eqb}
+use Rattle.memory.specs.Served.{windows_in_use}
+use Rattle.memory.proofs.windows.windows_in_use.Goals as goal
+
+pub returns-then-b-gt8 : goal.returns-then-b-gt8
+unfolding windows_in_use
+returns-then-b-gt8 c = simp (lt-ltb _ _ c.if-b-gt8.true) (omega arith)
+
+pub returns : goal.returns
+unfolding windows_in_use
+returns c = simp (le-ltb _ _ c.if-b-gt8.false) (omega arith)

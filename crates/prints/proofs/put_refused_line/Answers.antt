@@ -1,0 +1,10 @@
+use Rattle.prints.specs.Prints.{refused_line}
+use Rattle.prints.proofs.Joins.{one, join3, join5, nothing, digits_none, digits_last, digits_more}
+use native.Mathlib.Omega.{arith}
+use mathlib.Core.Path.{◌≡◌, refl, sym, ap, ◌∙◌}
+use borrow.Author.Rules.{rules}
+use Rattle.prints.proofs.put_refused_line.Goals as goal
+
+pub returns : goal.returns
+unfolding refused_line
+returns c = (omega (arith, c.put_refused-p.ensures.0, c.put_decimal-q.ensures.0, c.put.ensures.0), join3 _ _ _ _ _ _ _ c.put_refused-p.ensures.1 c.put_decimal-q.ensures.1 c.put.ensures.1)
