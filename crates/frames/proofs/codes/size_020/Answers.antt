@@ -1,0 +1,22 @@
+use mathlib.Core.Path.{◌≡◌, refl, sym, ◌∙◌}
+use native.Mathlib.Omega.{arith}
+use lib.ListN.{length-set}
+use borrow.Author.Tests.{lt-ltb, le-ltb, le-leb, lt-leb, eq-eqb, ne_eqb}
+use Rattle.frames.specs.Codes.{size020}
+use Rattle.frames.proofs.codes.size_020.Goals as goal
+
+pub returns-then-size-eq1 : goal.returns-then-size-eq1
+unfolding size020
+returns-then-size-eq1 c = (simp (eq-eqb _ _ c.if-size-eq1.true), omega arith)
+
+pub returns-then-size-eq2 : goal.returns-then-size-eq2
+unfolding size020
+returns-then-size-eq2 c = (simp (ne_eqb _ _ c.if-size-eq1.false, eq-eqb _ _ c.if-size-eq2.true), omega arith)
+
+pub returns-then-size-eq3 : goal.returns-then-size-eq3
+unfolding size020
+returns-then-size-eq3 c = (simp (ne_eqb _ _ c.if-size-eq1.false, ne_eqb _ _ c.if-size-eq2.false, eq-eqb _ _ c.if-size-eq3.true), omega arith)
+
+pub returns : goal.returns
+unfolding size020
+returns c = (simp (ne_eqb _ _ c.if-size-eq1.false, ne_eqb _ _ c.if-size-eq2.false, ne_eqb _ _ c.if-size-eq3.false), omega arith)

@@ -1,0 +1,15 @@
+use mathlib.Core.Path.{◌≡◌, refl, sym, ◌∙◌}
+use native.Mathlib.Omega.{arith}
+use lib.ListN.{length-set}
+use borrow.Author.Tests.{lt-ltb, le-ltb, le-leb, lt-leb, eq-eqb, ne_eqb}
+use Rattle.frames.specs.Frames.{write_data}
+use borrow.Author.Rules.{rules}
+use Rattle.frames.proofs.write_data.Goals as goal
+
+pub returns-then-write : goal.returns-then-write
+unfolding write_data
+returns-then-write c = simp c.if-write.true (omega arith)
+
+pub returns : goal.returns
+unfolding write_data
+returns c = simp c.if-write.false
