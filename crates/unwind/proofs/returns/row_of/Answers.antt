@@ -1,0 +1,7 @@
+use Rattle.std.proofs.Common.{refl, rules}
+use Rattle.unwind.specs.Returns.{row_of}
+use Rattle.unwind.proofs.returns.row_of.Goals as goal
+
+pub returns : goal.returns
+unfolding row_of
+returns c = refl
