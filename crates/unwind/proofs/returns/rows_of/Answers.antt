@@ -14,7 +14,7 @@ pub put_row-requires : goal.put_row-requires
 put_row-requires c = room c.loop-k.k c.args.n c.loop-k.rows c.args.rows.now c.loop-k-test.true c.requires c.loop-k.invariant.1
 
 pub loop-k-preserved : goal.loop-k-preserved
-loop-k-preserved c = (omega (arith, c.loop-k-test.true) ∙ c.loop-k.invariant.1, walk_goes _ _ _ _ _ _ _ c.loop-k.invariant.2 _ _ c.one_return-x.ensures c.loop-k-test.true c.if-x-ne0.false c.put_row.ensures)
+loop-k-preserved c = (omega (arith, c.loop-k-test.true), c.put_row.auto.rows ∙ c.loop-k.invariant.1, walk_goes _ _ _ _ _ _ _ c.loop-k.invariant.2 _ _ c.one_return-x.ensures c.loop-k-test.true c.if-x-ne0.false c.put_row.ensures)
 
 pub returns : goal.returns
 returns c = walk_ends _ _ _ _ _ _ _ c.loop-k.invariant.2 c.loop-k.invariant.0 c.loop-k-test.false
