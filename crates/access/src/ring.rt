@@ -8,7 +8,7 @@ ghost use Rattle.access.specs.Access.{trigger, bus_error, address_error, read_at
 use frames::{Field, Frame};
 use memory::{Core, Reply};
 
-#[cycle(exception_address_error_exception_bus_error_jump_vector_prefetch_first_prefetch_read_prefetch_second_push_field_push_fields_read_at_trigger_address_error_trigger_bus_error_write_at)]
+#[cycle(ring)]
 pub fn trigger_bus_error(
     m: Core,
     store: &mut [u8],
@@ -46,7 +46,7 @@ pub fn trigger_bus_error(
     memory::with_cpu(b, steps::close_bus(b.cpu))
 }
 
-#[cycle(exception_address_error_exception_bus_error_jump_vector_prefetch_first_prefetch_read_prefetch_second_push_field_push_fields_read_at_trigger_address_error_trigger_bus_error_write_at)]
+#[cycle(ring)]
 pub fn trigger_address_error(
     m: Core,
     store: &mut [u8],
@@ -69,7 +69,7 @@ pub fn trigger_address_error(
     memory::with_cpu(b, status::keep_resume(b.cpu))
 }
 
-#[cycle(exception_address_error_exception_bus_error_jump_vector_prefetch_first_prefetch_read_prefetch_second_push_field_push_fields_read_at_trigger_address_error_trigger_bus_error_write_at)]
+#[cycle(ring)]
 pub fn exception_bus_error(
     m: Core,
     store: &mut [u8],
@@ -90,7 +90,7 @@ pub fn exception_bus_error(
     jump_vector(b, store, log, levels, types::BUS_ERROR)
 }
 
-#[cycle(exception_address_error_exception_bus_error_jump_vector_prefetch_first_prefetch_read_prefetch_second_push_field_push_fields_read_at_trigger_address_error_trigger_bus_error_write_at)]
+#[cycle(ring)]
 pub fn exception_address_error(
     m: Core,
     store: &mut [u8],
@@ -110,7 +110,7 @@ pub fn exception_address_error(
 }
 
 // The first `left` fields of a frame, from the last of them down to the first.
-#[cycle(exception_address_error_exception_bus_error_jump_vector_prefetch_first_prefetch_read_prefetch_second_push_field_push_fields_read_at_trigger_address_error_trigger_bus_error_write_at)]
+#[cycle(ring)]
 pub fn push_fields(
     m: Core,
     store: &mut [u8],
@@ -130,7 +130,7 @@ pub fn push_fields(
 }
 
 // One field: A7 is lowered, then the field is only counted, written raw, or written guarded.
-#[cycle(exception_address_error_exception_bus_error_jump_vector_prefetch_first_prefetch_read_prefetch_second_push_field_push_fields_read_at_trigger_address_error_trigger_bus_error_write_at)]
+#[cycle(ring)]
 pub fn push_field(m: Core, store: &mut [u8], log: &mut [u32], levels: u8, f: Field) -> Core
     ensures { world result store.new log.new ≡ push_field (trigger levels) (world m store.old log.old) f }
 {
@@ -149,7 +149,7 @@ pub fn push_field(m: Core, store: &mut [u8], log: &mut [u32], levels: u8, f: Fie
 }
 
 // `write_16`, `write_32`.
-#[cycle(exception_address_error_exception_bus_error_jump_vector_prefetch_first_prefetch_read_prefetch_second_push_field_push_fields_read_at_trigger_address_error_trigger_bus_error_write_at)]
+#[cycle(ring)]
 pub fn write_at(
     m: Core,
     store: &mut [u8],
@@ -180,7 +180,7 @@ pub fn write_at(
 }
 
 // `read_16`, `read_32`.
-#[cycle(exception_address_error_exception_bus_error_jump_vector_prefetch_first_prefetch_read_prefetch_second_push_field_push_fields_read_at_trigger_address_error_trigger_bus_error_write_at)]
+#[cycle(ring)]
 pub fn read_at(
     m: Core,
     store: &mut [u8],
@@ -222,7 +222,7 @@ pub fn read_at(
     }
 }
 
-#[cycle(exception_address_error_exception_bus_error_jump_vector_prefetch_first_prefetch_read_prefetch_second_push_field_push_fields_read_at_trigger_address_error_trigger_bus_error_write_at)]
+#[cycle(ring)]
 pub fn jump_vector(m: Core, store: &mut [u8], log: &mut [u32], levels: u8, vector: u32) -> Core
     ensures { world result store.new log.new ≡ jump_vector (trigger levels) (world m store.old log.old) vector }
 {
@@ -237,7 +237,7 @@ pub fn jump_vector(m: Core, store: &mut [u8], log: &mut [u32], levels: u8, vecto
     prefetch_second(h, store, log, levels)
 }
 
-#[cycle(exception_address_error_exception_bus_error_jump_vector_prefetch_first_prefetch_read_prefetch_second_push_field_push_fields_read_at_trigger_address_error_trigger_bus_error_write_at)]
+#[cycle(ring)]
 pub fn prefetch_read(m: Core, store: &mut [u8], log: &mut [u32], levels: u8, address: u32) -> Reply
     ensures { reply (world result.core store.new log.new) result.ok result.value ≡ prefetch_read (trigger levels) (world m store.old log.old) address }
 {
@@ -256,7 +256,7 @@ pub fn prefetch_read(m: Core, store: &mut [u8], log: &mut [u32], levels: u8, add
     }
 }
 
-#[cycle(exception_address_error_exception_bus_error_jump_vector_prefetch_first_prefetch_read_prefetch_second_push_field_push_fields_read_at_trigger_address_error_trigger_bus_error_write_at)]
+#[cycle(ring)]
 pub fn prefetch_first(m: Core, store: &mut [u8], log: &mut [u32], levels: u8) -> Core
     ensures { world result store.new log.new ≡ prefetch_first (trigger levels) (world m store.old log.old) }
 {
@@ -275,7 +275,7 @@ pub fn prefetch_first(m: Core, store: &mut [u8], log: &mut [u32], levels: u8) ->
     m
 }
 
-#[cycle(exception_address_error_exception_bus_error_jump_vector_prefetch_first_prefetch_read_prefetch_second_push_field_push_fields_read_at_trigger_address_error_trigger_bus_error_write_at)]
+#[cycle(ring)]
 pub fn prefetch_second(m: Core, store: &mut [u8], log: &mut [u32], levels: u8) -> Core
     ensures { world result store.new log.new ≡ prefetch_second (trigger levels) (world m store.old log.old) }
 {
