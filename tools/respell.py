@@ -23,7 +23,7 @@ WORDS = {"let", "in", "where", "use", "module"}
 TAKEN = {"first_of": "first_number", "take_all": "taken_all"}
 # Names that port.py had spelled with `_` already, of a lemma, where a definition gets the same name: the lemma is told apart by the module
 # that declares it.
-LEMMAS = ["by_number", "entered_by", "first_frame", "frame_is", "kept_second", "odd_base", "read_at", "second_from"]
+LEMMAS = ["by_number", "entered_by", "first_frame", "frame_is", "kept_second", "odd_base", "of_entry", "of_service", "read_at", "second_from"]
 
 
 def files(*kinds):
@@ -40,7 +40,8 @@ def text(p):
 
 def is_answer(p):
     """Whether a file answers the goals of a function: its names are those of the goals."""
-    return os.path.basename(p) in ("Proof.antt", "Answers.antt", "Invariants.antt")
+    folder, name = os.path.split(p)
+    return name in ("Proof.antt", "Answers.antt", "Invariants.antt") and os.path.basename(folder) not in ("specs", "proofs")
 
 
 def declared(p):
@@ -78,6 +79,11 @@ def table():
         if s != n:
             new[n] = s
     return new, at
+
+
+def local(m):
+    """A name that is declared nowhere: a binder, an alias or a constructor."""
+    return snake(m.group(0)) if re.fullmatch(r"[a-z]\w*[A-Z]\w*'?", m.group(0)) else m.group(0)
 
 
 def respell(t, new, prose=True):
@@ -166,7 +172,7 @@ def turn_edits(new):
                 body = m.group(2)
                 for a, b in EDITS:
                     body = re.sub(a, b, body)
-                body = TOKEN.sub(lambda k: snake(k.group(0)) if re.fullmatch(r"[a-z]+\w*[A-Z]\w*", k.group(0)) else k.group(0), respell(body, new, False))
+                body = TOKEN.sub(local, respell(body, new, False))
                 lines[i] = m.group(1) + ": " + body
         with open(p, "w", encoding="utf-8") as f:
             f.write("\n".join(lines))
@@ -198,6 +204,8 @@ def main(argv):
     for p in files(".antt", ".rt"):
         t = text(p)
         u = respell(t, new)
+        if p.endswith(".antt"):
+            u = "\n".join(line if re.search(r"(^|\s)--(\s|$)", line) and "`" in line else TOKEN.sub(local, line) for line in u.split("\n"))
         if u != t:
             with open(p, "w", encoding="utf-8") as f:
                 f.write(u)

@@ -8,15 +8,15 @@ use Rattle.memory.specs.World.{put_cpu}
 use Rattle.answers.specs.declared.Performed.{Performed}
 use Rattle.answers.specs.declared.Answer.{Answer}
 use Rattle.answers.specs.declared.Answer.TheVariants.{Flag, Done}
-use Rattle.answers.specs.Answers.{eventsOf}
+use Rattle.answers.specs.Answers.{events_of}
 
 abbrev made : Core → Answer → Performed
 made m a = record { core = m; answer = a }
 
-pub replaced_made : (m : Core) (c : Cpu) {d : Core} {r : Performed} → d ≡ put_cpu m c → r ≡ record { core = d; answer = Done (eventsOf d) } → r ≡ record { core = put_cpu m c; answer = Done (eventsOf m) }
+pub replaced_made : (m : Core) (c : Cpu) {d : Core} {r : Performed} → d ≡ put_cpu m c → r ≡ record { core = d; answer = Done (events_of d) } → r ≡ record { core = put_cpu m c; answer = Done (events_of m) }
 unfolding put_cpu
-replaced_made m c h k = k ∙ ap (λ d. made d (Done (eventsOf d))) h
+replaced_made m c h k = k ∙ ap (λ d. made d (Done (events_of d))) h
 
-pub traced_made : (m : Core) (c : Cpu) (b : Bool) {d : Core} {r : Performed} → d ≡ put_cpu m c → r ≡ record { core = d; answer = Flag b (eventsOf d) } → r ≡ record { core = put_cpu m c; answer = Flag b (eventsOf m) }
+pub traced_made : (m : Core) (c : Cpu) (b : Bool) {d : Core} {r : Performed} → d ≡ put_cpu m c → r ≡ record { core = d; answer = Flag b (events_of d) } → r ≡ record { core = put_cpu m c; answer = Flag b (events_of m) }
 unfolding put_cpu
-traced_made m c b h k = k ∙ ap (λ d. made d (Flag b (eventsOf d))) h
+traced_made m c b h k = k ∙ ap (λ d. made d (Flag b (events_of d))) h

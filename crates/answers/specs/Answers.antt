@@ -9,12 +9,12 @@ use Rattle.answers.specs.declared.Answer.{Answer}
 use Rattle.answers.specs.declared.Answer.TheVariants.{Cycles, Flag, Value, Done, Refused}
 
 -- the numbers that paper 01 gives an answer: of its refusal, 0 for none; its value; its events
-unfoldable pub refusedBy : Answer → ℕ
-refusedBy (Refused n) = n
-refusedBy (Cycles n e) = 0
-refusedBy (Flag b e) = 0
-refusedBy (Value n e) = 0
-refusedBy (Done e) = 0
+unfoldable pub refused_by : Answer → ℕ
+refused_by (Refused n) = n
+refused_by (Cycles n e) = 0
+refused_by (Flag b e) = 0
+refused_by (Value n e) = 0
+refused_by (Done e) = 0
 
 unfoldable pub value_of : Answer → ℕ
 value_of (Cycles n e) = n
@@ -38,26 +38,26 @@ pub record Performed : Type 0 where
 abbrev pub answered : World → Answer → Performed
 answered w a = record { after = w; answer = a }
 
-abbrev pub eventsOf : Core → ℕ
-eventsOf m = m.bus.events
+abbrev pub events_of : Core → ℕ
+events_of m = m.bus.events
 
 unfoldable pub cycles : World → ℕ → Performed
-cycles w n = answered w (Cycles n (eventsOf w.core))
+cycles w n = answered w (Cycles n (events_of w.core))
 
 unfoldable pub flag : World → Bool → Performed
-flag w b = answered w (Flag b (eventsOf w.core))
+flag w b = answered w (Flag b (events_of w.core))
 
 unfoldable pub plain : World → Performed
-plain w = answered w (Done (eventsOf w.core))
+plain w = answered w (Done (events_of w.core))
 
-unfoldable pub ofEntry : Entry → Performed
-ofEntry x = cycles x.after x.cycles
+unfoldable pub of_entry : Entry → Performed
+of_entry x = cycles x.after x.cycles
 
-unfoldable pub ofRead : Attempt → Performed
-ofRead x = answered x.after (Value x.value (eventsOf x.after.core))
+unfoldable pub of_read : Attempt → Performed
+of_read x = answered x.after (Value x.value (events_of x.after.core))
 
-unfoldable pub ofService : Attempt → Performed
-ofService x = flag x.after x.ok
+unfoldable pub of_service : Attempt → Performed
+of_service x = flag x.after x.ok
 
-unfoldable pub ofTrace : World → Traced → Performed
-ofTrace w x = flag (with_cpu w x.cpu) x.trace
+unfoldable pub of_trace : World → Traced → Performed
+of_trace w x = flag (with_cpu w x.cpu) x.trace

@@ -14,7 +14,7 @@ pub mod matters; // what each call is given
 
 ghost use Rattle.std.specs.Prelude.{◌≡◌};
 ghost use Rattle.memory.specs.World.{put_cpu};
-ghost use Rattle.answers.specs.Answers.{eventsOf};
+ghost use Rattle.answers.specs.Answers.{events_of};
 
 // The calls, in the order of the case format and by the names of the Rust.
 #[derive(Clone, Copy)]
@@ -69,7 +69,7 @@ pub struct Performed {
 }
 
 pub fn entered(x: Entered) -> Performed
-    ensures { result ≡ record { core = x.core; answer = Answer.Cycles x.cycles (eventsOf x.core) } }
+    ensures { result ≡ record { core = x.core; answer = Answer.Cycles x.cycles (events_of x.core) } }
 {
     let m = x.core;
     let b = m.bus;
@@ -79,7 +79,7 @@ pub fn entered(x: Entered) -> Performed
 
 // An error entry answers 50 cycles.
 pub fn charged(m: Core) -> Performed
-    ensures { result ≡ record { core = m; answer = Answer.Cycles 50 (eventsOf m) } }
+    ensures { result ≡ record { core = m; answer = Answer.Cycles 50 (events_of m) } }
 {
     let b = m.bus;
     let a = Answer::Cycles(50, b.events);
@@ -87,7 +87,7 @@ pub fn charged(m: Core) -> Performed
 }
 
 pub fn done(m: Core) -> Performed
-    ensures { result ≡ record { core = m; answer = Answer.Done (eventsOf m) } }
+    ensures { result ≡ record { core = m; answer = Answer.Done (events_of m) } }
 {
     let b = m.bus;
     let a = Answer::Done(b.events);
@@ -95,7 +95,7 @@ pub fn done(m: Core) -> Performed
 }
 
 pub fn read(x: Reply) -> Performed
-    ensures { result ≡ record { core = x.core; answer = Answer.Value x.value (eventsOf x.core) } }
+    ensures { result ≡ record { core = x.core; answer = Answer.Value x.value (events_of x.core) } }
 {
     let m = x.core;
     let b = m.bus;
@@ -104,7 +104,7 @@ pub fn read(x: Reply) -> Performed
 }
 
 pub fn flagged(m: Core, f: bool) -> Performed
-    ensures { result ≡ record { core = m; answer = Answer.Flag f (eventsOf m) } }
+    ensures { result ≡ record { core = m; answer = Answer.Flag f (events_of m) } }
 {
     let b = m.bus;
     let a = Answer::Flag(f, b.events);
@@ -112,14 +112,14 @@ pub fn flagged(m: Core, f: bool) -> Performed
 }
 
 pub fn serviced(x: Serviced) -> Performed
-    ensures { result ≡ record { core = x.core; answer = Answer.Flag x.taken (eventsOf x.core) } }
+    ensures { result ≡ record { core = x.core; answer = Answer.Flag x.taken (events_of x.core) } }
 {
     let m = x.core;
     flagged(m, x.taken)
 }
 
 pub fn traced(m: Core, x: Traced) -> Performed
-    ensures { result ≡ record { core = put_cpu m x.cpu; answer = Answer.Flag x.trace (eventsOf m) } }
+    ensures { result ≡ record { core = put_cpu m x.cpu; answer = Answer.Flag x.trace (events_of m) } }
 {
     let c = x.cpu;
     let d = memory::with_cpu(m, c);
@@ -127,7 +127,7 @@ pub fn traced(m: Core, x: Traced) -> Performed
 }
 
 pub fn replaced(m: Core, c: Cpu) -> Performed
-    ensures { result ≡ record { core = put_cpu m c; answer = Answer.Done (eventsOf m) } }
+    ensures { result ≡ record { core = put_cpu m c; answer = Answer.Done (events_of m) } }
 {
     let d = memory::with_cpu(m, c);
     done(d)

@@ -4,7 +4,7 @@ use Rattle.memory.specs.declared.Core.{Core}
 use Rattle.memory.specs.World.{world}
 use Rattle.answers.specs.declared.Call.{Call}
 use Rattle.numbers.specs.Numbers.{bit, flag}
-use Rattle.answers.specs.Answers.{refusedBy, value_of, count_of}
+use Rattle.answers.specs.Answers.{refused_by, value_of, count_of}
 use Rattle.calls.specs.Calls.{refusal, perform}
 use Rattle.numbers.specs.declared.RawCall.{RawCall}
 use Rattle.boundary.specs.declared.Decoded.TheVariants.{Known, Unknown}
@@ -40,7 +40,7 @@ lowered_back m = simp bit_back
 module _ (c : LentCore) (s l : List ℕ) (x : RawCall) where
   -- a refused call leaves record, store and log as they came, every byte
   pub refused_leaves : (k : Call) → decode x ≡ Known k → eqb (refusal (world (raised c) s l) k) 0 ≡ false → lent_call c s l x ≡ left c s l (says (refusal (world (raised c) s l) k) 0 0)
-  unfolding lent_call left_by raw_call raw_of of_performed perform refusedBy value_of count_of record_after
+  unfolding lent_call left_by raw_call raw_of of_performed perform refused_by value_of count_of record_after
   refused_leaves k d e = simp (d, e)
 
   -- and so does a number that names no call

@@ -6,7 +6,7 @@ use Rattle.types.specs.Kinds.{pick}
 use Rattle.types.specs.Causes.{cause_of}
 use Rattle.memory.specs.World.{World}
 use Rattle.answers.specs.declared.Call.TheVariants.{TakeException, Trap, TakeGroup2Exception, ExceptionChk, ExceptionZeroDivide, ExceptionPrivilege, ExceptionTrace, ExceptionAddressError, ExceptionBusError, TakeFpUnimp060, TakeFpDisabled060, TakeAlineException, TakeFlineException, TakeTrapException, TakeBkptException, TakeIllegalException, TriggerAddressError, TriggerBusError, CheckTrace, SetIrq, CheckInterrupts, CheckAndServiceInterrupts, Read16, Read32, Write16, Write32, Push16, Push32, PrefetchFirst, PrefetchSecond}
-use Rattle.answers.specs.Answers.{Performed, refusedBy, value_of, count_of}
+use Rattle.answers.specs.Answers.{Performed, refused_by, value_of, count_of}
 use Rattle.calls.specs.Calls.{perform}
 use Rattle.numbers.specs.declared.RawCall.{RawCall}
 use Rattle.numbers.specs.Numbers.{flag}
@@ -76,7 +76,7 @@ decode c = find c.number (calls_of c)
 
 -- the public call, its answer in numbers; 99 where the number names no call
 unfoldable pub of_performed : Performed → Outcome
-of_performed x = outcome x.after (refusedBy x.answer) (value_of x.answer) (count_of x.answer)
+of_performed x = outcome x.after (refused_by x.answer) (value_of x.answer) (count_of x.answer)
 
 unfoldable pub raw_of : World → Decoded → Outcome
 raw_of w (Known c) = of_performed (perform w c)

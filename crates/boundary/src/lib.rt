@@ -7,7 +7,7 @@ ghost use Rattle.std.specs.Prelude.{◌≡◌, true, false, eqb, ◌%◌};
 ghost use Rattle.memory.specs.World.{world};
 ghost use Rattle.types.specs.Causes.{cause_of};
 ghost use Rattle.numbers.specs.Numbers.{bit, flag};
-ghost use Rattle.answers.specs.Answers.{refusedBy, value_of, count_of};
+ghost use Rattle.answers.specs.Answers.{refused_by, value_of, count_of};
 ghost use Rattle.boundary.specs.Calls.{outcome, decode, raw_of, raw_call};
 
 use answers::{Answer, Call, Performed};
@@ -174,7 +174,7 @@ fn raw(m: Core, refused: u32, answer: u32, events: u32) -> RawAnswer
 
 // An answer in numbers.
 fn numbers(m: Core, a: Answer) -> RawAnswer
-    ensures { result ≡ record { core = m; refused = refusedBy a; answer = value_of a; events = count_of a } }
+    ensures { result ≡ record { core = m; refused = refused_by a; answer = value_of a; events = count_of a } }
 {
     match a {
         Answer::Cycles(n, e) => raw(m, 0, n, e),
@@ -186,7 +186,7 @@ fn numbers(m: Core, a: Answer) -> RawAnswer
 }
 
 fn performed(x: Performed) -> RawAnswer
-    ensures { result ≡ record { core = x.core; refused = refusedBy x.answer; answer = value_of x.answer; events = count_of x.answer } }
+    ensures { result ≡ record { core = x.core; refused = refused_by x.answer; answer = value_of x.answer; events = count_of x.answer } }
 {
     let m = x.core;
     let a = x.answer;

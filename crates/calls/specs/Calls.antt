@@ -21,34 +21,34 @@ use Rattle.answers.specs.declared.Answer.{Answer}
 use Rattle.answers.specs.declared.Answer.TheVariants.{Cycles, Flag, Value, Done, Refused}
 use Rattle.refusals.specs.Refusals.{refusal_of}
 use Rattle.answers.specs.Matters.{matter_of}
-use Rattle.answers.specs.Answers.{Performed, answered, cycles, flag, plain, ofEntry, ofRead, ofService, ofTrace}
+use Rattle.answers.specs.Answers.{Performed, answered, cycles, flag, plain, of_entry, of_read, of_service, of_trace}
 
 -- a call that is not refused; error entries answer 50 cycles
 unfoldable pub run : World → Call → Performed
-run w (TakeException v) = ofEntry (take_exception w v)
-run w (Trap n) = ofEntry (trap w n)
-run w (TakeGroup2Exception v) = ofEntry (take_group2 w v)
-run w ExceptionChk = ofEntry (take_group2 w chk)
-run w ExceptionZeroDivide = ofEntry (take_group2 w zero_divide)
-run w ExceptionPrivilege = ofEntry (take_exception w privilege_violation)
-run w ExceptionTrace = ofEntry (exception_trace w)
+run w (TakeException v) = of_entry (take_exception w v)
+run w (Trap n) = of_entry (trap w n)
+run w (TakeGroup2Exception v) = of_entry (take_group2 w v)
+run w ExceptionChk = of_entry (take_group2 w chk)
+run w ExceptionZeroDivide = of_entry (take_group2 w zero_divide)
+run w ExceptionPrivilege = of_entry (take_exception w privilege_violation)
+run w ExceptionTrace = of_entry (exception_trace w)
 run w (ExceptionAddressError a write instruction) = cycles (exception_address_error raised w a write instruction) 50
 run w (ExceptionBusError a write instruction z cause) = cycles (exception_bus_error raised w a write instruction z (cause_number cause)) 50
-run w (TakeFpUnimp060 ea) = ofEntry (take_fp_unimp060 w ea)
-run w TakeFpDisabled060 = ofEntry (take_fp_disabled060 w)
-run w TakeAlineException = ofEntry (take_rewound w line1010)
-run w TakeFlineException = ofEntry (take_rewound w line1111)
-run w (TakeTrapException n) = ofEntry (trap w n)
-run w TakeBkptException = ofEntry (take_rewound w illegal_instruction)
-run w TakeIllegalException = ofEntry (take_rewound w illegal_instruction)
+run w (TakeFpUnimp060 ea) = of_entry (take_fp_unimp060 w ea)
+run w TakeFpDisabled060 = of_entry (take_fp_disabled060 w)
+run w TakeAlineException = of_entry (take_rewound w line1010)
+run w TakeFlineException = of_entry (take_rewound w line1111)
+run w (TakeTrapException n) = of_entry (trap w n)
+run w TakeBkptException = of_entry (take_rewound w illegal_instruction)
+run w TakeIllegalException = of_entry (take_rewound w illegal_instruction)
 run w (TriggerAddressError a write instruction) = plain (raised w (address_error a write instruction))
 run w (TriggerBusError a write instruction z) = plain (raised w (bus_error a write instruction z))
-run w CheckTrace = ofTrace w (check_trace (cpu_of w))
+run w CheckTrace = of_trace w (check_trace (cpu_of w))
 run w (SetIrq n) = plain (step (λ c. set_irq c n) w)
 run w CheckInterrupts = flag w (check_interrupts (cpu_of w))
-run w CheckAndServiceInterrupts = ofService (check_and_service w)
-run w (Read16 a) = ofRead (read_at raised w a false)
-run w (Read32 a) = ofRead (read_at raised w a true)
+run w CheckAndServiceInterrupts = of_service (check_and_service w)
+run w (Read16 a) = of_read (read_at raised w a false)
+run w (Read32 a) = of_read (read_at raised w a true)
 run w (Write16 a v) = plain (write_at raised w a false v)
 run w (Write32 a v) = plain (write_at raised w a true v)
 run w (Push16 v) = plain (push_field raised w (word v))

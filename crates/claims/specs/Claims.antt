@@ -17,7 +17,7 @@ use Rattle.answers.specs.declared.Call.{Call}
 use Rattle.answers.specs.declared.Call.TheVariants.{ExceptionBusError, TriggerBusError, CheckAndServiceInterrupts}
 use Rattle.answers.specs.declared.Answer.TheVariants.{Cycles, Refused}
 use Rattle.answers.specs.Matters.{matter_of}
-use Rattle.answers.specs.Answers.{answered, eventsOf, value_of, count_of}
+use Rattle.answers.specs.Answers.{answered, events_of, value_of, count_of}
 use Rattle.calls.specs.Calls.{refusal, perform, begun}
 use Rattle.unwind.specs.Unwind.{return_from, walk_from}
 use Rattle.bounds.specs.Levels.{Unrolls}
@@ -134,7 +134,7 @@ events_most = calls.events_most
 
 -- "Cycle answers stand in a table of 256 entries": an accepted entry answers those of its vector, and 0 where one is under way
 pub cycles_of_the_table : (w : World) (c : Call) → refusal w c ≡ 0 → is_entry c ≡ true
-    → (perform w c).answer ≡ Cycles (cycles_of (in_exception (cpu_of w)) c) (eventsOf (perform w c).after.core)
+    → (perform w c).answer ≡ Cycles (cycles_of (in_exception (cpu_of w)) c) (events_of (perform w c).after.core)
 cycles_of_the_table = calls.cycles_of_the_table
 
 -- ---- the interrupt call

@@ -24,7 +24,7 @@ use Rattle.answers.specs.declared.Call.TheVariants.{TakeException, Trap, TakeGro
 use Rattle.answers.specs.Matters.{matter_of}
 use Rattle.answers.specs.declared.Answer.{Answer}
 use Rattle.answers.specs.declared.Answer.TheVariants.{Cycles, Flag, Value, Done, Refused}
-use Rattle.answers.specs.Answers.{Performed, answered, cycles, flag, ofEntry, ofService}
+use Rattle.answers.specs.Answers.{Performed, answered, cycles, flag, of_entry, of_service}
 use Rattle.calls.specs.Calls.{restarted, run, begun, refusal, perform}
 use Rattle.images.specs.Pushes.{calm}
 use Rattle.forms.specs.Gist.{gist}
@@ -324,11 +324,11 @@ costs v = go (either (ltb v 2) (eqb v 6)) (either (eqb v 2) (eqb v 3)) (eqb v 5)
 abbrev Agrees : Performed → Option Plan → Type 0
 Agrees x o = reads x.answer x.after ≡ outcome o x.after
 
-exc_reads : (w : World) (v : ℕ) (p : Plan) → Agrees (ofEntry (take_exception w v)) (pick (in_exception (cpu_of w)) none (some p))
-unfolding ofEntry cycles take_exception
+exc_reads : (w : World) (v : ℕ) (p : Plan) → Agrees (of_entry (take_exception w v)) (pick (in_exception (cpu_of w)) none (some p))
+unfolding of_entry cycles take_exception
 exc_reads w v p = go (in_exception (cpu_of w))
   where
-    go : (b : Bool) → Agrees (ofEntry (pick b (entry (step halted w) 0) (entry (done (step begin_entry w) v) (exception_cycles v)))) (pick b none (some p))
+    go : (b : Bool) → Agrees (of_entry (pick b (entry (step halted w) 0) (entry (done (step begin_entry w) v) (exception_cycles v)))) (pick b none (some p))
     go true = refl
     go false = rw (costs v)
 
@@ -336,20 +336,20 @@ rewound_in : (c : Cpu) → in_exception (rewind_pc c) ≡ in_exception c
 unfolding in_exception rewind_pc
 rewound_in c = refl
 
-rewound_reads : (w : World) (v : ℕ) (p : Plan) → Agrees (ofEntry (take_rewound w v)) (pick (in_exception (cpu_of w)) none (some p))
+rewound_reads : (w : World) (v : ℕ) (p : Plan) → Agrees (of_entry (take_rewound w v)) (pick (in_exception (cpu_of w)) none (some p))
 unfolding take_rewound put_cpu
 rewound_reads w v p =
-    subst (λ (b : Bool). Agrees (ofEntry (take_exception (step rewind_pc w) v)) (pick b none (some p))) (rewound_in (cpu_of w)) (exc_reads (step rewind_pc w) v p)
+    subst (λ (b : Bool). Agrees (of_entry (take_exception (step rewind_pc w) v)) (pick b none (some p))) (rewound_in (cpu_of w)) (exc_reads (step rewind_pc w) v p)
 
-costly : (z : World) (v : ℕ) (p : Plan) → Agrees (ofEntry (entry z (exception_cycles v))) (some p)
-unfolding ofEntry cycles
+costly : (z : World) (v : ℕ) (p : Plan) → Agrees (of_entry (entry z (exception_cycles v))) (some p)
+unfolding of_entry cycles
 costly z v p = rw (costs v)
 
-service_reads : (w : World) (p : Plan) → Agrees (ofService (check_and_service w)) (pick (takes_interrupt (cpu_of w)) (some p) none)
-unfolding ofService flag check_and_service
+service_reads : (w : World) (p : Plan) → Agrees (of_service (check_and_service w)) (pick (takes_interrupt (cpu_of w)) (some p) none)
+unfolding of_service flag check_and_service
 service_reads w p = go (takes_interrupt (cpu_of w))
   where
-    go : (b : Bool) → Agrees (ofService (pick b (tried (serviced (service_interrupt w (pending_level (cpu_of w)))) true) (tried w false))) (pick b (some p) none)
+    go : (b : Bool) → Agrees (of_service (pick b (tried (serviced (service_interrupt w (pending_level (cpu_of w)))) true) (tried w false))) (pick b (some p) none)
     go true = refl
     go false = refl
 

@@ -23,7 +23,7 @@ use Rattle.exceptions.specs.Exceptions.{stack_disabled, take_fp_disabled060}
 use Rattle.refusals.specs.Refusals.{bad_cycles, bad_kind, tests_of, first_number, refusal_of}
 use Rattle.answers.specs.declared.Call.TheVariants.{ExceptionBusError, TakeFpDisabled060}
 use Rattle.answers.specs.Matters.{of_lent, of_floating, matter_of}
-use Rattle.answers.specs.Answers.{cycles, ofEntry}
+use Rattle.answers.specs.Answers.{cycles, of_entry}
 use Rattle.calls.specs.Calls.{run, refusal}
 use Rattle.numbers.specs.declared.RawCall.{RawCall}
 use Rattle.numbers.specs.Numbers.{flag}
@@ -148,9 +148,9 @@ plain_bus_lem m c s l a b =
 
 -- ---- a disabled floating-point unit
 
-disabled_step : (m : Core) (s l : List ℕ) → ofEntry (take_fp_disabled060 (closed m.bus m.cpu 0 s l))
+disabled_step : (m : Core) (s l : List ℕ) → of_entry (take_fp_disabled060 (closed m.bus m.cpu 0 s l))
     ≡ cycles (jump_vector raised (push_frame raised (closed m.bus (enter_supervisor m.cpu) 0 s l) (disabled_frame (compose m.cpu.flags) m.cpu.flow.ppc 0x402C 0 m.cpu.flow.ppc)) 11) 34
-unfolding ofEntry take_fp_disabled060 stack_disabled closed put_cpu get_sr ppc_of format_word exception_cycles
+unfolding of_entry take_fp_disabled060 stack_disabled closed put_cpu get_sr ppc_of format_word exception_cycles
 disabled_step m s l = refl
 
 plain_disabled : (m : Core) (c : RawCall) (s l : List ℕ) → Accepted m (length s) (length l) → Disabled (view_of m) (code_of m.cpu) c

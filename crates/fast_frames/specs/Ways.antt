@@ -16,7 +16,7 @@ use Rattle.memory.specs.LogLaws.{Event}
 use Rattle.frames.specs.declared.Frame.{Frame}
 use Rattle.frames.specs.Frames.{field_at}
 use Rattle.access.specs.Access.{raised, push_frame, jump_vector}
-use Rattle.answers.specs.Answers.{cycles, refusedBy, value_of, count_of}
+use Rattle.answers.specs.Answers.{cycles, refused_by, value_of, count_of}
 use Rattle.numbers.specs.declared.RawCall.{RawCall}
 use Rattle.boundary.specs.Calls.{Outcome, outcome, of_performed, raw_call}
 use Rattle.unfaulted.specs.Closed.{closed, told, Piece, laid, last_value, clock_events, Entering, jumped, entry_events, arrived}
@@ -103,7 +103,7 @@ fitted_arrived b c s l f n v q a to at x y h e =
     frame_arrived raised b c 0 s l f k v q a to at x y z g (rw o at e) u ∙ ap (λ (i : ℕ). arrived b c (clocks_of c) 0 s l q (pieces_of f i) (prefetch_enabled c) v a to at x y) (sym z)
 
 cycles_said : (b : Bus) (c : Cpu) (e : ℕ) (s l : List ℕ) (n : ℕ) → of_performed (cycles (closed b c e s l) n) ≡ outcome (closed b c e s l) 0 n e
-unfolding of_performed cycles closed refusedBy value_of count_of
+unfolding of_performed cycles closed refused_by value_of count_of
 cycles_said b c e s l n = refl
 
 -- ---- the fast way says so

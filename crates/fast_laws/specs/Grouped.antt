@@ -17,7 +17,7 @@ use Rattle.memory.specs.declared.Core.{Core}
 use Rattle.memory.specs.World.{world}
 use Rattle.formats.specs.Formats.{format_word, offset_word}
 use Rattle.exceptions.specs.Exceptions.{Entry, entry, take_group2, exception_trace}
-use Rattle.answers.specs.Answers.{cycles, ofEntry}
+use Rattle.answers.specs.Answers.{cycles, of_entry}
 use Rattle.numbers.specs.declared.RawCall.{RawCall}
 use Rattle.boundary.specs.Calls.{of_performed, raw_call}
 use Rattle.unfaulted.specs.Closed.{closed, Piece, last_value, short_pieces, long_pieces, three_pieces, Entering, jumped, arrived, clocks_after, short_bytes, short_of, group2_bytes, group2_of}
@@ -150,7 +150,7 @@ module _ (m : Core) (s l : List ℕ) (w : Words m) (a : Accepted m (length s) (l
       → (let x : View = view_of m in let j : Landing = landing_for x p s in let q : Patch = patch_by x p (spot_for x p) j (jump_count (lay_count x p) (fetches_of x)) in
       jumped q.fetches (set_wdata (set_a7 (set_clocks (enter_supervisor d) 0) q.a7) q.last) q.vector q.pc q.first q.second ≡ patch_cpu m.cpu q)
       → (let x : View = view_of m in let j : Landing = landing_for x p s in
-      raw_call (world m s l) c ≡ of_performed (ofEntry (entry (arrived m.bus (enter_supervisor d) k 0 s l (top_of x - p.bytes) (group2_of (kind_of m.cpu) (get_sr m.cpu) (pc_of m.cpu) (ppc_of m.cpu) v) (prefetch_enabled m.cpu) v j.from j.pc j.pc j.first j.second) (exception_cycles v))))
+      raw_call (world m s l) c ≡ of_performed (of_entry (entry (arrived m.bus (enter_supervisor d) k 0 s l (top_of x - p.bytes) (group2_of (kind_of m.cpu) (get_sr m.cpu) (pc_of m.cpu) (ppc_of m.cpu) v) (prefetch_enabled m.cpu) v j.from j.pc j.pc j.first j.second) (exception_cycles v))))
       → Says m c s l (go_of (view_of m) c s l)
   unfolding arrived view_of fetches_of prefetch_enabled patch_by
   group_same d k z u r =
@@ -180,7 +180,7 @@ module _ (m : Core) (s l : List ℕ) (w : Words m) (a : Accepted m (length s) (l
   group2_clocks v = waiting_none m w
 
   pub group2_same : (v : ℕ) → v < 256 → go_of (view_of m) c s l ≡ enter_of (view_of m) (way2 v) s l → (enter_of (view_of m) (way2 v) s l).patch.fast ≡ true
-      → raw_call (world m s l) c ≡ of_performed (ofEntry (take_group2 (closed m.bus m.cpu 0 s l) v)) → Says m c s l (go_of (view_of m) c s l)
+      → raw_call (world m s l) c ≡ of_performed (of_entry (take_group2 (closed m.bus m.cpu 0 s l) v)) → Says m c s l (go_of (view_of m) c s l)
   group2_same v h e f r =
       let x : View = view_of m in
       let p : Plan = way2 v in
@@ -190,7 +190,7 @@ module _ (m : Core) (s l : List ℕ) (w : Words m) (a : Accepted m (length s) (l
       let t = group2_closed m.bus m.cpu 0 s l v (top_of x - p.bytes) j.from j.pc j.pc j.first j.second (group_entering m s l w a c p v h (group2_plan_lem v) e g) (lit< tt) in
       group_same m s l w a c p v h (group2_plan_lem v) e g m.cpu (clocks_of m.cpu) (group2_clocks v)
       (plain_patched m.cpu (patch_by x p (spot_for x p) j i) (clear_of_lem m s l w a) (fitting_of m s l w a p i g) (group2_plain v i))
-      (r ∙ ap (λ (z : Entry). of_performed (ofEntry z)) t)
+      (r ∙ ap (λ (z : Entry). of_performed (of_entry z)) t)
 
   -- ---- the trace
 
@@ -210,7 +210,7 @@ module _ (m : Core) (s l : List ℕ) (w : Words m) (a : Accepted m (length s) (l
   trace_clocks = refl
 
   pub trace_same : go_of (view_of m) c s l ≡ enter_of (view_of m) way3 s l → (enter_of (view_of m) way3 s l).patch.fast ≡ true
-      → raw_call (world m s l) c ≡ of_performed (ofEntry (exception_trace (closed m.bus m.cpu 0 s l))) → Says m c s l (go_of (view_of m) c s l)
+      → raw_call (world m s l) c ≡ of_performed (of_entry (exception_trace (closed m.bus m.cpu 0 s l))) → Says m c s l (go_of (view_of m) c s l)
   trace_same e f r =
       let x : View = view_of m in
       let p : Plan = way3 in
@@ -221,4 +221,4 @@ module _ (m : Core) (s l : List ℕ) (w : Words m) (a : Accepted m (length s) (l
       let t = trace_closed m.bus m.cpu 0 s l (top_of x - p.bytes) j.from j.pc j.pc j.first j.second (group_entering m s l w a c p 9 (lit< tt) trace_plan_lem e g) (lit< tt) in
       group_same m s l w a c p 9 (lit< tt) trace_plan_lem e g (leave_stop m.cpu) (clocks_after m.cpu 4) trace_clocks
       (plain_patched (leave_stop m.cpu) q (stop_clear m.cpu (clear_of_lem m s l w a)) (stop_fitting m.cpu q (fitting_of m s l w a p i g)) (trace_plain i) ∙ stop_patched m.cpu q)
-      (r ∙ ap (λ (z : Entry). of_performed (ofEntry z)) t)
+      (r ∙ ap (λ (z : Entry). of_performed (of_entry z)) t)

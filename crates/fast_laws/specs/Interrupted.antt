@@ -30,7 +30,7 @@ use Rattle.fast_plans.specs.Laws.{compose_fits, vector_fits}
 use Rattle.fast_laws.specs.Patched.{patch_cpu, Words, Fetched}
 use Rattle.fast_laws.specs.Accepts.{Accepted}
 use Rattle.status.specs.Status.{get_sr, m_is_set}
-use Rattle.answers.specs.Answers.{flag, ofService, refusedBy, value_of, count_of}
+use Rattle.answers.specs.Answers.{flag, of_service, refused_by, value_of, count_of}
 use Rattle.memory.specs.World.{Attempt, world, tried, response_of}
 use Rattle.memory.specs.Log.{note_log}
 use Rattle.pending.specs.Interrupts.{pending_level, takes_interrupt, clear_level}
@@ -45,8 +45,8 @@ use Rattle.fast_laws.specs.Supervised.{Interrupting, interrupt_patched}
 use Rattle.fast_laws.specs.Tapes.{clocks_told, clocks_counted, jump_told, jump_counted, Laid, short_laid}
 use Rattle.fast_laws.specs.Ways.{waiting_none, fetched_in, place_at, spot_for, landing_for, Entered, entered_by_lem, Says, same_world, clear_of_lem, entering_of, fitting_of}
 
-served_said : (b : Bus) (c : Cpu) (e : ℕ) (s l : List ℕ) → of_performed (ofService (tried (closed b c e s l) true)) ≡ outcome (closed b c e s l) 0 1 e
-unfolding of_performed ofService flag closed refusedBy value_of count_of
+served_said : (b : Bus) (c : Cpu) (e : ℕ) (s l : List ℕ) → of_performed (of_service (tried (closed b c e s l) true)) ≡ outcome (closed b c e s l) 0 1 e
+unfolding of_performed of_service flag closed refused_by value_of count_of
 served_said b c e s l = refl
 
 -- what a plan writes: frame ps, events es in all
@@ -58,7 +58,7 @@ pub record Told (x : View) (p : Plan) (s l : List ℕ) (ps : List Piece) (es : L
 serviced : (m : Core) (c : RawCall) (s l : List ℕ) (p : Plan) (g : Ended) (ps : List Piece) (es : List Event) (d : Cpu)
     → g ≡ written_of (view_of m) p (spot_for (view_of m) p) (landing_for (view_of m) p s) (tape s l) → Told (view_of m) p s l ps es
     → d ≡ patch_cpu m.cpu (patch_by (view_of m) p (spot_for (view_of m) p) (landing_for (view_of m) p s) (jump_count (lay_count (view_of m) p) (fetches_of (view_of m))))
-    → p.answer ≡ 1 → raw_call (world m s l) c ≡ of_performed (ofService (tried (closed m.bus d (0 + length es) (laid s (place_at (view_of m) p) ps) (told 0 l es)) true))
+    → p.answer ≡ 1 → raw_call (world m s l) c ≡ of_performed (of_service (tried (closed m.bus d (0 + length es) (laid s (place_at (view_of m) p) ps) (told 0 l es)) true))
     → Says m c s l g
 unfolding written_of patch_by
 serviced m c s l p g ps es d z f k a r =
@@ -274,7 +274,7 @@ no_master c e = rw e
 
 module _ (m : Core) (s l : List ℕ) (w : Words m) (a : Accepted m (length s) (length l)) (c : RawCall) (bs : Fetched (go_of (view_of m) c s l).patch) (takes : takes_interrupt m.cpu ≡ true)
     (e : go_of (view_of m) c s l ≡ enter_of (view_of m) (interrupt_plan (view_of m)) s l) (f : (enter_of (view_of m) (interrupt_plan (view_of m)) s l).patch.fast ≡ true)
-    (r : raw_call (world m s l) c ≡ of_performed (ofService (check_and_service (closed m.bus m.cpu 0 s l)))) where
+    (r : raw_call (world m s l) c ≡ of_performed (of_service (check_and_service (closed m.bus m.cpu 0 s l)))) where
   abbrev p : Plan
   p = interrupt_plan (view_of m)
 
@@ -369,7 +369,7 @@ module _ (m : Core) (s l : List ℕ) (w : Words m) (a : Accepted m (length s) (l
       serviced m c s l p (go_of x c s l) ps es
       (clear_level (close_interrupt (jumped (prefetch_enabled m.cpu) (set_wdata (set_a7 (set_clocks (enter_level m.cpu (pending_level m.cpu)) 0) q) (get_sr m.cpu)) vector j.pc j.first j.second)))
       (e ∙ entered.same) u (patched (get_sr m.cpu) vector (other_last h g) (sym plan_vector)) plan_answer
-      (r ∙ ap (λ (i : Attempt). of_performed (ofService i)) t)
+      (r ∙ ap (λ (i : Attempt). of_performed (of_service i)) t)
 
   -- kind 2
   ten_shape : eqb (kind_of m.cpu) 1 ≡ false → eqb (kind_of m.cpu) 2 ≡ true → p.shape ≡ 5
@@ -400,7 +400,7 @@ module _ (m : Core) (s l : List ℕ) (w : Words m) (a : Accepted m (length s) (l
       serviced m c s l p (go_of x c s l) ps es
       (clear_level (close_interrupt (jumped (prefetch_enabled m.cpu) (set_wdata (set_a7 (set_clocks (enter_level m.cpu (pending_level m.cpu)) 0) q) (offset_word vector)) vector j.pc j.first j.second)))
       (e ∙ entered.same) u (patched (offset_word vector) vector (sym (ten_last h g ∙ offset_of_lem)) (sym plan_vector)) plan_answer
-      (r ∙ ap (λ (i : Attempt). of_performed (ofService i)) t)
+      (r ∙ ap (λ (i : Attempt). of_performed (of_service i)) t)
 
   -- kind 1
   old_shape : eqb (kind_of m.cpu) 1 ≡ true → p.shape ≡ 4
@@ -439,7 +439,7 @@ module _ (m : Core) (s l : List ℕ) (w : Words m) (a : Accepted m (length s) (l
       serviced m c s l p (go_of x c s l) ps es
       (clear_level (close_interrupt (jumped (prefetch_enabled m.cpu) (set_wdata (set_a7 (set_clocks (enter_level m.cpu (pending_level m.cpu)) 0) q) (pc / 0x10000)) vector j.pc j.first j.second)))
       (e ∙ entered.same) u (patched (pc / 0x10000) vector (old_last h) (sym plan_vector)) plan_answer
-      (r ∙ ap (λ (i : Attempt). of_performed (ofService i)) t)
+      (r ∙ ap (λ (i : Attempt). of_performed (of_service i)) t)
 
   pub interrupt_same : Says m c s l (go_of (view_of m) c s l)
   interrupt_same = go (eqb (kind_of m.cpu) 1) (eqb (kind_of m.cpu) 2) refl refl

@@ -22,7 +22,7 @@ use Rattle.answers.specs.declared.Call.{Call}
 use Rattle.answers.specs.declared.Call.TheVariants.{TakeException, Trap, TakeGroup2Exception, ExceptionChk, ExceptionZeroDivide, ExceptionPrivilege, ExceptionTrace, TakeFpUnimp060, TakeAlineException, TakeFlineException, TakeTrapException, TakeBkptException, TakeIllegalException, CheckTrace, SetIrq, CheckInterrupts, CheckAndServiceInterrupts}
 use Rattle.answers.specs.Matters.{of_lent, matter_of}
 use Rattle.numbers.specs.Numbers.{bit}
-use Rattle.answers.specs.Answers.{flag, plain, ofEntry, ofService, ofTrace, refusedBy, value_of, count_of}
+use Rattle.answers.specs.Answers.{flag, plain, of_entry, of_service, of_trace, refused_by, value_of, count_of}
 use Rattle.calls.specs.Calls.{run, refusal}
 use Rattle.numbers.specs.declared.RawCall.{RawCall}
 use Rattle.boundary.specs.declared.Decoded.TheVariants.{Known}
@@ -193,25 +193,25 @@ module _ (m : Core) (c : RawCall) (s l : List ℕ) (w : Words m) (bs : Fetched (
   unfolding halts view_of in_exception
   idle_row v b e = e
 
-  take_number : (v : ℕ) (call : Call) → eqb c.number 22 ≡ false → eqb c.number 10 ≡ false → row_of c ≡ row 1 v false → Given c call v → run whole call ≡ ofEntry (take_exception whole v) → Says m c s l (go_of (view_of m) c s l)
+  take_number : (v : ℕ) (call : Call) → eqb c.number 22 ≡ false → eqb c.number 10 ≡ false → row_of c ≡ row 1 v false → Given c call v → run whole call ≡ of_entry (take_exception whole v) → Says m c s l (go_of (view_of m) c s l)
   take_number v call e d f y u =
       let r : Rowed (view_of m) c s l (row 1 v false) = rowed (view_of m) c s l (row 1 v false) g e d f in
       let h : v ≤ 255 = r.plan.vector in
       taken_same m s l w a c v bs (omega arith) (idle_row v false r.plan.running) r.same r.made (given_run call v y h ∙ ap of_performed u)
 
-  rewound_number : (v : ℕ) (call : Call) → eqb c.number 22 ≡ false → eqb c.number 10 ≡ false → row_of c ≡ row 1 v true → Given c call v → run whole call ≡ ofEntry (take_rewound whole v) → Says m c s l (go_of (view_of m) c s l)
+  rewound_number : (v : ℕ) (call : Call) → eqb c.number 22 ≡ false → eqb c.number 10 ≡ false → row_of c ≡ row 1 v true → Given c call v → run whole call ≡ of_entry (take_rewound whole v) → Says m c s l (go_of (view_of m) c s l)
   rewound_number v call e d f y u =
       let r : Rowed (view_of m) c s l (row 1 v true) = rowed (view_of m) c s l (row 1 v true) g e d f in
       let h : v ≤ 255 = r.plan.vector in
       rewound_same m s l w a c v bs (omega arith) (idle_row v true r.plan.running) r.same r.made (given_run call v y h ∙ ap of_performed u)
 
-  group2_number : (v : ℕ) (call : Call) → eqb c.number 22 ≡ false → eqb c.number 10 ≡ false → row_of c ≡ row 2 v false → Given c call v → run whole call ≡ ofEntry (take_group2 whole v) → Says m c s l (go_of (view_of m) c s l)
+  group2_number : (v : ℕ) (call : Call) → eqb c.number 22 ≡ false → eqb c.number 10 ≡ false → row_of c ≡ row 2 v false → Given c call v → run whole call ≡ of_entry (take_group2 whole v) → Says m c s l (go_of (view_of m) c s l)
   group2_number v call e d f y u =
       let r : Rowed (view_of m) c s l (row 2 v false) = rowed (view_of m) c s l (row 2 v false) g e d f in
       let h : v ≤ 255 = r.plan.vector in
       group2_same m s l w a c bs v (omega arith) r.same r.made (given_run call v y h ∙ ap of_performed u)
 
-  trace_number : (call : Call) → eqb c.number 22 ≡ false → eqb c.number 10 ≡ false → row_of c ≡ row 3 9 false → Given c call 9 → run whole call ≡ ofEntry (exception_trace whole) → Says m c s l (go_of (view_of m) c s l)
+  trace_number : (call : Call) → eqb c.number 22 ≡ false → eqb c.number 10 ≡ false → row_of c ≡ row 3 9 false → Given c call 9 → run whole call ≡ of_entry (exception_trace whole) → Says m c s l (go_of (view_of m) c s l)
   trace_number call e d f y u =
       let r : Rowed (view_of m) c s l (row 3 9 false) = rowed (view_of m) c s l (row 3 9 false) g e d f in
       trace_same m s l w a c bs r.same r.made (given_run call 9 y r.plan.vector ∙ ap of_performed u)
@@ -227,7 +227,7 @@ module _ (m : Core) (c : RawCall) (s l : List ℕ) (w : Words m) (bs : Fetched (
   unfolding row_of decode run matter_of trap
   number2 h =
       take_number (32 + c.a % 16) (Trap (c.a % 256)) (rw h) (rw h) (rw h) (record { known = rw h; floating = refl; vector = λ i. lit≤ tt; interrupt = refl })
-      (ap (λ (v : ℕ). ofEntry (take_exception whole v)) trap_vector)
+      (ap (λ (v : ℕ). of_entry (take_exception whole v)) trap_vector)
 
   number3 : c.number ≡ 3 → Says m c s l (go_of (view_of m) c s l)
   unfolding row_of decode run matter_of
@@ -281,7 +281,7 @@ module _ (m : Core) (c : RawCall) (s l : List ℕ) (w : Words m) (bs : Fetched (
   unfolding row_of decode run matter_of trap
   number14 h =
       take_number (32 + c.a % 16) (TakeTrapException (c.a % 256)) (rw h) (rw h) (rw h) (record { known = rw h; floating = refl; vector = λ i. lit≤ tt; interrupt = refl })
-      (ap (λ (v : ℕ). ofEntry (take_exception whole v)) trap_vector)
+      (ap (λ (v : ℕ). of_entry (take_exception whole v)) trap_vector)
 
   number15 : c.number ≡ 15 → Says m c s l (go_of (view_of m) c s l)
   unfolding row_of decode run matter_of
@@ -417,7 +417,7 @@ quietly_as m c s l q r e h = rw e h
 module _ (m : Core) (c : RawCall) (s l : List ℕ) (a : Accepted m (length s) (length l)) where
   -- number 19
   trace_said : of_performed (run (closed m.bus m.cpu 0 s l) CheckTrace) ≡ outcome (world (calm_of m (calm_patch (bit (asks (view_of m))) m.cpu.flags.int_level false)) s l) 0 (bit (asks (view_of m))) 0
-  unfolding run of_performed ofTrace flag check_trace set_change_of_flow asks_trace closed refusedBy value_of count_of put_cpu calm_of calm_patch asks view_of
+  unfolding run of_performed of_trace flag check_trace set_change_of_flow asks_trace closed refused_by value_of count_of put_cpu calm_of calm_patch asks view_of
   trace_said = refl
 
   quiet19 : c.number ≡ 19 → Quietly m c s l (quiet_of (view_of m) c)
@@ -429,7 +429,7 @@ module _ (m : Core) (c : RawCall) (s l : List ℕ) (a : Accepted m (length s) (l
 
   -- number 20
   level_said : of_performed (run (closed m.bus m.cpu 0 s l) (SetIrq (c.a % 256))) ≡ outcome (world (calm_of m (calm_patch 0 (c.a % 8) m.cpu.flow.change_of_flow)) s l) 0 0 0
-  unfolding run of_performed plain set_irq closed refusedBy value_of count_of put_cpu calm_of calm_patch
+  unfolding run of_performed plain set_irq closed refused_by value_of count_of put_cpu calm_of calm_patch
   level_said = let e : c.a % 256 % 8 ≡ c.a % 8 = omega arith in rw e
 
   quiet20 : c.number ≡ 20 → Quietly m c s l (quiet_of (view_of m) c)
@@ -440,7 +440,7 @@ module _ (m : Core) (c : RawCall) (s l : List ℕ) (a : Accepted m (length s) (l
 
   -- number 21
   check_said : of_performed (run (closed m.bus m.cpu 0 s l) CheckInterrupts) ≡ outcome (closed m.bus m.cpu 0 s l) 0 (bit (checks (view_of m))) 0
-  unfolding run of_performed flag check_interrupts closed refusedBy value_of count_of checks view_of
+  unfolding run of_performed flag check_interrupts closed refused_by value_of count_of checks view_of
   check_said = refl
 
   quiet21 : c.number ≡ 21 → Quietly m c s l (quiet_of (view_of m) c)
@@ -451,7 +451,7 @@ module _ (m : Core) (c : RawCall) (s l : List ℕ) (a : Accepted m (length s) (l
 
   -- number 22, not taken
   none_said : takes_interrupt m.cpu ≡ false → of_performed (run (closed m.bus m.cpu 0 s l) CheckAndServiceInterrupts) ≡ outcome (closed m.bus m.cpu 0 s l) 0 0 0
-  unfolding run of_performed ofService flag check_and_service closed refusedBy value_of count_of
+  unfolding run of_performed of_service flag check_and_service closed refused_by value_of count_of
   none_said e = rw e
 
   quiet22 : c.number ≡ 22 → takes_interrupt m.cpu ≡ false → has_cycles m.cpu ≡ true → Quietly m c s l (quiet_of (view_of m) c)

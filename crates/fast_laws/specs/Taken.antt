@@ -14,10 +14,10 @@ use Rattle.status.specs.Status.{compose, get_sr}
 use Rattle.status.specs.Banks.{enter_supervisor}
 use Rattle.memory.specs.declared.Core.{Core}
 use Rattle.memory.specs.World.{world}
-use Rattle.steps.specs.Steps.{stacks_next as stacksNextOf, stacked_address}
+use Rattle.steps.specs.Steps.{stacks_next as stacks_next_of, stacked_address}
 use Rattle.formats.specs.Formats.{offset_word}
 use Rattle.exceptions.specs.Exceptions.{Entry, entry, take_exception, take_rewound}
-use Rattle.answers.specs.Answers.{cycles, ofEntry}
+use Rattle.answers.specs.Answers.{cycles, of_entry}
 use Rattle.numbers.specs.declared.RawCall.{RawCall}
 use Rattle.boundary.specs.Calls.{of_performed, raw_call}
 use Rattle.unfaulted.specs.Closed.{closed, Piece, last_value, short_pieces, three_pieces, Entering, jumped, arrived, clocks_after, short_bytes, short_of}
@@ -53,7 +53,7 @@ module _ (m : Core) (t : Tape) (v : ℕ) (b : Bool) (w : Words m) (h : v < 256) 
 
   address_small : taken_at < 2 ^ 32
   unfolding address_of view_of
-  address_small = go b (stacksNextOf v)
+  address_small = go b (stacks_next_of v)
     where
       go : (i j : Bool) → pick i m.cpu.flow.ppc (pick j m.cpu.flow.pc m.cpu.flow.ppc) < 2 ^ 32
       go true j = w.ppc
@@ -137,7 +137,7 @@ module _ (m : Core) (s l : List ℕ) (w : Words m) (a : Accepted m (length s) (l
 
   short_same : (c : RawCall) (v : ℕ) (b : Bool) → v < 256 → go_of (view_of m) c s l ≡ enter_of (view_of m) (way1 v b) s l → Entered (view_of m) (way1 v b) s l
       → (let x : View = view_of m in let p : Plan = way1 v b in let j : Landing = landing_for x p s in
-      raw_call (world m s l) c ≡ of_performed (ofEntry (entry (arrived m.bus (enter_supervisor m.cpu) (clocks_after m.cpu 4) 0 s l (top_of x - p.bytes) (short_of (kind_of m.cpu) (get_sr m.cpu) (address_of x (row 1 v b)) (offset_word v)) (prefetch_enabled m.cpu) v j.from j.pc j.pc j.first j.second) (exception_cycles v))))
+      raw_call (world m s l) c ≡ of_performed (of_entry (entry (arrived m.bus (enter_supervisor m.cpu) (clocks_after m.cpu 4) 0 s l (top_of x - p.bytes) (short_of (kind_of m.cpu) (get_sr m.cpu) (address_of x (row 1 v b)) (offset_word v)) (prefetch_enabled m.cpu) v j.from j.pc j.pc j.first j.second) (exception_cycles v))))
       → Says m c s l (go_of (view_of m) c s l)
   unfolding arrived entry_plan view_of waiting_of clocks_after fetches_of prefetch_enabled clocks_of
   short_same c v b h e g r =
@@ -150,21 +150,21 @@ module _ (m : Core) (s l : List ℕ) (w : Words m) (a : Accepted m (length s) (l
       (e ∙ g.same) (take_framed m (tape s l) v b w h) (take_cpu v b h g) refl r
 
   pub taken_same : (c : RawCall) (v : ℕ) → Fetched (go_of (view_of m) c s l).patch → v < 256 → in_exception m.cpu ≡ false → go_of (view_of m) c s l ≡ enter_of (view_of m) (way1 v false) s l
-      → (enter_of (view_of m) (way1 v false) s l).patch.fast ≡ true → raw_call (world m s l) c ≡ of_performed (ofEntry (take_exception (closed m.bus m.cpu 0 s l) v)) → Says m c s l (go_of (view_of m) c s l)
+      → (enter_of (view_of m) (way1 v false) s l).patch.fast ≡ true → raw_call (world m s l) c ≡ of_performed (of_entry (take_exception (closed m.bus m.cpu 0 s l) v)) → Says m c s l (go_of (view_of m) c s l)
   taken_same c v bs h i e f r =
       let x : View = view_of m in
       let p : Plan = way1 v false in
       let j : Landing = landing_for x p s in
       let g : Entered x p s l = entered_by_lem x p s l (fetched_in (go_of x c s l) (enter_of x p s l) e bs) f in
       let t = take_closed m.bus m.cpu 0 s l v (top_of x - p.bytes) j.from j.pc j.pc j.first j.second i (short_entering v false h g) (lit< tt) in
-      short_same c v false h e g (rw (take_address v) (r ∙ ap (λ (z : Entry). of_performed (ofEntry z)) t))
+      short_same c v false h e g (rw (take_address v) (r ∙ ap (λ (z : Entry). of_performed (of_entry z)) t))
 
   pub rewound_same : (c : RawCall) (v : ℕ) → Fetched (go_of (view_of m) c s l).patch → v < 256 → in_exception m.cpu ≡ false → go_of (view_of m) c s l ≡ enter_of (view_of m) (way1 v true) s l
-      → (enter_of (view_of m) (way1 v true) s l).patch.fast ≡ true → raw_call (world m s l) c ≡ of_performed (ofEntry (take_rewound (closed m.bus m.cpu 0 s l) v)) → Says m c s l (go_of (view_of m) c s l)
+      → (enter_of (view_of m) (way1 v true) s l).patch.fast ≡ true → raw_call (world m s l) c ≡ of_performed (of_entry (take_rewound (closed m.bus m.cpu 0 s l) v)) → Says m c s l (go_of (view_of m) c s l)
   rewound_same c v bs h i e f r =
       let x : View = view_of m in
       let p : Plan = way1 v true in
       let j : Landing = landing_for x p s in
       let g : Entered x p s l = entered_by_lem x p s l (fetched_in (go_of x c s l) (enter_of x p s l) e bs) f in
       let t = rewound_closed m.bus m.cpu 0 s l v (top_of x - p.bytes) j.from j.pc j.pc j.first j.second i (short_entering v true h g) (lit< tt) in
-      short_same c v true h e g (rw (rewound_address v) (r ∙ ap (λ (z : Entry). of_performed (ofEntry z)) t))
+      short_same c v true h e g (rw (rewound_address v) (r ∙ ap (λ (z : Entry). of_performed (of_entry z)) t))

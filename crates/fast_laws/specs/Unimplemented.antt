@@ -13,7 +13,7 @@ use Rattle.memory.specs.declared.Core.{Core}
 use Rattle.memory.specs.World.{world}
 use Rattle.formats.specs.Formats.{format_word}
 use Rattle.exceptions.specs.Exceptions.{Entry, entry, take_fp_unimp060}
-use Rattle.answers.specs.Answers.{ofEntry}
+use Rattle.answers.specs.Answers.{of_entry}
 use Rattle.numbers.specs.declared.RawCall.{RawCall}
 use Rattle.boundary.specs.Calls.{of_performed, raw_call}
 use Rattle.unfaulted.specs.Closed.{closed, Piece, last_value, short_pieces, long_pieces, jumped, arrived}
@@ -78,7 +78,7 @@ module _ (m : Core) (s l : List ℕ) (w : Words m) (a : Accepted m (length s) (l
       jumped q.fetches (set_wdata (set_a7 (set_clocks (enter_supervisor (note_fpiar m.cpu)) 0) q.a7) q.last) q.vector q.pc q.first q.second ≡ patch_cpu m.cpu q)
       → go_of (view_of m) c s l ≡ enter_of (view_of m) plan s l → Entered (view_of m) plan s l
       → (let x : View = view_of m in let j : Landing = landing_for x plan s in
-      raw_call (world m s l) c ≡ of_performed (ofEntry (entry (arrived m.bus (enter_supervisor (note_fpiar m.cpu)) (clocks_of m.cpu) 0 s l (top_of x - plan.bytes) pieces (prefetch_enabled m.cpu) line1111 j.from j.pc j.pc j.first j.second) (exception_cycles line1111))))
+      raw_call (world m s l) c ≡ of_performed (of_entry (entry (arrived m.bus (enter_supervisor (note_fpiar m.cpu)) (clocks_of m.cpu) 0 s l (top_of x - plan.bytes) pieces (prefetch_enabled m.cpu) line1111 j.from j.pc j.pc j.first j.second) (exception_cycles line1111))))
       → Says m c s l (go_of (view_of m) c s l)
   unfolding arrived view_of fetches_of prefetch_enabled patch_by
   unimp_said u e g r =
@@ -89,7 +89,7 @@ module _ (m : Core) (s l : List ℕ) (w : Words m) (a : Accepted m (length s) (l
       (e ∙ g.same) (plan_framed (spot_for x plan) (tape s l)) (rw (plan_last, ← plan_vector) u) plan_answer (rw plan_clocks r)
 
   pub unimp_same : go_of (view_of m) c s l ≡ enter_of (view_of m) plan s l → (enter_of (view_of m) plan s l).patch.fast ≡ true
-      → raw_call (world m s l) c ≡ of_performed (ofEntry (take_fp_unimp060 (closed m.bus m.cpu 0 s l) ea)) → Says m c s l (go_of (view_of m) c s l)
+      → raw_call (world m s l) c ≡ of_performed (of_entry (take_fp_unimp060 (closed m.bus m.cpu 0 s l) ea)) → Says m c s l (go_of (view_of m) c s l)
   unimp_same e f r =
       let x : View = view_of m in
       let j : Landing = landing_for x plan s in
@@ -99,4 +99,4 @@ module _ (m : Core) (s l : List ℕ) (w : Words m) (a : Accepted m (length s) (l
       let t = unimp_closed m.bus m.cpu 0 s l ea (top_of x - plan.bytes) j.from j.pc j.pc j.first j.second (entering_of m s l w a plan 12 line1111 plan_bytes plan_vector (lit< tt) (lit< tt) g) (lit< tt) in
       unimp_said
       (plain_patched (note_fpiar m.cpu) q (note_clear m.cpu (clear_of_lem m s l w a)) (note_fitting m.cpu q (fitting_of m s l w a plan i g)) (plan_plain i) ∙ note_patched m.cpu q (plan_noted i))
-      e g (r ∙ ap (λ (z : Entry). of_performed (ofEntry z)) t)
+      e g (r ∙ ap (λ (z : Entry). of_performed (of_entry z)) t)

@@ -10,7 +10,7 @@ use Rattle.memory.specs.declared.Core.{Core}
 use Rattle.memory.specs.World.{World, world}
 use Rattle.exceptions.specs.Exceptions.{entry}
 use Rattle.answers.specs.declared.Call.{Call}
-use Rattle.answers.specs.Answers.{cycles, ofEntry, refusedBy, value_of, count_of}
+use Rattle.answers.specs.Answers.{cycles, of_entry, refused_by, value_of, count_of}
 use Rattle.calls.specs.Calls.{run, restarted, begun, refusal, perform}
 use Rattle.numbers.specs.declared.RawCall.{RawCall}
 use Rattle.boundary.specs.declared.Decoded.TheVariants.{Known}
@@ -89,8 +89,8 @@ pub raw_known : (m : Core) (s l : List ℕ) (c : RawCall) (call : Call) → deco
 unfolding raw_call raw_of perform
 raw_known m s l c call d h = rw (d, h) (ap (λ (w : World). of_performed (run w call)) (begun_closed m s l))
 
-entry_said : (b : Bus) (c : Cpu) (e : ℕ) (s l : List ℕ) (n : ℕ) → of_performed (ofEntry (entry (closed b c e s l) n)) ≡ outcome (closed b c e s l) 0 n e
-unfolding of_performed ofEntry cycles closed refusedBy value_of count_of
+entry_said : (b : Bus) (c : Cpu) (e : ℕ) (s l : List ℕ) (n : ℕ) → of_performed (of_entry (entry (closed b c e s l) n)) ≡ outcome (closed b c e s l) 0 n e
+unfolding of_performed of_entry cycles closed refused_by value_of count_of
 entry_said b c e s l n = refl
 
 pub same_world : (m : Core) (q : Patch) (c : Cpu) (e : ℕ) (s t l k : List ℕ) → c ≡ patch_cpu m.cpu q → q.events ≡ e → s ≡ t → l ≡ k → world (patch_of m q) s l ≡ closed m.bus c e t k
@@ -109,7 +109,7 @@ pub said : (m : Core) (c : RawCall) (s l : List ℕ) (p : Plan) (g : Ended) (ps 
     → p.answer ≡ n
     → (let x : View = view_of m in let j : Landing = landing_for x p s in let q : ℕ = top_of x - p.bytes in
     let es = entry_events (waiting_of x p.clocks) q ps (fetches_of x) j.from j.pc j.pc j.first j.second in
-    raw_call (world m s l) c ≡ of_performed (ofEntry (entry (closed m.bus d (0 + length es) (laid s (place_at x p) ps) (told 0 l es)) n)))
+    raw_call (world m s l) c ≡ of_performed (of_entry (entry (closed m.bus d (0 + length es) (laid s (place_at x p) ps) (told 0 l es)) n)))
     → Says m c s l g
 unfolding written_of patch_by
 said m c s l p g ps d n z f k a r =

@@ -11,7 +11,7 @@ use Rattle.exceptions.specs.Exceptions.{trap}
 use Rattle.answers.specs.declared.Call.{Call}
 use Rattle.answers.specs.declared.Call.TheVariants.{TakeException, Trap, TakeGroup2Exception, ExceptionChk, ExceptionZeroDivide, ExceptionPrivilege, ExceptionTrace, ExceptionAddressError, ExceptionBusError, TakeFpUnimp060, TakeFpDisabled060, TakeAlineException, TakeFlineException, TakeTrapException, TakeBkptException, TakeIllegalException, TriggerAddressError, TriggerBusError, CheckTrace, SetIrq, CheckInterrupts, CheckAndServiceInterrupts, Read16, Read32, Write16, Write32, Push16, Push32, PrefetchFirst, PrefetchSecond}
 use Rattle.answers.specs.Matters.{matter_of}
-use Rattle.answers.specs.Answers.{Performed, cycles, flag, ofEntry, ofService}
+use Rattle.answers.specs.Answers.{Performed, cycles, flag, of_entry, of_service}
 use Rattle.calls.specs.Calls.{restarted, run, begun, refusal, perform}
 use Rattle.bounds.specs.Ledger.{one}
 use Rattle.bounds.specs.Levels.{clash}
@@ -32,7 +32,7 @@ named : (w z : World) (p q : Plan) → q ≡ p → Booked 0 (clean_test (gist w)
 named w z p q e b = subst (λ (r : Plan). Booked 0 (clean_test (gist w) r) z) e b
 
 run_book : (w : World) (c : Call) (q : Plan) → plan_of w c ≡ some q → Placed (gist w) → Booked 60 true w → Booked 0 (clean_test (gist w) q) (run w c).after
-unfolding plan_of run ofEntry ofService cycles flag trap
+unfolding plan_of run of_entry of_service cycles flag trap
 run_book w (TakeException v) q e h p = let u = unless _ q _ e in named w (run w (TakeException v)).after q _ u.1 (exc_book w (gist w) refl h p v u.0)
 run_book w (Trap n) q e h p = let u = unless _ q _ e in named w (run w (Trap n)).after q _ u.1 (exc_book w (gist w) refl h p (32 + n % 16) u.0)
 run_book w (TakeGroup2Exception v) q e h p = named w (run w (TakeGroup2Exception v)).after q _ (is_some _ q e) (group2_book w (gist w) refl h p v)

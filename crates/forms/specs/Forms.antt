@@ -14,7 +14,7 @@ use Rattle.answers.specs.declared.Call.{Call}
 use Rattle.answers.specs.declared.Call.TheVariants.{TakeException, Trap, TakeGroup2Exception, ExceptionChk, ExceptionZeroDivide, ExceptionPrivilege, ExceptionTrace, ExceptionAddressError, ExceptionBusError, TakeFpUnimp060, TakeFpDisabled060, TakeAlineException, TakeFlineException, TakeTrapException, TakeBkptException, TakeIllegalException, TriggerAddressError, TriggerBusError, CheckTrace, SetIrq, CheckInterrupts, CheckAndServiceInterrupts, Read16, Read32, Write16, Write32, Push16, Push32, PrefetchFirst, PrefetchSecond}
 use Rattle.frames.specs.declared.Frame.{Frame}
 use Rattle.answers.specs.Matters.{matter_of}
-use Rattle.answers.specs.Answers.{cycles, flag, ofEntry, ofService}
+use Rattle.answers.specs.Answers.{cycles, flag, of_entry, of_service}
 use Rattle.calls.specs.Calls.{restarted, run, begun, refusal, perform}
 use Rattle.images.specs.Pushes.{calm}
 use Rattle.forms.specs.Gist.{gist, gist_cpu, framed_by}
@@ -80,7 +80,7 @@ by_name : (w z : World) (p q : Plan) → q ≡ p → (Clean (gist w) q → gist 
 by_name w z p q e f = subst (λ (r : Plan). Clean (gist w) r → gist z ≡ planned (gist w) r) e f
 
 run_form : (w : World) (c : Call) (p : Plan) → plan_of w c ≡ some p → Clean (gist w) p → gist (run w c).after ≡ planned (gist w) p
-unfolding plan_of run ofEntry ofService cycles flag trap
+unfolding plan_of run of_entry of_service cycles flag trap
 run_form w (TakeException v) p e = let u = unless _ p _ e in by_name w _ p _ u.1 (exc_form w (gist w) v refl u.0)
 run_form w (Trap n) p e = let u = unless _ p _ e in by_name w _ p _ u.1 (exc_form w (gist w) (32 + n % 16) refl u.0)
 run_form w (TakeGroup2Exception v) p e = by_name w _ p _ (is_some _ p e) (group2_form w (gist w) v refl)

@@ -13,7 +13,7 @@ use Rattle.entered.specs.Pointers.{regs_of}
 use Rattle.manual.specs.Parts.{Family, lines_of}
 use Rattle.manual.specs.State.{State, Fault, is_set, function_code}
 use Rattle.manual.specs.Vectors.{Class, instruction, trap, group2, interrupt, bus_error, address_error, fp_unimplemented, fp_disabled, class_of, acknowledged}
-use Rattle.manual.specs.Differences.{Via, byVector, own}
+use Rattle.manual.specs.Differences.{Via, by_vector, own}
 
 -- ---- the record
 
@@ -132,7 +132,7 @@ event c v w = record { class = c; vector = v; via = w }
 
 abbrev pub by_number : Option Class → ℕ → Option Event
 by_number none v = none
-by_number (some c) v = some (event c v byVector)
+by_number (some c) v = some (event c v by_vector)
 
 -- CHK, TRAPV, division by zero, trace
 abbrev pub is_group2 : ℕ → Bool

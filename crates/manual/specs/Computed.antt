@@ -10,7 +10,7 @@ use Rattle.formats.specs.Formats.{disabled_frame}
 use Rattle.exceptions.specs.Exceptions.{take_rewound, exception_trace, stack_unimp, take_fp_unimp060, stack_disabled, take_fp_disabled060}
 use Rattle.images.specs.Pushes.{calm, laid_field}
 use Rattle.images.specs.Images.{field_address}
-use Rattle.images.specs.Images.{laid as laidFrame}
+use Rattle.images.specs.Images.{laid as laid_frame}
 use Rattle.memory.specs.World.{World}
 use Rattle.answers.specs.declared.Call.{Call}
 use Rattle.answers.specs.Answers.{Performed}
@@ -32,5 +32,5 @@ use Rattle.manual.specs.Differences.{differences}
 use Rattle.manual.specs.Calls.{state_by, event_of}
 
 unfoldable pub shown : World → Call → Performed
-unfolding computed format_length rewind_pc leave_stop note_fpiar put_back_sr fault_word frame0 frame2 frame8 frame68000 address_frame exception_address_error begin_trace disabled_frame take_rewound exception_trace stack_unimp take_fp_unimp060 stack_disabled take_fp_disabled060 calm laid_field field_address laidFrame gist gist_cpu framed_by words6 words8 turned stack_all short_of exc_plan rewound_plan group2_frame group2_plan trace_plan fp_unimp_plan fp_disabled_plan address_plan bus_plan interrupt_vector interrupt_frame throwaways settles interrupt_by interrupt_plan field_test fields_test stacks_test reach_test clean_test plan_of in_windows in_store peek sr_mask under s_bit m_bit view regs_of windows_of mem_of family_of entered interrupted supervisor_pointer class_of vector_at fields_of length_of throwaway top_fields status_after first_frame pointer_after differences state_by event_of
+unfolding computed format_length rewind_pc leave_stop note_fpiar put_back_sr fault_word frame0 frame2 frame8 frame68000 address_frame exception_address_error begin_trace disabled_frame take_rewound exception_trace stack_unimp take_fp_unimp060 stack_disabled take_fp_disabled060 calm laid_field field_address laid_frame gist gist_cpu framed_by words6 words8 turned stack_all short_of exc_plan rewound_plan group2_frame group2_plan trace_plan fp_unimp_plan fp_disabled_plan address_plan bus_plan interrupt_vector interrupt_frame throwaways settles interrupt_by interrupt_plan field_test fields_test stacks_test reach_test clean_test plan_of in_windows in_store peek sr_mask under s_bit m_bit view regs_of windows_of mem_of family_of entered interrupted supervisor_pointer class_of vector_at fields_of length_of throwaway top_fields status_after first_frame pointer_after differences state_by event_of
 shown w c = perform w c

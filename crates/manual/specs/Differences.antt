@@ -10,22 +10,22 @@ use Rattle.manual.specs.Formats.{Field, Span, whole, bits}
 
 -- how an exception is called for: `take_exception` of its vector, or the call made for it
 pub data Via : Type 0 where
-  byVector own : Via
+  by_vector own : Via
 
 abbrev pub way : Via → ℕ
-way byVector = 0
+way by_vector = 0
 way own = 1
 
 -- what differs: a field, by its offset and lowest bit; every field; every field of the frame at A7, not of one under it; the format, and with it every field from offset 6 on and the length; the length; the
 -- status left; PC; the address on the pins
 pub data What : Type 0 where
   field : ℕ → ℕ → What
-  fields atTop format length status pc pins : What
+  fields at_top format length status pc pins : What
 
 -- when: always; where the manual's value is not 0; vector 6; vectors 15 and 64 on; in the master state; where the vector base is not 0; where the bus
 -- failed, not the translation; an address past 24 bits on a part with 24 pins
 pub data When : Type 0 where
-  always nonzero chk vectored in_master based ofTheBus past24 : When
+  always nonzero chk vectored in_master based of_the_bus past24 : When
 
 pub record Row : Type 0 where
   pub families : List Family
@@ -65,23 +65,23 @@ differences =
     ∷ row (mc68010 ∷ []) (own ∷ []) errors (field 0x0A 0) nonzero  -- a handler does not learn which address failed; virtual memory cannot work
     ∷ row (mc68010 ∷ []) (own ∷ []) (bus_error ∷ []) (field 0x10 0) nonzero  -- a handler that makes the write itself writes 0
     ∷ row (mc68020 ∷ mc68030 ∷ mc68060 ∷ []) (own ∷ []) (address_error ∷ []) format always  -- a handler reads format 0: RTE takes 8 bytes, and the odd address is not told
-    ∷ row (mc68040 ∷ []) (own ∷ []) (bus_error ∷ []) (field 0x0C 10) ofTheBus  -- a handler takes a physical bus error for a missing page
+    ∷ row (mc68040 ∷ []) (own ∷ []) (bus_error ∷ []) (field 0x0C 10) of_the_bus  -- a handler takes a physical bus error for a missing page
     ∷ row (mc68060 ∷ []) (own ∷ []) (bus_error ∷ []) (field 0x0C 21) always  -- a handler that goes by the manual's text takes a byte for a word, a word for a long; by Hatari ours is what the part does
     ∷ row (mc68060 ∷ []) (own ∷ []) (fp_disabled ∷ []) (field 0x02 0) always  -- a handler that emulates the instruction and returns runs it again; the 68060 software package copies +0xC to +2 before RTE, and does not notice
-    ∷ row (mc68000 ∷ []) (byVector ∷ []) errors fields always  -- a caller that raises an error by its vector gets a frame of 6 bytes without address
-    ∷ row (mc68000 ∷ []) (byVector ∷ []) errors length always  -- the stack is 8 bytes higher than a handler expects
-    ∷ row (mc68010 ∷ mc68020 ∷ mc68030 ∷ mc68040 ∷ mc68060 ∷ []) (byVector ∷ []) errors format always  -- a caller that raises an error by its vector gets a frame of 8 bytes without address
-    ∷ row from68020 (byVector ∷ []) (group2 ∷ []) format always  -- a handler finds no address of the instruction at +8
-    ∷ row every (byVector ∷ []) (group2 ∷ []) (field 0x02 0) chk  -- a return runs CHK again
-    ∷ row (mc68020 ∷ mc68030 ∷ []) (byVector ∷ []) (protocol ∷ []) format always  -- RTE takes 8 bytes, and the instruction's address is not told
-    ∷ row (mc68030 ∷ []) (byVector ∷ []) (configuration ∷ []) format always  -- RTE takes 8 bytes, and the instruction's address is not told
-    ∷ row (mc68030 ∷ []) (byVector ∷ []) (configuration ∷ []) (field 0x02 0) always  -- a return runs the instruction again
-    ∷ row every (byVector ∷ []) (interrupt ∷ []) status always  -- a handler that is entered so keeps the old mask: an interrupt of its own level comes in again
-    ∷ row every (byVector ∷ []) (interrupt ∷ []) (field 0x02 0) vectored  -- a return runs the interrupted instruction again
-    ∷ row (mc68020 ∷ mc68030 ∷ mc68040 ∷ []) (byVector ∷ []) (interrupt ∷ []) atTop in_master  -- a handler runs on the master stack, and no frame of format 1 lies on the interrupt stack
-    ∷ row (mc68020 ∷ mc68030 ∷ mc68040 ∷ []) (byVector ∷ []) (interrupt ∷ []) length in_master  -- A7 is the master stack's
-    ∷ row (mc68000 ∷ []) (byVector ∷ own ∷ []) any pc based  -- a record with a vector base takes its handlers from there; the part has no such register
-    ∷ row (mc68020 ∷ []) (byVector ∷ own ∷ []) any pins past24  -- addresses from 0x1000000 on are not those below it
+    ∷ row (mc68000 ∷ []) (by_vector ∷ []) errors fields always  -- a caller that raises an error by its vector gets a frame of 6 bytes without address
+    ∷ row (mc68000 ∷ []) (by_vector ∷ []) errors length always  -- the stack is 8 bytes higher than a handler expects
+    ∷ row (mc68010 ∷ mc68020 ∷ mc68030 ∷ mc68040 ∷ mc68060 ∷ []) (by_vector ∷ []) errors format always  -- a caller that raises an error by its vector gets a frame of 8 bytes without address
+    ∷ row from68020 (by_vector ∷ []) (group2 ∷ []) format always  -- a handler finds no address of the instruction at +8
+    ∷ row every (by_vector ∷ []) (group2 ∷ []) (field 0x02 0) chk  -- a return runs CHK again
+    ∷ row (mc68020 ∷ mc68030 ∷ []) (by_vector ∷ []) (protocol ∷ []) format always  -- RTE takes 8 bytes, and the instruction's address is not told
+    ∷ row (mc68030 ∷ []) (by_vector ∷ []) (configuration ∷ []) format always  -- RTE takes 8 bytes, and the instruction's address is not told
+    ∷ row (mc68030 ∷ []) (by_vector ∷ []) (configuration ∷ []) (field 0x02 0) always  -- a return runs the instruction again
+    ∷ row every (by_vector ∷ []) (interrupt ∷ []) status always  -- a handler that is entered so keeps the old mask: an interrupt of its own level comes in again
+    ∷ row every (by_vector ∷ []) (interrupt ∷ []) (field 0x02 0) vectored  -- a return runs the interrupted instruction again
+    ∷ row (mc68020 ∷ mc68030 ∷ mc68040 ∷ []) (by_vector ∷ []) (interrupt ∷ []) at_top in_master  -- a handler runs on the master stack, and no frame of format 1 lies on the interrupt stack
+    ∷ row (mc68020 ∷ mc68030 ∷ mc68040 ∷ []) (by_vector ∷ []) (interrupt ∷ []) length in_master  -- A7 is the master stack's
+    ∷ row (mc68000 ∷ []) (by_vector ∷ own ∷ []) any pc based  -- a record with a vector base takes its handlers from there; the part has no such register
+    ∷ row (mc68020 ∷ []) (by_vector ∷ own ∷ []) any pins past24  -- addresses from 0x1000000 on are not those below it
     ∷ row (mc68040 ∷ []) (own ∷ []) (bus_error ∷ []) (field 0x0C 3) nonzero  -- a handler takes an access of MOVES to another address space for a normal one, or for a cache push or a table search
     ∷ row (mc68040 ∷ []) (own ∷ []) (bus_error ∷ []) (field 0x0E 3) nonzero  -- a handler that makes the write itself takes one of MOVES to another address space for a normal one
     ∷ row (mc68060 ∷ []) (own ∷ []) (bus_error ∷ []) (field 0x0C 19) nonzero  -- a handler takes an access of MOVES to another address space for a normal one, or for a cache push or a table search
@@ -109,7 +109,7 @@ met chk s c v x = eqb v 6
 met vectored s c v x = eqb v 15 || leb 64 v
 met in_master s c v x = has_master s.family && is_set 12 s.status
 met based s c v x = not (eqb s.vbr 0)
-met ofTheBus s c v x = eqb s.fault.cause 8
+met of_the_bus s c v x = eqb s.fault.cause 8
 met past24 s c v x = eqb s.lines 24 && past x
 
 abbrev pub applies : State → Via → Class → ℕ → Option ℕ → Row → Bool
@@ -122,7 +122,7 @@ lowest (bits low n) = low
 abbrev pub covers_field : What → Field → Bool
 covers_field (field o l) t = eqb o t.offset && eqb l (lowest t.span)
 covers_field fields t = true
-covers_field atTop t = true
+covers_field at_top t = true
 covers_field format t = leb 6 t.offset
 covers_field length t = false
 covers_field status t = false
@@ -132,7 +132,7 @@ covers_field pins t = false
 abbrev is_at_top : What → Bool
 is_at_top (field o l) = false
 is_at_top fields = false
-is_at_top atTop = true
+is_at_top at_top = true
 is_at_top format = false
 is_at_top length = false
 is_at_top status = false
@@ -142,7 +142,7 @@ is_at_top pins = false
 abbrev covers_length : What → Bool
 covers_length (field o l) = false
 covers_length fields = false
-covers_length atTop = false
+covers_length at_top = false
 covers_length format = true
 covers_length length = true
 covers_length status = false
@@ -152,7 +152,7 @@ covers_length pins = false
 abbrev covers_status : What → Bool
 covers_status (field o l) = false
 covers_status fields = false
-covers_status atTop = false
+covers_status at_top = false
 covers_status format = false
 covers_status length = false
 covers_status status = true
@@ -162,7 +162,7 @@ covers_status pins = false
 abbrev covers_pc : What → Bool
 covers_pc (field o l) = false
 covers_pc fields = false
-covers_pc atTop = false
+covers_pc at_top = false
 covers_pc format = false
 covers_pc length = false
 covers_pc status = false
@@ -172,7 +172,7 @@ covers_pc pins = false
 abbrev covers_pins : What → Bool
 covers_pins (field o l) = false
 covers_pins fields = false
-covers_pins atTop = false
+covers_pins at_top = false
 covers_pins format = false
 covers_pins length = false
 covers_pins status = false

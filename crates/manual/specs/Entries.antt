@@ -36,11 +36,11 @@ use Rattle.entered.specs.Does.{status_fits}
 use Rattle.entered.specs.Turns.{enters_supervisor, enters_exception, enters_rewound, enters_trace, enters_fpiar, enters_bus, keeps_end}
 use Rattle.manual.specs.Parts.{Family, mc68000, mc68010, mc68020, mc68030, mc68040, mc68060, lines_of, has_master}
 use Rattle.manual.specs.State.{State, Fault, is_set, entered, supervisor_pointer, down, on_pins}
-use Rattle.manual.specs.State.{function_code as codeBy}
+use Rattle.manual.specs.State.{function_code as code_by}
 use Rattle.manual.specs.Vectors.{Class, instruction, trap, group2, interrupt, bus_error, address_error, protocol, configuration, fp_unimplemented, fp_disabled, vector_at, class_of}
 use Rattle.manual.specs.Exceptions.{fields_of, top_fields, throws_away, first_frame, pointer_after, isp_after, msp_after, status_after}
 use Rattle.manual.specs.Formats.{Field}
-use Rattle.manual.specs.Differences.{Via, byVector, own, way, differences, field_differs, under_differs, length_differs, status_differs, pc_differs, pins_differ}
+use Rattle.manual.specs.Differences.{Via, by_vector, own, way, differences, field_differs, under_differs, length_differs, status_differs, pc_differs, pins_differ}
 use Rattle.manual.specs.Calls.{Event, event, state_by, code_of, fault_by, no_fault}
 use Rattle.manual.specs.Cells.{Holding}
 use Rattle.manual.specs.Statement.{Reads, Each, Agrees}
@@ -322,7 +322,7 @@ or_right false b e h = e
 
 -- two classes that only some parts have
 protocol_hold : (f : Family) (s : State) (v : ℕ) → s.status < 0x10000 → s.this < 0x100000000 → s.next < 0x100000000 → v < 256 → has_protocol f ≡ true
-    → Holding (plain f s.status s.this (offset_word v)) (field_differs differences (of f s) byVector protocol v) (fields_of (of f s) protocol v)
+    → Holding (plain f s.status s.this (offset_word v)) (field_differs differences (of f s) by_vector protocol v) (fields_of (of f s) protocol v)
 protocol_hold mc68000 s v a b c l e = impossible (sym e)
 protocol_hold mc68010 s v a b c l e = impossible (sym e)
 protocol_hold mc68020 s v a b c l e = vector_protocol s v a b c l true
@@ -330,7 +330,7 @@ protocol_hold mc68030 s v a b c l e = vector_protocol s v a b c l false
 protocol_hold mc68040 s v a b c l e = impossible (sym e)
 protocol_hold mc68060 s v a b c l e = impossible (sym e)
 
-protocol_far : (f : Family) (s : State) (v : ℕ) → has_protocol f ≡ true → length_differs differences (of f s) byVector protocol v ≡ false → pointer_after (of f s) protocol ≡ down (supervisor_pointer (of f s)) (plain_bytes f)
+protocol_far : (f : Family) (s : State) (v : ℕ) → has_protocol f ≡ true → length_differs differences (of f s) by_vector protocol v ≡ false → pointer_after (of f s) protocol ≡ down (supervisor_pointer (of f s)) (plain_bytes f)
 protocol_far mc68000 s v e = impossible (sym e)
 protocol_far mc68010 s v e = impossible (sym e)
 protocol_far mc68020 s v e = protocol_length s v true
@@ -339,7 +339,7 @@ protocol_far mc68040 s v e = impossible (sym e)
 protocol_far mc68060 s v e = impossible (sym e)
 
 configuration_hold : (f : Family) (s : State) (v : ℕ) → s.status < 0x10000 → s.this < 0x100000000 → s.next < 0x100000000 → v < 256 → has_configuration f ≡ true
-    → Holding (plain f s.status s.this (offset_word v)) (field_differs differences (of f s) byVector configuration v) (fields_of (of f s) configuration v)
+    → Holding (plain f s.status s.this (offset_word v)) (field_differs differences (of f s) by_vector configuration v) (fields_of (of f s) configuration v)
 configuration_hold mc68000 s v a b c l e = impossible (sym e)
 configuration_hold mc68010 s v a b c l e = impossible (sym e)
 configuration_hold mc68020 s v a b c l e = impossible (sym e)
@@ -347,7 +347,7 @@ configuration_hold mc68030 s v a b c l e = vector_configuration s v a b c l
 configuration_hold mc68040 s v a b c l e = impossible (sym e)
 configuration_hold mc68060 s v a b c l e = impossible (sym e)
 
-configuration_far : (f : Family) (s : State) (v : ℕ) → has_configuration f ≡ true → length_differs differences (of f s) byVector configuration v ≡ false → pointer_after (of f s) configuration ≡ down (supervisor_pointer (of f s)) (plain_bytes f)
+configuration_far : (f : Family) (s : State) (v : ℕ) → has_configuration f ≡ true → length_differs differences (of f s) by_vector configuration v ≡ false → pointer_after (of f s) configuration ≡ down (supervisor_pointer (of f s)) (plain_bytes f)
 configuration_far mc68000 s v e = impossible (sym e)
 configuration_far mc68010 s v e = impossible (sym e)
 configuration_far mc68020 s v e = impossible (sym e)
@@ -418,7 +418,7 @@ module _ (w : World) (F : Family) (t : Tests F (kind_of (cpu_of w))) (so : Sound
       by_frame (St fa op) (event cl v via) turn close v _ (plain F (get_sr C) b (offset_word v)) (short_is (get_sr C) a b (offset_word v) q)
       (one_agrees w F t so fit fa op cl v via vl turn close (plain F (get_sr C) b (offset_word v)) (plain_bytes F) tu en (plain_size F (get_sr C) b (offset_word v)) h l i un)
 
-  not_own : byVector ≡ own → {A : Type 0} → A
+  not_own : by_vector ≡ own → {A : Type 0} → A
   not_own e = let z : ◌≡◌ {A = ℕ} 0 1 = ap way e in absurd (omega arith)
 
   by_next : (v : ℕ) → stacks_next v ≡ true → stacked_address C v ≡ pc_of C
@@ -477,32 +477,32 @@ module _ (w : World) (F : Family) (t : Tests F (kind_of (cpu_of w))) (so : Sound
   trace_agrees fa op = group_by_lem (λ d. enter_supervisor (leave_stop d)) turn_trace 9 (omega arith) fa op
 
   -- `take_exception`, by the class of its vector
-  pub vector_agrees : (v : ℕ) → v < 256 → (cl : Class) → class_of F v ≡ some cl → (fa : Fault) (op : Option ℕ) → Clean (gist w) (exc_plan C v) → Agrees differences (St fa op) (event cl v byVector) w (planned (gist w) (exc_plan C v))
+  pub vector_agrees : (v : ℕ) → v < 256 → (cl : Class) → class_of F v ≡ some cl → (fa : Fault) (op : Option ℕ) → Clean (gist w) (exc_plan C v) → Agrees differences (St fa op) (event cl v by_vector) w (planned (gist w) (exc_plan C v))
   unfolding exc_plan state_by top_fields pc_of ppc_of
   vector_agrees v vl instruction e fa op =
-      short_agrees fa op instruction v byVector vl (λ d. enter_supervisor (set_exception d true)) (λ d. set_exception d false) turn_exception end_exception (stacked_address C v) (ppc_of C) (by_this v (not_not (stacks_next v) (subst (λ (o : Option Class). rule F o v ≡ true) e (rules F v vl))))
-      (instruction_cells (St fa op) v (status_fits C) ppl pcl vl F byVector) (instruction_by_vector_length (St fa op) v F) (λ x. not_own x) (λ d. impossible (sym d))
+      short_agrees fa op instruction v by_vector vl (λ d. enter_supervisor (set_exception d true)) (λ d. set_exception d false) turn_exception end_exception (stacked_address C v) (ppc_of C) (by_this v (not_not (stacks_next v) (subst (λ (o : Option Class). rule F o v ≡ true) e (rules F v vl))))
+      (instruction_cells (St fa op) v (status_fits C) ppl pcl vl F by_vector) (instruction_by_vector_length (St fa op) v F) (λ x. not_own x) (λ d. impossible (sym d))
   vector_agrees v vl trap e fa op =
-      short_agrees fa op trap v byVector vl (λ d. enter_supervisor (set_exception d true)) (λ d. set_exception d false) turn_exception end_exception (stacked_address C v) (pc_of C) (by_next v (subst (λ (o : Option Class). rule F o v ≡ true) e (rules F v vl)))
-      (trap_cells (St fa op) v (status_fits C) ppl pcl vl F byVector) (trap_by_vector_length (St fa op) v F) (λ x. not_own x) (λ d. impossible (sym d))
+      short_agrees fa op trap v by_vector vl (λ d. enter_supervisor (set_exception d true)) (λ d. set_exception d false) turn_exception end_exception (stacked_address C v) (pc_of C) (by_next v (subst (λ (o : Option Class). rule F o v ≡ true) e (rules F v vl)))
+      (trap_cells (St fa op) v (status_fits C) ppl pcl vl F by_vector) (trap_by_vector_length (St fa op) v F) (λ x. not_own x) (λ d. impossible (sym d))
   vector_agrees v vl group2 e fa op =
-      short_agrees fa op group2 v byVector vl (λ d. enter_supervisor (set_exception d true)) (λ d. set_exception d false) turn_exception end_exception (stacked_address C v) (stacked_address C v) refl
+      short_agrees fa op group2 v by_vector vl (λ d. enter_supervisor (set_exception d true)) (λ d. set_exception d false) turn_exception end_exception (stacked_address C v) (stacked_address C v) refl
       (vector_group2 (St fa op) v (status_fits C) ppl pcl vl (stacked_address C v) (stacked_small v) (λ x. by_next v (or_right (eqb v 6) (stacks_next v) (subst (λ (o : Option Class). rule F o v ≡ true) e (rules F v vl)) x)) F (eqb v 6) refl) (group2_by_vector_length (St fa op) v F) (λ x. not_own x) (λ d. impossible (sym d))
   vector_agrees v vl interrupt e fa op =
-      short_agrees fa op interrupt v byVector vl (λ d. enter_supervisor (set_exception d true)) (λ d. set_exception d false) turn_exception end_exception (stacked_address C v) (stacked_address C v) refl
+      short_agrees fa op interrupt v by_vector vl (λ d. enter_supervisor (set_exception d true)) (λ d. set_exception d false) turn_exception end_exception (stacked_address C v) (stacked_address C v) refl
       (vector_interrupt (St fa op) v (status_fits C) ppl pcl vl (stacked_address C v) (stacked_small v) (λ x. by_next v (or_right (eqb v 15 || leb 64 v) (stacks_next v) (subst (λ (o : Option Class). rule F o v ≡ true) e (rules F v vl)) x)) F (eqb v 15 || leb 64 v) refl (eqb ((St fa op).status / 2 ^ 12 % 2) 1) refl) (interrupt_by_vector_length (St fa op) v F) (λ x. not_own x)
       (λ d. (vector_under (St fa op) v (status_fits C) ppl pcl vl (stacked_address C v) (stacked_small v) (λ x. by_next v (or_right (eqb v 15 || leb 64 v) (stacks_next v) (subst (λ (o : Option Class). rule F o v ≡ true) e (rules F v vl)) x)) F (eqb v 15 || leb 64 v) refl, interrupt_first (St fa op) F))
   vector_agrees v vl bus_error e fa op =
-      short_agrees fa op bus_error v byVector vl (λ d. enter_supervisor (set_exception d true)) (λ d. set_exception d false) turn_exception end_exception (stacked_address C v) (ppc_of C) (by_this v (not_not (stacks_next v) (subst (λ (o : Option Class). rule F o v ≡ true) e (rules F v vl))))
+      short_agrees fa op bus_error v by_vector vl (λ d. enter_supervisor (set_exception d true)) (λ d. set_exception d false) turn_exception end_exception (stacked_address C v) (ppc_of C) (by_this v (not_not (stacks_next v) (subst (λ (o : Option Class). rule F o v ≡ true) e (rules F v vl))))
       (vector_bus_error (St fa op) v (status_fits C) ppl pcl vl F) (bus_error_by_vector_length (St fa op) v F) (λ x. not_own x) (λ d. impossible (sym d))
   vector_agrees v vl address_error e fa op =
-      short_agrees fa op address_error v byVector vl (λ d. enter_supervisor (set_exception d true)) (λ d. set_exception d false) turn_exception end_exception (stacked_address C v) (ppc_of C) (by_this v (not_not (stacks_next v) (subst (λ (o : Option Class). rule F o v ≡ true) e (rules F v vl))))
+      short_agrees fa op address_error v by_vector vl (λ d. enter_supervisor (set_exception d true)) (λ d. set_exception d false) turn_exception end_exception (stacked_address C v) (ppc_of C) (by_this v (not_not (stacks_next v) (subst (λ (o : Option Class). rule F o v ≡ true) e (rules F v vl))))
       (vector_address_error (St fa op) v (status_fits C) ppl pcl vl F) (address_error_by_vector_length (St fa op) v F) (λ x. not_own x) (λ d. impossible (sym d))
   vector_agrees v vl protocol e fa op =
-      short_agrees fa op protocol v byVector vl (λ d. enter_supervisor (set_exception d true)) (λ d. set_exception d false) turn_exception end_exception (stacked_address C v) (ppc_of C) (by_this v (not_not (stacks_next v) (both_true (has_protocol F) (not (stacks_next v)) (subst (λ (o : Option Class). rule F o v ≡ true) e (rules F v vl))).1))
+      short_agrees fa op protocol v by_vector vl (λ d. enter_supervisor (set_exception d true)) (λ d. set_exception d false) turn_exception end_exception (stacked_address C v) (ppc_of C) (by_this v (not_not (stacks_next v) (both_true (has_protocol F) (not (stacks_next v)) (subst (λ (o : Option Class). rule F o v ≡ true) e (rules F v vl))).1))
       (protocol_hold F (St fa op) v (status_fits C) ppl pcl vl (both_true (has_protocol F) (not (stacks_next v)) (subst (λ (o : Option Class). rule F o v ≡ true) e (rules F v vl))).0) (protocol_far F (St fa op) v (both_true (has_protocol F) (not (stacks_next v)) (subst (λ (o : Option Class). rule F o v ≡ true) e (rules F v vl))).0) (λ x. not_own x) (λ d. impossible (sym d))
   vector_agrees v vl configuration e fa op =
-      short_agrees fa op configuration v byVector vl (λ d. enter_supervisor (set_exception d true)) (λ d. set_exception d false) turn_exception end_exception (stacked_address C v) (ppc_of C) (by_this v (not_not (stacks_next v) (both_true (has_configuration F) (not (stacks_next v)) (subst (λ (o : Option Class). rule F o v ≡ true) e (rules F v vl))).1))
+      short_agrees fa op configuration v by_vector vl (λ d. enter_supervisor (set_exception d true)) (λ d. set_exception d false) turn_exception end_exception (stacked_address C v) (ppc_of C) (by_this v (not_not (stacks_next v) (both_true (has_configuration F) (not (stacks_next v)) (subst (λ (o : Option Class). rule F o v ≡ true) e (rules F v vl))).1))
       (configuration_hold F (St fa op) v (status_fits C) ppl pcl vl (both_true (has_configuration F) (not (stacks_next v)) (subst (λ (o : Option Class). rule F o v ≡ true) e (rules F v vl))).0) (configuration_far F (St fa op) v (both_true (has_configuration F) (not (stacks_next v)) (subst (λ (o : Option Class). rule F o v ≡ true) e (rules F v vl))).0) (λ x. not_own x) (λ d. impossible (sym d))
   vector_agrees v vl fp_unimplemented e fa op = impossible (sym (subst (λ (o : Option Class). rule F o v ≡ true) e (rules F v vl)))
   vector_agrees v vl fp_disabled e fa op = impossible (sym (subst (λ (o : Option Class). rule F o v ≡ true) e (rules F v vl)))

@@ -21,7 +21,7 @@ use Rattle.entered.specs.Pointers.{regs_of, Fit}
 use Rattle.entered.specs.Does.{status_fits}
 use Rattle.manual.specs.Parts.{Family, mc68000, mc68010, mc68020, mc68030, mc68040, mc68060}
 use Rattle.manual.specs.State.{State, Fault, is_set}
-use Rattle.manual.specs.State.{function_code as codeBy}
+use Rattle.manual.specs.State.{function_code as code_by}
 use Rattle.manual.specs.Vectors.{bus_error, address_error}
 use Rattle.manual.specs.Exceptions.{fields_of, top_fields}
 use Rattle.manual.specs.Differences.{own, differences, field_differs}
@@ -37,26 +37,26 @@ use Rattle.manual.specs.Entries.{Sized, Turn, End, turn_supervisor, turn_bus, en
 
 -- ---- function codes
 
-code_by : (a i : Bool) → function_code a i ≡ codeBy a i
+code_by_lem : (a i : Bool) → function_code a i ≡ code_by a i
 unfolding function_code
-code_by true true = refl
-code_by true false = refl
-code_by false true = refl
-code_by false false = refl
+code_by_lem true true = refl
+code_by_lem true false = refl
+code_by_lem false true = refl
+code_by_lem false false = refl
 
-pub state_code_lem : (c : Cpu) (i : Bool) → state_code c i ≡ codeBy (is_set 13 (get_sr c)) i
+pub state_code_lem : (c : Cpu) (i : Bool) → state_code c i ≡ code_by (is_set 13 (get_sr c)) i
 unfolding state_code is_supervisor
-state_code_lem c i = ap (λ (n : ℕ). function_code (eqb n 1) i) (sym (s_bit_lem c)) ∙ code_by (is_set 13 (get_sr c)) i
+state_code_lem c i = ap (λ (n : ℕ). function_code (eqb n 1) i) (sym (s_bit_lem c)) ∙ code_by_lem (is_set 13 (get_sr c)) i
 
 pub fault_code_lem : (c : Cpu) (i : Bool) → fault_code c i ≡ code_of c i
 unfolding fault_code has_fc_override fc_override_of
 fault_code_lem c i = go c.fault.mmu_fc_override.some
   where
-    go : (b : Bool) → pick b (c.fault.mmu_fc_override.value % 8) (state_code c i) ≡ cond b (c.fault.mmu_fc_override.value % 8) (codeBy (is_set 13 (get_sr c)) i)
+    go : (b : Bool) → pick b (c.fault.mmu_fc_override.value % 8) (state_code c i) ≡ cond b (c.fault.mmu_fc_override.value % 8) (code_by (is_set 13 (get_sr c)) i)
     go true = refl
     go false = state_code_lem c i
 
-small : (a i : Bool) → codeBy a i < 8
+small : (a i : Bool) → code_by a i < 8
 small true true = omega arith
 small true false = omega arith
 small false true = omega arith
@@ -65,7 +65,7 @@ small false false = omega arith
 code_small : (c : Cpu) (i : Bool) → code_of c i < 8
 code_small c i = go c.fault.mmu_fc_override.some
   where
-    go : (b : Bool) → cond b (c.fault.mmu_fc_override.value % 8) (codeBy (is_set 13 (get_sr c)) i) < 8
+    go : (b : Bool) → cond b (c.fault.mmu_fc_override.value % 8) (code_by (is_set 13 (get_sr c)) i) < 8
     go true = omega arith
     go false = small (is_set 13 (get_sr c)) i
 
@@ -87,7 +87,7 @@ bus_is : (f : Family) (c : Cpu) → Tests f (kind_of c) → (a : ℕ) (write i :
 unfolding bus_frame write_data
 bus_is f c t a write i z cause = rw (t.one, t.pre, t.is6, t.is4, fault_code_lem c i)
 
-address_is : (f : Family) (c : Cpu) → Tests f (kind_of c) → (a : ℕ) (write i : Bool) → address_frame c a write i ≡ address_by f (get_sr c) (ppc_of c) (ir_of c % 0x10000) a write i (codeBy (is_set 13 (get_sr c)) i)
+address_is : (f : Family) (c : Cpu) → Tests f (kind_of c) → (a : ℕ) (write i : Bool) → address_frame c a write i ≡ address_by f (get_sr c) (ppc_of c) (ir_of c % 0x10000) a write i (code_by (is_set 13 (get_sr c)) i)
 unfolding address_frame
 address_is f c t a write i = rw (t.one, t.pre, t.is4, state_code_lem c i)
 
@@ -158,8 +158,8 @@ module _ (w : World) (F : Family) (t : Tests F (kind_of (cpu_of w))) (so : Sound
   address_agrees =
       let fa : Fault = fault_by C a write i 0 (code_of C i) 0 in
       let s : State = state_by w F fa none in
-      let f : Frame = address_by F (get_sr C) (ppc_of C) (ir_of C % 0x10000) a write i (codeBy (is_set 13 (get_sr C)) i) in
+      let f : Frame = address_by F (get_sr C) (ppc_of C) (ir_of C % 0x10000) a write i (code_by (is_set 13 (get_sr C)) i) in
       by_frame w F t so fit pcl ppl s (event address_error 3 own) enter_supervisor same 3 _ f (address_is F C t a write i)
       (one_agrees w F t so fit fa none address_error 3 own (omega arith) enter_supervisor same f (address_bytes F) turn_supervisor end_same
-      (address_size F (get_sr C) (ppc_of C) (ir_of C % 0x10000) a write i (codeBy (is_set 13 (get_sr C)) i))
-      (address_hold s (status_fits C) (omega arith) a write i (code_of C i) (wdata_of C) (code_small C i) F (codeBy (is_set 13 (get_sr C)) i)) (address_error_own_length s 3 F) (λ e. refl) (λ d. impossible (sym d)))
+      (address_size F (get_sr C) (ppc_of C) (ir_of C % 0x10000) a write i (code_by (is_set 13 (get_sr C)) i))
+      (address_hold s (status_fits C) (omega arith) a write i (code_of C i) (wdata_of C) (code_small C i) F (code_by (is_set 13 (get_sr C)) i)) (address_error_own_length s 3 F) (λ e. refl) (λ d. impossible (sym d)))

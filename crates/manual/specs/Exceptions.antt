@@ -9,7 +9,7 @@ use Rattle.manual.specs.Formats.{Field, unsaid, format_word, short68000, error68
 
 pub data Format : Type 0 where
   short errors : Format  -- the 68000's: 6 and 14 bytes
-  f0 f2 f4disabled f4access f7 f8 f9 fB : Format
+  f0 f2 f4disabled f4access f7 f8 f9 f_b : Format
 
 abbrev pub bytes : Format → ℕ
 bytes short = 6
@@ -21,7 +21,7 @@ bytes f4access = 16
 bytes f7 = 60
 bytes f8 = 58
 bytes f9 = 20
-bytes fB = 92
+bytes f_b = 92
 
 -- an exception that stacks status and address alone
 abbrev pub plain_format : Family → Format
@@ -44,16 +44,16 @@ group2_format mc68060 = f2
 abbrev pub bus_format : Family → Format
 bus_format mc68000 = errors
 bus_format mc68010 = f8
-bus_format mc68020 = fB
-bus_format mc68030 = fB
+bus_format mc68020 = f_b
+bus_format mc68030 = f_b
 bus_format mc68040 = f7
 bus_format mc68060 = f4access
 
 abbrev pub address_format : Family → Format
 address_format mc68000 = errors
 address_format mc68010 = f8
-address_format mc68020 = fB
-address_format mc68030 = fB
+address_format mc68020 = f_b
+address_format mc68030 = f_b
 address_format mc68040 = f2
 address_format mc68060 = f2
 
@@ -105,7 +105,7 @@ fields_by f4access s c v = format4_access s.status (stacked_address s c) (format
 fields_by f7 s c v = format7 s.status (stacked_address s c) (format_word 0x7 v) s.fault
 fields_by f8 s c v = format8 s.status (format_word 0x8 v) s.fault
 fields_by f9 s c v = format9 s.status (format_word 0x9 v) s.this
-fields_by fB s c v = format_b s.status (stacked_address s c) (format_word 0xB v) s.fault
+fields_by f_b s c v = format_b s.status (stacked_address s c) (format_word 0xB v) s.fault
 
 -- the fields of the frame that an exception stacks first
 unfoldable pub fields_of : State → Class → ℕ → List Field

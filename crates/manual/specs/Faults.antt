@@ -9,7 +9,7 @@ use Rattle.memory.specs.World.{World, put_cpu, with_cpu, cpu_of}
 use Rattle.access.specs.Access.{raise_bus, trigger}
 use Rattle.answers.specs.declared.Call.TheVariants.{CheckTrace, TriggerBusError}
 use Rattle.numbers.specs.Numbers.{bit}
-use Rattle.answers.specs.Answers.{value_of, flag, plain, ofTrace}
+use Rattle.answers.specs.Answers.{value_of, flag, plain, of_trace}
 use Rattle.calls.specs.Calls.{run, restarted, begun, refusal, perform}
 use Rattle.manual.specs.Parts.{Family, mc68000, mc68010, mc68020, mc68030, mc68040, mc68060, number}
 use Rattle.manual.specs.State.{is_set}
@@ -54,7 +54,7 @@ clear_t0 mc68060 w e h = ap (λ (n : ℕ). eqb n 1) (no_t0 w (w / 0x1000) e)
 -- `check_trace` answers so, for a status before the instruction that has no bit which the part has not
 pub trace_is : (w : World) (F : Family) → implemented F (cpu_of w).flags.sr_save ≡ (cpu_of w).flags.sr_save → refusal w CheckTrace ≡ 0
     → value_of (perform w CheckTrace).answer ≡ bit (traced F (cpu_of w).flags.sr_save (cpu_of w).flow.change_of_flow)
-unfolding perform run ofTrace flag check_trace asks_trace value_of begun restarted traced
+unfolding perform run of_trace flag check_trace asks_trace value_of begun restarted traced
 trace_is w F e r =
     rw r (ap bit (by_bits (is_set 15 (cpu_of w).flags.sr_save) (is_set 14 (cpu_of w).flags.sr_save) (has_t0 F) (cpu_of w).flow.change_of_flow (clear_t0 F (cpu_of w).flags.sr_save e)))
 

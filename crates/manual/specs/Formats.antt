@@ -6,13 +6,13 @@ use Rattle.manual.specs.State.{Fault}
 
 -- names of fields, for a reader
 pub data Name : Type 0 where
-  statusRegister programCounter formatVector instructionAddress effectiveAddress faultedInstruction : Name
-  readWrite notInstruction function_code accessAddress instructionRegister : Name
-  rerun instructionFetch dataFetch readModifyWrite highByte byteTransfer faultAddress dataOutput dataInput instructionInput : Name
-  faultOnC faultOnB rerunC rerunB dataFault size stageC stageB stageBAddress : Name
-  continuation misaligned translation locked transferType transferModifier : Name
-  writeBack3Valid writeBack3Size writeBack3Type writeBack3Modifier writeBack2Valid writeBack1Valid writeBack3Address writeBack3Data : Name
-  instructionOrOperand pointerA pointerB indirectLevel pageFault supervisorProtect writeProtect tableSearch readError writeError : Name
+  status_register program_counter format_vector instruction_address effective_address faulted_instruction : Name
+  read_write not_instruction function_code access_address instruction_register : Name
+  rerun instruction_fetch data_fetch read_modify_write high_byte byte_transfer fault_address data_output data_input instruction_input : Name
+  fault_on_c fault_on_b rerun_c rerun_b data_fault size stage_c stage_b stage_baddress : Name
+  continuation misaligned translation locked transfer_type transfer_modifier : Name
+  write_back3_valid write_back3_size write_back3_type write_back3_modifier write_back2_valid write_back1_valid write_back3_address write_back3_data : Name
+  instruction_or_operand pointer_a pointer_b indirect_level page_fault supervisor_protect write_protect table_search read_error write_error : Name
   internal : Name
 
 -- the whole of a word or long, or some of its bits
@@ -55,36 +55,36 @@ format_word format v = format * 0x1000 + v * 4
 
 -- 68000, 6 bytes: M68000UM 6.3.9, figure 6-5 (recalled)
 abbrev pub short68000 : ℕ → Option ℕ → List Field
-short68000 sr pc = word 0x00 statusRegister (some sr) ∷ long 0x02 programCounter pc ∷ []
+short68000 sr pc = word 0x00 status_register (some sr) ∷ long 0x02 program_counter pc ∷ []
 
 -- 68000 bus and address error, 14 bytes: M68000UM 6.3.9.1, figure 6-7 (recalled). I/N is 0 where an instruction was in execution. Bits 15 to 5 are
 -- undefined, the program counter is advanced by 2 to 10 bytes
 abbrev pub error68000 : ℕ → ℕ → Fault → List Field
 error68000 sr opcode f =
-    in_word 0x00 4 1 readWrite (flag (not f.write)) ∷ in_word 0x00 3 1 notInstruction (some 0) ∷ in_word 0x00 0 3 function_code (some f.code)
-    ∷ long 0x02 accessAddress (some f.address) ∷ word 0x06 instructionRegister (some opcode) ∷ word 0x08 statusRegister (some sr)
-    ∷ long 0x0A programCounter unsaid ∷ []
+    in_word 0x00 4 1 read_write (flag (not f.write)) ∷ in_word 0x00 3 1 not_instruction (some 0) ∷ in_word 0x00 0 3 function_code (some f.code)
+    ∷ long 0x02 access_address (some f.address) ∷ word 0x06 instruction_register (some opcode) ∷ word 0x08 status_register (some sr)
+    ∷ long 0x0A program_counter unsaid ∷ []
 
 -- formats 0 and 1, 8 bytes: M68000UM 6.3.9.2, MC68020UM 6.3.1 and 6.3.2, M68000PRM appendix B (recalled)
 abbrev pub format0 : ℕ → Option ℕ → ℕ → List Field
-format0 sr pc fw = word 0x00 statusRegister (some sr) ∷ long 0x02 programCounter pc ∷ word 0x06 formatVector (some fw) ∷ []
+format0 sr pc fw = word 0x00 status_register (some sr) ∷ long 0x02 program_counter pc ∷ word 0x06 format_vector (some fw) ∷ []
 
 -- format 2, 12 bytes: MC68020UM 6.3.3, MC68030UM 8.4, M68040UM 8.4.3, MC68060UM 8.4.2 (recalled). The long is the instruction's address, of an address
 -- error the address with bit 0 clear, of a floating-point exception of the 68060 the operand's
 abbrev pub format2 : ℕ → Option ℕ → ℕ → Option ℕ → List Field
-format2 sr pc fw extra = word 0x00 statusRegister (some sr) ∷ long 0x02 programCounter pc ∷ word 0x06 formatVector (some fw) ∷ long 0x08 instructionAddress extra ∷ []
+format2 sr pc fw extra = word 0x00 status_register (some sr) ∷ long 0x02 program_counter pc ∷ word 0x06 format_vector (some fw) ∷ long 0x08 instruction_address extra ∷ []
 
 -- format 9, 20 bytes: MC68020UM 6.3.4 (recalled); the program counter is the scan's
 abbrev pub format9 : ℕ → ℕ → ℕ → List Field
 format9 sr fw this =
-    word 0x00 statusRegister (some sr) ∷ long 0x02 programCounter unsaid ∷ word 0x06 formatVector (some fw) ∷ long 0x08 instructionAddress (some this)
+    word 0x00 status_register (some sr) ∷ long 0x02 program_counter unsaid ∷ word 0x06 format_vector (some fw) ∷ long 0x08 instruction_address (some this)
     ∷ long 0x0C internal none ∷ long 0x10 internal none ∷ []
 
 -- format 4 of the 68060's disabled floating-point unit, 16 bytes: MC68060UM 8.4.3 (recalled)
 abbrev pub format4_disabled : ℕ → Option ℕ → ℕ → Option ℕ → ℕ → List Field
 format4_disabled sr pc fw operand this =
-    word 0x00 statusRegister (some sr) ∷ long 0x02 programCounter pc ∷ word 0x06 formatVector (some fw) ∷ long 0x08 effectiveAddress operand
-    ∷ long 0x0C faultedInstruction (some this) ∷ []
+    word 0x00 status_register (some sr) ∷ long 0x02 program_counter pc ∷ word 0x06 format_vector (some fw) ∷ long 0x08 effective_address operand
+    ∷ long 0x0C faulted_instruction (some this) ∷ []
 
 -- format 4 of the 68060's access error, 16 bytes, with the fault status long word: MC68060UM 8.4.4 (recalled). SIZE as that text has it: 00 byte, 01 word,
 -- 10 long. RE and WE are the bus errors of a read and of a write
@@ -101,14 +101,14 @@ transfer_type_of code = cond (eqb code 0 || (eqb code 3 || (eqb code 4 || eqb co
 
 abbrev pub format4_access : ℕ → ℕ → ℕ → Fault → List Field
 format4_access sr pc fw f =
-    word 0x00 statusRegister (some sr) ∷ long 0x02 programCounter (some pc) ∷ word 0x06 formatVector (some fw) ∷ long 0x08 faultAddress (some f.address)
-    ∷ in_long 0x0C 27 1 misaligned unsaid ∷ in_long 0x0C 25 1 locked unsaid ∷ in_long 0x0C 23 2 readWrite (cond f.write (some 1) (some 2))
-    ∷ in_long 0x0C 21 2 size (size060 f.size) ∷ in_long 0x0C 19 2 transferType (some (transfer_type_of f.code)) ∷ in_long 0x0C 16 3 transferModifier (some f.code)
-    ∷ in_long 0x0C 15 1 instructionOrOperand (flag f.instruction) ∷ in_long 0x0C 12 1 pointerA (flag (eqb f.cause 1))
-    ∷ in_long 0x0C 11 1 pointerB (flag (eqb f.cause 2)) ∷ in_long 0x0C 10 1 indirectLevel (flag (eqb f.cause 3))
-    ∷ in_long 0x0C 9 1 pageFault (flag (eqb f.cause 4)) ∷ in_long 0x0C 8 1 supervisorProtect (flag (eqb f.cause 6))
-    ∷ in_long 0x0C 7 1 writeProtect (flag (eqb f.cause 5)) ∷ in_long 0x0C 6 1 tableSearch (flag (eqb f.cause 7))
-    ∷ in_long 0x0C 5 1 readError (flag (plain_bus f && not f.write)) ∷ in_long 0x0C 4 1 writeError (flag (plain_bus f && f.write)) ∷ []
+    word 0x00 status_register (some sr) ∷ long 0x02 program_counter (some pc) ∷ word 0x06 format_vector (some fw) ∷ long 0x08 fault_address (some f.address)
+    ∷ in_long 0x0C 27 1 misaligned unsaid ∷ in_long 0x0C 25 1 locked unsaid ∷ in_long 0x0C 23 2 read_write (cond f.write (some 1) (some 2))
+    ∷ in_long 0x0C 21 2 size (size060 f.size) ∷ in_long 0x0C 19 2 transfer_type (some (transfer_type_of f.code)) ∷ in_long 0x0C 16 3 transfer_modifier (some f.code)
+    ∷ in_long 0x0C 15 1 instruction_or_operand (flag f.instruction) ∷ in_long 0x0C 12 1 pointer_a (flag (eqb f.cause 1))
+    ∷ in_long 0x0C 11 1 pointer_b (flag (eqb f.cause 2)) ∷ in_long 0x0C 10 1 indirect_level (flag (eqb f.cause 3))
+    ∷ in_long 0x0C 9 1 page_fault (flag (eqb f.cause 4)) ∷ in_long 0x0C 8 1 supervisor_protect (flag (eqb f.cause 6))
+    ∷ in_long 0x0C 7 1 write_protect (flag (eqb f.cause 5)) ∷ in_long 0x0C 6 1 table_search (flag (eqb f.cause 7))
+    ∷ in_long 0x0C 5 1 read_error (flag (plain_bus f && not f.write)) ∷ in_long 0x0C 4 1 write_error (flag (plain_bus f && f.write)) ∷ []
 
 -- format 7 of the 68040, 60 bytes: M68040UM 8.4.6 (recalled). SIZE: 00 long, 01 byte, 10 word, 11 line. A write that failed stands in write-back 3. ATC
 -- is set where the translation failed, not where the bus did
@@ -117,14 +117,14 @@ size040 z = cond (eqb z 1) (some 1) (cond (eqb z 2) (some 2) (cond (eqb z 4) (so
 
 abbrev pub format7 : ℕ → ℕ → ℕ → Fault → List Field
 format7 sr pc fw f =
-    word 0x00 statusRegister (some sr) ∷ long 0x02 programCounter (some pc) ∷ word 0x06 formatVector (some fw) ∷ long 0x08 effectiveAddress unsaid
+    word 0x00 status_register (some sr) ∷ long 0x02 program_counter (some pc) ∷ word 0x06 format_vector (some fw) ∷ long 0x08 effective_address unsaid
     ∷ in_word 0x0C 12 4 continuation unsaid ∷ in_word 0x0C 11 1 misaligned unsaid ∷ in_word 0x0C 10 1 translation (flag (not (plain_bus f)))
-    ∷ in_word 0x0C 9 1 locked unsaid ∷ in_word 0x0C 8 1 readWrite (flag (not f.write)) ∷ in_word 0x0C 5 2 size (size040 f.size)
-    ∷ in_word 0x0C 3 2 transferType (some (transfer_type_of f.code)) ∷ in_word 0x0C 0 3 transferModifier (some f.code)
-    ∷ in_word 0x0E 7 1 writeBack3Valid (flag f.write) ∷ in_word 0x0E 5 2 writeBack3Size (cond f.write (size040 f.size) none)
-    ∷ in_word 0x0E 3 2 writeBack3Type (only f.write (transfer_type_of f.code)) ∷ in_word 0x0E 0 3 writeBack3Modifier (only f.write f.code)
-    ∷ in_word 0x10 7 1 writeBack2Valid (some 0) ∷ in_word 0x12 7 1 writeBack1Valid (some 0) ∷ long 0x14 faultAddress (some f.address)
-    ∷ long 0x18 writeBack3Address (only f.write f.address) ∷ long 0x1C writeBack3Data (only f.write f.datum)
+    ∷ in_word 0x0C 9 1 locked unsaid ∷ in_word 0x0C 8 1 read_write (flag (not f.write)) ∷ in_word 0x0C 5 2 size (size040 f.size)
+    ∷ in_word 0x0C 3 2 transfer_type (some (transfer_type_of f.code)) ∷ in_word 0x0C 0 3 transfer_modifier (some f.code)
+    ∷ in_word 0x0E 7 1 write_back3_valid (flag f.write) ∷ in_word 0x0E 5 2 write_back3_size (cond f.write (size040 f.size) none)
+    ∷ in_word 0x0E 3 2 write_back3_type (only f.write (transfer_type_of f.code)) ∷ in_word 0x0E 0 3 write_back3_modifier (only f.write f.code)
+    ∷ in_word 0x10 7 1 write_back2_valid (some 0) ∷ in_word 0x12 7 1 write_back1_valid (some 0) ∷ long 0x14 fault_address (some f.address)
+    ∷ long 0x18 write_back3_address (only f.write f.address) ∷ long 0x1C write_back3_data (only f.write f.datum)
     ∷ long 0x20 internal none ∷ long 0x24 internal none ∷ long 0x28 internal none ∷ long 0x2C internal none ∷ long 0x30 internal none
     ∷ long 0x34 internal none ∷ long 0x38 internal none ∷ []
 
@@ -135,13 +135,13 @@ is_byte f = eqb f.size 1
 
 abbrev pub format8 : ℕ → ℕ → Fault → List Field
 format8 sr fw f =
-    word 0x00 statusRegister (some sr) ∷ long 0x02 programCounter unsaid ∷ word 0x06 formatVector (some fw) ∷ in_word 0x08 15 1 rerun (some 0)
-    ∷ in_word 0x08 13 1 instructionFetch (flag f.instruction) ∷ in_word 0x08 12 1 dataFetch (flag (not f.instruction && not f.write))
-    ∷ in_word 0x08 11 1 readModifyWrite unsaid ∷ in_word 0x08 10 1 highByte (flag (is_byte f && eqb (f.address % 2) 0))
-    ∷ in_word 0x08 9 1 byteTransfer (flag (is_byte f)) ∷ in_word 0x08 8 1 readWrite (flag (not f.write)) ∷ in_word 0x08 0 3 function_code (some f.code)
-    ∷ long 0x0A faultAddress (some f.address) ∷ word 0x0E internal none
-    ∷ word 0x10 dataOutput (only (f.write && eqb f.size 2) (f.datum % 0x10000)) ∷ word 0x12 internal none ∷ word 0x14 dataInput none
-    ∷ word 0x16 internal none ∷ word 0x18 instructionInput none ∷ long 0x1A internal none ∷ long 0x1E internal none ∷ long 0x22 internal none
+    word 0x00 status_register (some sr) ∷ long 0x02 program_counter unsaid ∷ word 0x06 format_vector (some fw) ∷ in_word 0x08 15 1 rerun (some 0)
+    ∷ in_word 0x08 13 1 instruction_fetch (flag f.instruction) ∷ in_word 0x08 12 1 data_fetch (flag (not f.instruction && not f.write))
+    ∷ in_word 0x08 11 1 read_modify_write unsaid ∷ in_word 0x08 10 1 high_byte (flag (is_byte f && eqb (f.address % 2) 0))
+    ∷ in_word 0x08 9 1 byte_transfer (flag (is_byte f)) ∷ in_word 0x08 8 1 read_write (flag (not f.write)) ∷ in_word 0x08 0 3 function_code (some f.code)
+    ∷ long 0x0A fault_address (some f.address) ∷ word 0x0E internal none
+    ∷ word 0x10 data_output (only (f.write && eqb f.size 2) (f.datum % 0x10000)) ∷ word 0x12 internal none ∷ word 0x14 data_input none
+    ∷ word 0x16 internal none ∷ word 0x18 instruction_input none ∷ long 0x1A internal none ∷ long 0x1E internal none ∷ long 0x22 internal none
     ∷ long 0x26 internal none ∷ long 0x2A internal none ∷ long 0x2E internal none ∷ long 0x32 internal none ∷ long 0x36 internal none ∷ []
 
 -- format B of the 68020 and 68030, 92 bytes: MC68020UM 6.3.6 and 6.2.1, MC68030UM 8.4 and 8.2.1 (recalled). SIZE: 01 byte, 10 word, 11 three bytes, 00 long.
@@ -152,14 +152,14 @@ size020 z = cond (eqb z 1) (some 1) (cond (eqb z 2) (some 2) (cond (eqb z 3) (so
 
 abbrev pub format_b : ℕ → ℕ → ℕ → Fault → List Field
 format_b sr pc fw f =
-    word 0x00 statusRegister (some sr) ∷ long 0x02 programCounter (some pc) ∷ word 0x06 formatVector (some fw) ∷ word 0x08 internal none
-    ∷ in_word 0x0A 15 1 faultOnC (some 0) ∷ in_word 0x0A 14 1 faultOnB (flag f.instruction) ∷ in_word 0x0A 13 1 rerunC (some 0)
-    ∷ in_word 0x0A 12 1 rerunB (flag f.instruction) ∷ in_word 0x0A 8 1 dataFault (flag (not f.instruction)) ∷ in_word 0x0A 7 1 readModifyWrite unsaid
-    ∷ in_word 0x0A 6 1 readWrite (only (not f.instruction) (cond f.write 0 1)) ∷ in_word 0x0A 4 2 size (cond f.instruction none (size020 f.size))
-    ∷ in_word 0x0A 0 3 function_code (only (not f.instruction) f.code) ∷ word 0x0C stageC unsaid ∷ word 0x0E stageB unsaid
-    ∷ long 0x10 faultAddress (only (not f.instruction) f.address) ∷ long 0x14 internal none
-    ∷ long 0x18 dataOutput (only (not f.instruction && f.write) f.datum) ∷ long 0x1C internal none ∷ long 0x20 internal none
-    ∷ long 0x24 stageBAddress (only f.instruction f.address) ∷ long 0x28 internal none ∷ long 0x2C dataInput none ∷ word 0x30 internal none
+    word 0x00 status_register (some sr) ∷ long 0x02 program_counter (some pc) ∷ word 0x06 format_vector (some fw) ∷ word 0x08 internal none
+    ∷ in_word 0x0A 15 1 fault_on_c (some 0) ∷ in_word 0x0A 14 1 fault_on_b (flag f.instruction) ∷ in_word 0x0A 13 1 rerun_c (some 0)
+    ∷ in_word 0x0A 12 1 rerun_b (flag f.instruction) ∷ in_word 0x0A 8 1 data_fault (flag (not f.instruction)) ∷ in_word 0x0A 7 1 read_modify_write unsaid
+    ∷ in_word 0x0A 6 1 read_write (only (not f.instruction) (cond f.write 0 1)) ∷ in_word 0x0A 4 2 size (cond f.instruction none (size020 f.size))
+    ∷ in_word 0x0A 0 3 function_code (only (not f.instruction) f.code) ∷ word 0x0C stage_c unsaid ∷ word 0x0E stage_b unsaid
+    ∷ long 0x10 fault_address (only (not f.instruction) f.address) ∷ long 0x14 internal none
+    ∷ long 0x18 data_output (only (not f.instruction && f.write) f.datum) ∷ long 0x1C internal none ∷ long 0x20 internal none
+    ∷ long 0x24 stage_baddress (only f.instruction f.address) ∷ long 0x28 internal none ∷ long 0x2C data_input none ∷ word 0x30 internal none
     ∷ word 0x32 internal none ∷ word 0x34 internal none ∷ word 0x36 internal none ∷ long 0x38 internal none ∷ long 0x3C internal none
     ∷ long 0x40 internal none ∷ long 0x44 internal none ∷ long 0x48 internal none ∷ long 0x4C internal none ∷ long 0x50 internal none
     ∷ long 0x54 internal none ∷ long 0x58 internal none ∷ []
@@ -168,10 +168,10 @@ format_b sr pc fw f =
 -- `Exceptions` stacks it: a call names the instruction in execution
 abbrev pub format_a : ℕ → ℕ → ℕ → Fault → List Field
 format_a sr next fw f =
-    word 0x00 statusRegister (some sr) ∷ long 0x02 programCounter (some next) ∷ word 0x06 formatVector (some fw) ∷ word 0x08 internal none
-    ∷ in_word 0x0A 15 1 faultOnC (some 0) ∷ in_word 0x0A 14 1 faultOnB (flag f.instruction) ∷ in_word 0x0A 13 1 rerunC (some 0)
-    ∷ in_word 0x0A 12 1 rerunB (flag f.instruction) ∷ in_word 0x0A 8 1 dataFault (flag (not f.instruction)) ∷ in_word 0x0A 7 1 readModifyWrite unsaid
-    ∷ in_word 0x0A 6 1 readWrite (only (not f.instruction) (cond f.write 0 1)) ∷ in_word 0x0A 4 2 size (cond f.instruction none (size020 f.size))
-    ∷ in_word 0x0A 0 3 function_code (only (not f.instruction) f.code) ∷ word 0x0C stageC unsaid ∷ word 0x0E stageB unsaid
-    ∷ long 0x10 faultAddress (only (not f.instruction) f.address) ∷ long 0x14 internal none
-    ∷ long 0x18 dataOutput (only (not f.instruction && f.write) f.datum) ∷ long 0x1C internal none ∷ []
+    word 0x00 status_register (some sr) ∷ long 0x02 program_counter (some next) ∷ word 0x06 format_vector (some fw) ∷ word 0x08 internal none
+    ∷ in_word 0x0A 15 1 fault_on_c (some 0) ∷ in_word 0x0A 14 1 fault_on_b (flag f.instruction) ∷ in_word 0x0A 13 1 rerun_c (some 0)
+    ∷ in_word 0x0A 12 1 rerun_b (flag f.instruction) ∷ in_word 0x0A 8 1 data_fault (flag (not f.instruction)) ∷ in_word 0x0A 7 1 read_modify_write unsaid
+    ∷ in_word 0x0A 6 1 read_write (only (not f.instruction) (cond f.write 0 1)) ∷ in_word 0x0A 4 2 size (cond f.instruction none (size020 f.size))
+    ∷ in_word 0x0A 0 3 function_code (only (not f.instruction) f.code) ∷ word 0x0C stage_c unsaid ∷ word 0x0E stage_b unsaid
+    ∷ long 0x10 fault_address (only (not f.instruction) f.address) ∷ long 0x14 internal none
+    ∷ long 0x18 data_output (only (not f.instruction && f.write) f.datum) ∷ long 0x1C internal none ∷ []

@@ -31,7 +31,7 @@ use Rattle.entered.specs.Entered.{Inside, whole_of}
 use Rattle.manual.specs.Parts.{Family, family_of}
 use Rattle.manual.specs.State.{State}
 use Rattle.manual.specs.Vectors.{Class, instruction, trap, group2, interrupt, bus_error, address_error, fp_unimplemented, fp_disabled, class_of}
-use Rattle.manual.specs.Differences.{byVector, own, differences}
+use Rattle.manual.specs.Differences.{by_vector, own, differences}
 use Rattle.manual.specs.Calls.{Event, event, by_number, is_group2, fault_of, operand_of, state_by, state_of, event_of, no_fault}
 use Rattle.manual.specs.Statement.{Agrees}
 use Rattle.manual.specs.PartLaws.{Tests, sixty, tests_of_lem}
@@ -76,7 +76,7 @@ module _ (w : World) (F : Family) (t : Tests F (kind_of (cpu_of w))) (so : Sound
 
   by_class : (v : ℕ) → v < 256 → (p : Plan) (e : Event) → exc_plan C v ≡ p → (o : Option Class) → class_of F v ≡ o → by_number o v ≡ some e → Clean (gist w) p → Agrees differences (state_of w F (TakeException v)) e w (planned (gist w) p)
   by_class v vl p e q none h k = no_event e k
-  by_class v vl p e q (some cl) h k = given w (state_of w F (TakeException v)) p (exc_plan C v) e (event cl v byVector) q (same_event _ e k) (vector_agrees w F t so fit pcl ppl v vl cl h (no_fault C) none)
+  by_class v vl p e q (some cl) h k = given w (state_of w F (TakeException v)) p (exc_plan C v) e (event cl v by_vector) q (same_event _ e k) (vector_agrees w F t so fit pcl ppl v vl cl h (no_fault C) none)
 
   by_group : (v : ℕ) → v < 256 → (p : Plan) (e : Event) → group2_plan C v ≡ p → (b : Bool) → cond b (some (event group2 v own)) none ≡ some e → Clean (gist w) p → Agrees differences (state_of w F (TakeGroup2Exception v)) e w (planned (gist w) p)
   by_group v vl p e q false k = no_event e k

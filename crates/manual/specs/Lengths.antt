@@ -9,7 +9,7 @@ use Rattle.manual.specs.Parts.{Family, mc68000, mc68010, mc68020, mc68030, mc680
 use Rattle.manual.specs.State.{State, is_set, entered, supervisor_pointer, down}
 use Rattle.manual.specs.Vectors.{Class, instruction, trap, group2, interrupt, bus_error, address_error, protocol, configuration, fp_unimplemented, fp_disabled, class_of}
 use Rattle.manual.specs.Exceptions.{length_of, first_frame, pointer_after, status_after, throws_away}
-use Rattle.manual.specs.Differences.{Via, byVector, own, differences, length_differs, status_differs}
+use Rattle.manual.specs.Differences.{Via, by_vector, own, differences, length_differs, status_differs}
 use Rattle.manual.specs.Plain.{of, first, early}
 use Rattle.manual.specs.PartLaws.{impossible, forty, sixty}
 
@@ -43,7 +43,7 @@ is_interrupt fp_unimplemented = false
 is_interrupt fp_disabled = false
 
 module _ (s : State) (v : ℕ) where
-  pub instruction_by_vector_length : (f : Family) → length_differs differences (of f s) byVector instruction v ≡ false → pointer_after (of f s) instruction ≡ down (supervisor_pointer (of f s)) (plain_bytes f)
+  pub instruction_by_vector_length : (f : Family) → length_differs differences (of f s) by_vector instruction v ≡ false → pointer_after (of f s) instruction ≡ down (supervisor_pointer (of f s)) (plain_bytes f)
   unfolding differences length_differs status_differs pointer_after first_frame length_of status_after
   instruction_by_vector_length mc68000 e = refl
   instruction_by_vector_length mc68010 e = refl
@@ -61,7 +61,7 @@ module _ (s : State) (v : ℕ) where
   instruction_own_length mc68040 e = refl
   instruction_own_length mc68060 e = refl
 
-  pub trap_by_vector_length : (f : Family) → length_differs differences (of f s) byVector trap v ≡ false → pointer_after (of f s) trap ≡ down (supervisor_pointer (of f s)) (plain_bytes f)
+  pub trap_by_vector_length : (f : Family) → length_differs differences (of f s) by_vector trap v ≡ false → pointer_after (of f s) trap ≡ down (supervisor_pointer (of f s)) (plain_bytes f)
   unfolding differences length_differs status_differs pointer_after first_frame length_of status_after
   trap_by_vector_length mc68000 e = refl
   trap_by_vector_length mc68010 e = refl
@@ -88,7 +88,7 @@ module _ (s : State) (v : ℕ) where
   group2_own_length mc68040 e = refl
   group2_own_length mc68060 e = refl
 
-  pub group2_by_vector_length : (f : Family) → length_differs differences (of f s) byVector group2 v ≡ false → pointer_after (of f s) group2 ≡ down (supervisor_pointer (of f s)) (plain_bytes f)
+  pub group2_by_vector_length : (f : Family) → length_differs differences (of f s) by_vector group2 v ≡ false → pointer_after (of f s) group2 ≡ down (supervisor_pointer (of f s)) (plain_bytes f)
   unfolding differences length_differs status_differs pointer_after first_frame length_of status_after
   group2_by_vector_length mc68000 e = refl
   group2_by_vector_length mc68010 e = refl
@@ -115,7 +115,7 @@ module _ (s : State) (v : ℕ) where
   address_error_own_length mc68040 e = refl
   address_error_own_length mc68060 e = impossible e
 
-  pub bus_error_by_vector_length : (f : Family) → length_differs differences (of f s) byVector bus_error v ≡ false → pointer_after (of f s) bus_error ≡ down (supervisor_pointer (of f s)) (plain_bytes f)
+  pub bus_error_by_vector_length : (f : Family) → length_differs differences (of f s) by_vector bus_error v ≡ false → pointer_after (of f s) bus_error ≡ down (supervisor_pointer (of f s)) (plain_bytes f)
   unfolding differences length_differs status_differs pointer_after first_frame length_of status_after
   bus_error_by_vector_length mc68000 e = impossible e
   bus_error_by_vector_length mc68010 e = impossible e
@@ -124,7 +124,7 @@ module _ (s : State) (v : ℕ) where
   bus_error_by_vector_length mc68040 e = impossible e
   bus_error_by_vector_length mc68060 e = impossible e
 
-  pub address_error_by_vector_length : (f : Family) → length_differs differences (of f s) byVector address_error v ≡ false → pointer_after (of f s) address_error ≡ down (supervisor_pointer (of f s)) (plain_bytes f)
+  pub address_error_by_vector_length : (f : Family) → length_differs differences (of f s) by_vector address_error v ≡ false → pointer_after (of f s) address_error ≡ down (supervisor_pointer (of f s)) (plain_bytes f)
   unfolding differences length_differs status_differs pointer_after first_frame length_of status_after
   address_error_by_vector_length mc68000 e = impossible e
   address_error_by_vector_length mc68010 e = impossible e
@@ -133,12 +133,12 @@ module _ (s : State) (v : ℕ) where
   address_error_by_vector_length mc68040 e = impossible e
   address_error_by_vector_length mc68060 e = impossible e
 
-  pub protocol_length : (b : Bool) → length_differs differences (of (cond b mc68020 mc68030) s) byVector protocol v ≡ false → pointer_after (of (cond b mc68020 mc68030) s) protocol ≡ down (supervisor_pointer (of (cond b mc68020 mc68030) s)) 8
+  pub protocol_length : (b : Bool) → length_differs differences (of (cond b mc68020 mc68030) s) by_vector protocol v ≡ false → pointer_after (of (cond b mc68020 mc68030) s) protocol ≡ down (supervisor_pointer (of (cond b mc68020 mc68030) s)) 8
   unfolding differences length_differs status_differs pointer_after first_frame length_of status_after
   protocol_length true e = impossible e
   protocol_length false e = impossible e
 
-  pub configuration_length : length_differs differences (of mc68030 s) byVector configuration v ≡ false → pointer_after (of mc68030 s) configuration ≡ down (supervisor_pointer (of mc68030 s)) 8
+  pub configuration_length : length_differs differences (of mc68030 s) by_vector configuration v ≡ false → pointer_after (of mc68030 s) configuration ≡ down (supervisor_pointer (of mc68030 s)) 8
   unfolding differences length_differs status_differs pointer_after first_frame length_of status_after
   configuration_length e = impossible e
 
@@ -160,7 +160,7 @@ module _ (s : State) (v : ℕ) where
   interrupt_own_length mc68040 e = rw e
   interrupt_own_length mc68060 e = refl
 
-  pub interrupt_by_vector_length : (f : Family) → length_differs differences (of f s) byVector interrupt v ≡ false → pointer_after (of f s) interrupt ≡ down (supervisor_pointer (of f s)) (plain_bytes f)
+  pub interrupt_by_vector_length : (f : Family) → length_differs differences (of f s) by_vector interrupt v ≡ false → pointer_after (of f s) interrupt ≡ down (supervisor_pointer (of f s)) (plain_bytes f)
   unfolding differences length_differs status_differs pointer_after first_frame length_of status_after
   interrupt_by_vector_length mc68000 e = refl
   interrupt_by_vector_length mc68010 e = refl
@@ -175,12 +175,12 @@ module _ (s : State) (v : ℕ) where
   status_is_lem f w instruction e h = refl
   status_is_lem f w trap e h = refl
   status_is_lem f w group2 e h = refl
-  status_is_lem mc68000 byVector interrupt e h = impossible e
-  status_is_lem mc68010 byVector interrupt e h = impossible e
-  status_is_lem mc68020 byVector interrupt e h = impossible e
-  status_is_lem mc68030 byVector interrupt e h = impossible e
-  status_is_lem mc68040 byVector interrupt e h = impossible e
-  status_is_lem mc68060 byVector interrupt e h = impossible e
+  status_is_lem mc68000 by_vector interrupt e h = impossible e
+  status_is_lem mc68010 by_vector interrupt e h = impossible e
+  status_is_lem mc68020 by_vector interrupt e h = impossible e
+  status_is_lem mc68030 by_vector interrupt e h = impossible e
+  status_is_lem mc68040 by_vector interrupt e h = impossible e
+  status_is_lem mc68060 by_vector interrupt e h = impossible e
   status_is_lem f own interrupt e h = impossible (h refl)
   status_is_lem f w bus_error e h = refl
   status_is_lem f w address_error e h = refl
@@ -214,12 +214,12 @@ no_throw s v f w configuration h e = refl
 no_throw s v f w fp_unimplemented h e = refl
 no_throw s v f w fp_disabled h e = refl
 no_throw s v f own interrupt h e = impossible (h refl)
-no_throw s v mc68000 byVector interrupt h e = refl
-no_throw s v mc68010 byVector interrupt h e = refl
-no_throw s v mc68020 byVector interrupt h e = or_false (is_set 12 s.status) e
-no_throw s v mc68030 byVector interrupt h e = or_false (is_set 12 s.status) e
-no_throw s v mc68040 byVector interrupt h e = or_false (is_set 12 s.status) e
-no_throw s v mc68060 byVector interrupt h e = refl
+no_throw s v mc68000 by_vector interrupt h e = refl
+no_throw s v mc68010 by_vector interrupt h e = refl
+no_throw s v mc68020 by_vector interrupt h e = or_false (is_set 12 s.status) e
+no_throw s v mc68030 by_vector interrupt h e = or_false (is_set 12 s.status) e
+no_throw s v mc68040 by_vector interrupt h e = or_false (is_set 12 s.status) e
+no_throw s v mc68060 by_vector interrupt h e = refl
 
 -- ---- the address that `take_exception` stacks, by the class of its vector
 

@@ -19,14 +19,14 @@ use Rattle.memory.specs.World.{World, response_of, cpu_of}
 use Rattle.frames.specs.declared.Frame.{Frame}
 use Rattle.frames.specs.Frames.{field_at, is_counted}
 use Rattle.steps.specs.Steps.{iack_vector, enter_level}
-use Rattle.steps.specs.Steps.{with_s as engineS}
+use Rattle.steps.specs.Steps.{with_s as engine_s}
 use Rattle.formats.specs.Formats.{format_word, offset_word, short_frame}
 use Rattle.images.specs.Images.{frame_bytes, new_a7}
 use Rattle.forms.specs.Gist.{gist, gist_cpu}
 use Rattle.forms.specs.Orders.{words6, words8}
 use Rattle.forms.specs.Plans.{Plan, turned, planned, Clean, same, interrupt_vector, interrupt_frame, throwaways, settles, interrupt_by, interrupt_plan}
 use Rattle.nest.specs.View.{Regs, View, Bank, set_ptr, sr_mask, master, bank_of, nonzero, view, peek}
-use Rattle.nest.specs.View.{interrupt as interruptBank}
+use Rattle.nest.specs.View.{interrupt as interrupt_bank}
 use Rattle.nest.specs.Nest.{Sound}
 use Rattle.nest.specs.Banks.{select, with_a7, with_flags, up_a7}
 use Rattle.nest.specs.Laws.{lower}
@@ -142,16 +142,16 @@ level_size mc68030 sr pc fw = size8 sr pc fw
 level_size mc68040 sr pc fw = size8 sr pc fw
 level_size mc68060 sr pc fw = size8 sr pc fw
 
-with_s_lem : (st : ℕ) → cond (eqb (st / 2 ^ 13 % 2) 1) st (st + 0x2000) ≡ engineS st
-unfolding engineS
+with_s_lem : (st : ℕ) → cond (eqb (st / 2 ^ 13 % 2) 1) st (st + 0x2000) ≡ engine_s st
+unfolding engine_s
 with_s_lem st = go (eqb (st / 2 ^ 13 % 2) 1) refl
   where
     go : (b : Bool) → eqb (st / 2 ^ 13 % 2) 1 ≡ b → cond b st (st + 0x2000) ≡ st - st / 0x2000 % 2 * 0x2000 + 0x2000
     go true e = omega (arith, eqb-true (st / 2 ^ 13 % 2) 1 e)
     go false e = let h : st / 2 ^ 13 % 2 ≡ 1 → ⊥ = eqb-false (st / 2 ^ 13 % 2) 1 e in let z : st / 2 ^ 13 % 2 ≡ 0 = omega arith in omega arith
 
-s_fits : (st : ℕ) → st < 0x10000 → engineS st < 0x10000
-unfolding engineS
+s_fits : (st : ℕ) → st < 0x10000 → engine_s st < 0x10000
+unfolding engine_s
 s_fits st l = omega arith
 
 select_s : (g : Regs) (s m : ℕ) → (select g s m).sflag ≡ s
@@ -261,9 +261,9 @@ module _ (w : World) (F : Family) (t : Tests F (kind_of (cpu_of w))) (so : Sound
   unfolding top_fields state_by
   top_two e = ap (λ (b : Bool). cond b (throwaway S N) (fields_of S interrupt N)) e
 
-  second_cells : Holding (short_frame (engineS (get_sr C)) (pc_of C) (format_word 1 N)) (field_differs differences S own interrupt N) (throwaway S N)
+  second_cells : Holding (short_frame (engine_s (get_sr C)) (pc_of C) (format_word 1 N)) (field_differs differences S own interrupt N) (throwaway S N)
   unfolding state_by pc_of ppc_of
-  second_cells = throwaway_cells S N (status_fits C) ppl pcl (vector_small C w.core.bus) F (engineS (get_sr C)) (s_fits (get_sr C) (status_fits C)) (with_s_lem (get_sr C))
+  second_cells = throwaway_cells S N (status_fits C) ppl pcl (vector_small C w.core.bus) F (engine_s (get_sr C)) (s_fits (get_sr C) (status_fits C)) (with_s_lem (get_sr C))
 
   second_length : (has_master F && is_set 12 (get_sr C)) ≡ true → pointer_after S interrupt ≡ down S.isp 8
   unfolding pointer_after state_by
@@ -287,7 +287,7 @@ module _ (w : World) (F : Family) (t : Tests F (kind_of (cpu_of w))) (so : Sound
 
   bank_is : has_master F ≡ true → bank_of (kind_of (cpu_of (gist w))) true true ≡ master
   unfolding gist gist_cpu kind_of
-  bank_is e = ap (λ (b : Bool). cond b interruptBank master) (sixty_is (kind_of C) t.is6 ∙ no_sixty F e)
+  bank_is e = ap (λ (b : Bool). cond b interrupt_bank master) (sixty_is (kind_of C) t.is6 ∙ no_sixty F e)
 
   usp_is : (view (stacks_of (cpu_of (gist w)))).usp ≡ (view (regs_of C)).usp
   unfolding stacks_of regs_of view gist gist_cpu kind_of a7_of
@@ -345,19 +345,19 @@ module _ (w : World) (F : Family) (t : Tests F (kind_of (cpu_of w))) (so : Sound
       top_of (cpu_of (turned (gist w) (λ d. enter_level d L))) ∙ ap (λ (g : Regs). g.a7) (turned_stacks (gist w) (λ d. enter_level d L) ∙ (enters_level L (cpu_of (gist w)) fit).stacks) ∙ up_a7 (stacks_of (cpu_of (gist w)))
 
   two_level : has_master F ≡ true → nonzero C.flags.m_flag ≡ true
-      → Clean (gist w) (two_of (λ d. enter_level d L) (interrupt_frame (kind_of C) (get_sr C) (pc_of C) N) (short_frame (engineS (get_sr C)) (pc_of C) (format_word 1 N)) N end)
-      → Agrees differences S (event interrupt N own) w (planned (gist w) (two_of (λ d. enter_level d L) (interrupt_frame (kind_of C) (get_sr C) (pc_of C) N) (short_frame (engineS (get_sr C)) (pc_of C) (format_word 1 N)) N end))
+      → Clean (gist w) (two_of (λ d. enter_level d L) (interrupt_frame (kind_of C) (get_sr C) (pc_of C) N) (short_frame (engine_s (get_sr C)) (pc_of C) (format_word 1 N)) N end)
+      → Agrees differences S (event interrupt N own) w (planned (gist w) (two_of (λ d. enter_level d L) (interrupt_frame (kind_of C) (get_sr C) (pc_of C) N) (short_frame (engine_s (get_sr C)) (pc_of C) (format_word 1 N)) N end))
   two_level hm ms =
       subst (λ (f : Frame). Clean (gist w) (two_of (λ d. enter_level d L) f h N end) → Agrees differences S (event interrupt N own) w (planned (gist w) (two_of (λ d. enter_level d L) f h N end))) (sym (frame_is_lem N)) go
     where
       h : Frame
-      h = short_frame (engineS (get_sr C)) (pc_of C) (format_word 1 N)
+      h = short_frame (engine_s (get_sr C)) (pc_of C) (format_word 1 N)
 
       f1 : Frame
       f1 = level F (get_sr C) (pc_of C) (offset_word N)
 
       z : Sized h 8
-      z = size8 (engineS (get_sr C)) (pc_of C) (format_word 1 N)
+      z = size8 (engine_s (get_sr C)) (pc_of C) (format_word 1 N)
 
       q : (has_master F && is_set 12 (get_sr C)) ≡ true
       q = rw (hm, m_bit_lem, ms)

@@ -20,7 +20,7 @@ use Rattle.entered.specs.One.{stack_top}
 use Rattle.manual.specs.Parts.{Family, mc68000, mc68010, mc68020, mc68030, mc68040, mc68060, family_of, lines_of, has_master}
 use Rattle.manual.specs.State.{State, is_set, entered, interrupted, supervisor_pointer, on_pins}
 use Rattle.manual.specs.Vectors.{Class, instruction, trap, group2, interrupt, bus_error, address_error, protocol, configuration, fp_unimplemented, fp_disabled, vector_at}
-use Rattle.manual.specs.Differences.{Via, byVector, own, differences, pc_differs, pins_differ}
+use Rattle.manual.specs.Differences.{Via, by_vector, own, differences, pc_differs, pins_differ}
 use Rattle.manual.specs.Plain.{of, first, early, second}
 
 pub impossible : {A : Type 0} → true ≡ false → A
@@ -310,16 +310,16 @@ or_false false e = refl
 
 pub vector_is : (f : Family) (w : Via) (c : Class) (s : State) (v : ℕ) → pc_differs differences (of f s) w c v ≡ false → vector_at (of f s) v ≡ (s.vbr + 4 * v) % 0x100000000
 unfolding differences pc_differs vector_at
-vector_is mc68000 byVector instruction s v e = based s.vbr v (or_false (not (eqb s.vbr 0)) e)
-vector_is mc68000 byVector trap s v e = based s.vbr v (or_false (not (eqb s.vbr 0)) e)
-vector_is mc68000 byVector group2 s v e = based s.vbr v (or_false (not (eqb s.vbr 0)) e)
-vector_is mc68000 byVector interrupt s v e = based s.vbr v (or_false (not (eqb s.vbr 0)) e)
-vector_is mc68000 byVector bus_error s v e = based s.vbr v (or_false (not (eqb s.vbr 0)) e)
-vector_is mc68000 byVector address_error s v e = based s.vbr v (or_false (not (eqb s.vbr 0)) e)
-vector_is mc68000 byVector protocol s v e = based s.vbr v (or_false (not (eqb s.vbr 0)) e)
-vector_is mc68000 byVector configuration s v e = based s.vbr v (or_false (not (eqb s.vbr 0)) e)
-vector_is mc68000 byVector fp_unimplemented s v e = based s.vbr v (or_false (not (eqb s.vbr 0)) e)
-vector_is mc68000 byVector fp_disabled s v e = based s.vbr v (or_false (not (eqb s.vbr 0)) e)
+vector_is mc68000 by_vector instruction s v e = based s.vbr v (or_false (not (eqb s.vbr 0)) e)
+vector_is mc68000 by_vector trap s v e = based s.vbr v (or_false (not (eqb s.vbr 0)) e)
+vector_is mc68000 by_vector group2 s v e = based s.vbr v (or_false (not (eqb s.vbr 0)) e)
+vector_is mc68000 by_vector interrupt s v e = based s.vbr v (or_false (not (eqb s.vbr 0)) e)
+vector_is mc68000 by_vector bus_error s v e = based s.vbr v (or_false (not (eqb s.vbr 0)) e)
+vector_is mc68000 by_vector address_error s v e = based s.vbr v (or_false (not (eqb s.vbr 0)) e)
+vector_is mc68000 by_vector protocol s v e = based s.vbr v (or_false (not (eqb s.vbr 0)) e)
+vector_is mc68000 by_vector configuration s v e = based s.vbr v (or_false (not (eqb s.vbr 0)) e)
+vector_is mc68000 by_vector fp_unimplemented s v e = based s.vbr v (or_false (not (eqb s.vbr 0)) e)
+vector_is mc68000 by_vector fp_disabled s v e = based s.vbr v (or_false (not (eqb s.vbr 0)) e)
 vector_is mc68000 own instruction s v e = based s.vbr v (or_false (not (eqb s.vbr 0)) e)
 vector_is mc68000 own trap s v e = based s.vbr v (or_false (not (eqb s.vbr 0)) e)
 vector_is mc68000 own group2 s v e = based s.vbr v (or_false (not (eqb s.vbr 0)) e)
@@ -352,16 +352,16 @@ like_pins false d a e = rw (← e)
 
 pub pins_are : (f : Family) (w : Via) (c : Class) (s : State) (v k : ℕ) → Tests f k → s.lines ≡ lines_of k → (a : ℕ) → pins_differ differences (of f s) w c v a ≡ false → on_pins s.lines a ≡ mask_address k a
 unfolding differences pins_differ mask_address
-pins_are mc68020 byVector instruction s v k t n a e = below24 s.lines a (or_false (eqb s.lines 24 && leb 0x1000000 a) e) ∙ rw t.three
-pins_are mc68020 byVector trap s v k t n a e = below24 s.lines a (or_false (eqb s.lines 24 && leb 0x1000000 a) e) ∙ rw t.three
-pins_are mc68020 byVector group2 s v k t n a e = below24 s.lines a (or_false (eqb s.lines 24 && leb 0x1000000 a) e) ∙ rw t.three
-pins_are mc68020 byVector interrupt s v k t n a e = below24 s.lines a (or_false (eqb s.lines 24 && leb 0x1000000 a) e) ∙ rw t.three
-pins_are mc68020 byVector bus_error s v k t n a e = below24 s.lines a (or_false (eqb s.lines 24 && leb 0x1000000 a) e) ∙ rw t.three
-pins_are mc68020 byVector address_error s v k t n a e = below24 s.lines a (or_false (eqb s.lines 24 && leb 0x1000000 a) e) ∙ rw t.three
-pins_are mc68020 byVector protocol s v k t n a e = below24 s.lines a (or_false (eqb s.lines 24 && leb 0x1000000 a) e) ∙ rw t.three
-pins_are mc68020 byVector configuration s v k t n a e = below24 s.lines a (or_false (eqb s.lines 24 && leb 0x1000000 a) e) ∙ rw t.three
-pins_are mc68020 byVector fp_unimplemented s v k t n a e = below24 s.lines a (or_false (eqb s.lines 24 && leb 0x1000000 a) e) ∙ rw t.three
-pins_are mc68020 byVector fp_disabled s v k t n a e = below24 s.lines a (or_false (eqb s.lines 24 && leb 0x1000000 a) e) ∙ rw t.three
+pins_are mc68020 by_vector instruction s v k t n a e = below24 s.lines a (or_false (eqb s.lines 24 && leb 0x1000000 a) e) ∙ rw t.three
+pins_are mc68020 by_vector trap s v k t n a e = below24 s.lines a (or_false (eqb s.lines 24 && leb 0x1000000 a) e) ∙ rw t.three
+pins_are mc68020 by_vector group2 s v k t n a e = below24 s.lines a (or_false (eqb s.lines 24 && leb 0x1000000 a) e) ∙ rw t.three
+pins_are mc68020 by_vector interrupt s v k t n a e = below24 s.lines a (or_false (eqb s.lines 24 && leb 0x1000000 a) e) ∙ rw t.three
+pins_are mc68020 by_vector bus_error s v k t n a e = below24 s.lines a (or_false (eqb s.lines 24 && leb 0x1000000 a) e) ∙ rw t.three
+pins_are mc68020 by_vector address_error s v k t n a e = below24 s.lines a (or_false (eqb s.lines 24 && leb 0x1000000 a) e) ∙ rw t.three
+pins_are mc68020 by_vector protocol s v k t n a e = below24 s.lines a (or_false (eqb s.lines 24 && leb 0x1000000 a) e) ∙ rw t.three
+pins_are mc68020 by_vector configuration s v k t n a e = below24 s.lines a (or_false (eqb s.lines 24 && leb 0x1000000 a) e) ∙ rw t.three
+pins_are mc68020 by_vector fp_unimplemented s v k t n a e = below24 s.lines a (or_false (eqb s.lines 24 && leb 0x1000000 a) e) ∙ rw t.three
+pins_are mc68020 by_vector fp_disabled s v k t n a e = below24 s.lines a (or_false (eqb s.lines 24 && leb 0x1000000 a) e) ∙ rw t.three
 pins_are mc68020 own instruction s v k t n a e = below24 s.lines a (or_false (eqb s.lines 24 && leb 0x1000000 a) e) ∙ rw t.three
 pins_are mc68020 own trap s v k t n a e = below24 s.lines a (or_false (eqb s.lines 24 && leb 0x1000000 a) e) ∙ rw t.three
 pins_are mc68020 own group2 s v k t n a e = below24 s.lines a (or_false (eqb s.lines 24 && leb 0x1000000 a) e) ∙ rw t.three

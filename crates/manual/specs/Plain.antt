@@ -14,7 +14,7 @@ use Rattle.manual.specs.Parts.{Family, mc68000, mc68010, mc68020, mc68030, mc680
 use Rattle.manual.specs.State.{State}
 use Rattle.manual.specs.Vectors.{Class, instruction, trap, group2, interrupt, bus_error, address_error, protocol, configuration, fp_unimplemented, fp_disabled}
 use Rattle.manual.specs.Exceptions.{fields_of, throwaway, top_fields}
-use Rattle.manual.specs.Differences.{Via, byVector, own, differences, field_differs, under_differs}
+use Rattle.manual.specs.Differences.{Via, by_vector, own, differences, field_differs, under_differs}
 use Rattle.manual.specs.Cells.{look, in_frame, Holding, is}
 
 -- a state of a part
@@ -93,32 +93,32 @@ formatted f v h l = omega arith
 module _ (s : State) (v : ℕ) (sr : s.status < 0x10000) (this : s.this < 0x100000000) (next : s.next < 0x100000000) (vl : v < 256) where
   pub instruction_cells : (f : Family) (w : Via) → Holding (plain f s.status s.this (offset_word v)) (field_differs differences (of f s) w instruction v) (fields_of (of f s) instruction v)
   unfolding differences field_differs fields_of look in_frame words6 words8 short_frame long_frame disabled_frame field_at is_counted frame_bytes
-  instruction_cells mc68000 byVector = (is (fits s.status sr), (is (halves s.this this), tt))
+  instruction_cells mc68000 by_vector = (is (fits s.status sr), (is (halves s.this this), tt))
   instruction_cells mc68000 own = (is (fits s.status sr), (is (halves s.this this), tt))
-  instruction_cells mc68010 byVector = (is (fits s.status sr), (refl, (is (offset v vl), tt)))
+  instruction_cells mc68010 by_vector = (is (fits s.status sr), (refl, (is (offset v vl), tt)))
   instruction_cells mc68010 own = (is (fits s.status sr), (refl, (is (offset v vl), tt)))
-  instruction_cells mc68020 byVector = (is (fits s.status sr), (refl, (is (offset v vl), tt)))
+  instruction_cells mc68020 by_vector = (is (fits s.status sr), (refl, (is (offset v vl), tt)))
   instruction_cells mc68020 own = (is (fits s.status sr), (refl, (is (offset v vl), tt)))
-  instruction_cells mc68030 byVector = (is (fits s.status sr), (refl, (is (offset v vl), tt)))
+  instruction_cells mc68030 by_vector = (is (fits s.status sr), (refl, (is (offset v vl), tt)))
   instruction_cells mc68030 own = (is (fits s.status sr), (refl, (is (offset v vl), tt)))
-  instruction_cells mc68040 byVector = (is (fits s.status sr), (refl, (is (offset v vl), tt)))
+  instruction_cells mc68040 by_vector = (is (fits s.status sr), (refl, (is (offset v vl), tt)))
   instruction_cells mc68040 own = (is (fits s.status sr), (refl, (is (offset v vl), tt)))
-  instruction_cells mc68060 byVector = (is (fits s.status sr), (refl, (is (offset v vl), tt)))
+  instruction_cells mc68060 by_vector = (is (fits s.status sr), (refl, (is (offset v vl), tt)))
   instruction_cells mc68060 own = (is (fits s.status sr), (refl, (is (offset v vl), tt)))
 
   pub trap_cells : (f : Family) (w : Via) → Holding (plain f s.status s.next (offset_word v)) (field_differs differences (of f s) w trap v) (fields_of (of f s) trap v)
   unfolding differences field_differs fields_of look in_frame words6 words8 short_frame long_frame disabled_frame field_at is_counted frame_bytes
-  trap_cells mc68000 byVector = (is (fits s.status sr), (is (halves s.next next), tt))
+  trap_cells mc68000 by_vector = (is (fits s.status sr), (is (halves s.next next), tt))
   trap_cells mc68000 own = (is (fits s.status sr), (is (halves s.next next), tt))
-  trap_cells mc68010 byVector = (is (fits s.status sr), (refl, (is (offset v vl), tt)))
+  trap_cells mc68010 by_vector = (is (fits s.status sr), (refl, (is (offset v vl), tt)))
   trap_cells mc68010 own = (is (fits s.status sr), (refl, (is (offset v vl), tt)))
-  trap_cells mc68020 byVector = (is (fits s.status sr), (refl, (is (offset v vl), tt)))
+  trap_cells mc68020 by_vector = (is (fits s.status sr), (refl, (is (offset v vl), tt)))
   trap_cells mc68020 own = (is (fits s.status sr), (refl, (is (offset v vl), tt)))
-  trap_cells mc68030 byVector = (is (fits s.status sr), (refl, (is (offset v vl), tt)))
+  trap_cells mc68030 by_vector = (is (fits s.status sr), (refl, (is (offset v vl), tt)))
   trap_cells mc68030 own = (is (fits s.status sr), (refl, (is (offset v vl), tt)))
-  trap_cells mc68040 byVector = (is (fits s.status sr), (refl, (is (offset v vl), tt)))
+  trap_cells mc68040 by_vector = (is (fits s.status sr), (refl, (is (offset v vl), tt)))
   trap_cells mc68040 own = (is (fits s.status sr), (refl, (is (offset v vl), tt)))
-  trap_cells mc68060 byVector = (is (fits s.status sr), (refl, (is (offset v vl), tt)))
+  trap_cells mc68060 by_vector = (is (fits s.status sr), (refl, (is (offset v vl), tt)))
   trap_cells mc68060 own = (is (fits s.status sr), (refl, (is (offset v vl), tt)))
 
   pub group2_cells : (f : Family) → Holding (twelve f s.status s.next s.this v) (field_differs differences (of f s) own group2 v) (fields_of (of f s) group2 v)
@@ -161,7 +161,7 @@ module _ (s : State) (v : ℕ) (sr : s.status < 0x10000) (this : s.this < 0x1000
 
   -- `take_exception` of a vector of group 2, which stacks a
   pub vector_group2 : (a : ℕ) → a < 0x100000000 → (eqb v 6 ≡ false → a ≡ s.next) → (f : Family) (b : Bool) → eqb v 6 ≡ b
-      → Holding (plain f s.status a (offset_word v)) (field_differs differences (of f s) byVector group2 v) (fields_of (of f s) group2 v)
+      → Holding (plain f s.status a (offset_word v)) (field_differs differences (of f s) by_vector group2 v) (fields_of (of f s) group2 v)
   unfolding differences field_differs fields_of top_fields throwaway look in_frame words6 words8 short_frame long_frame disabled_frame field_at is_counted frame_bytes
   vector_group2 a al n mc68000 true e = rw e (is (fits s.status sr), (tt, tt))
   vector_group2 a al n mc68000 false e = rw e (is (fits s.status sr), (is (halves a al ∙ n e), tt))
@@ -178,7 +178,7 @@ module _ (s : State) (v : ℕ) (sr : s.status < 0x10000) (this : s.this < 0x1000
 
   -- of a vector of an interrupt: outside the master state, in it
   pub vector_interrupt : (a : ℕ) → a < 0x100000000 → ((eqb v 15 || leb 64 v) ≡ false → a ≡ s.next) → (f : Family) (b : Bool) → (eqb v 15 || leb 64 v) ≡ b → (m : Bool) → eqb (s.status / 2 ^ 12 % 2) 1 ≡ m
-      → Holding (plain f s.status a (offset_word v)) (field_differs differences (of f s) byVector interrupt v) (top_fields (of f s) interrupt v)
+      → Holding (plain f s.status a (offset_word v)) (field_differs differences (of f s) by_vector interrupt v) (top_fields (of f s) interrupt v)
   unfolding differences field_differs fields_of top_fields throwaway look in_frame words6 words8 short_frame long_frame disabled_frame field_at is_counted frame_bytes
   vector_interrupt a al n mc68000 true e true d = rw e (is (fits s.status sr), (tt, tt))
   vector_interrupt a al n mc68000 true e false d = rw e (is (fits s.status sr), (tt, tt))
@@ -207,7 +207,7 @@ module _ (s : State) (v : ℕ) (sr : s.status < 0x10000) (this : s.this < 0x1000
 
   -- the frame under one of format 1, which `take_exception` of an interrupt's vector makes too
   pub vector_under : (a : ℕ) → a < 0x100000000 → ((eqb v 15 || leb 64 v) ≡ false → a ≡ s.next) → (f : Family) (b : Bool) → (eqb v 15 || leb 64 v) ≡ b
-      → Holding (plain f s.status a (offset_word v)) (under_differs differences (of f s) byVector interrupt v) (fields_of (of f s) interrupt v)
+      → Holding (plain f s.status a (offset_word v)) (under_differs differences (of f s) by_vector interrupt v) (fields_of (of f s) interrupt v)
   unfolding differences under_differs fields_of look in_frame words6 words8 short_frame long_frame disabled_frame field_at is_counted frame_bytes
   vector_under a al n mc68000 true e = rw e (is (fits s.status sr), (tt, tt))
   vector_under a al n mc68000 false e = rw e (is (fits s.status sr), (is (halves a al ∙ n e), tt))
@@ -222,7 +222,7 @@ module _ (s : State) (v : ℕ) (sr : s.status < 0x10000) (this : s.this < 0x1000
   vector_under a al n mc68060 true e = rw e (is (fits s.status sr), (tt, (is (offset v vl), tt)))
   vector_under a al n mc68060 false e = rw e (is (fits s.status sr), (is (n e), (is (offset v vl), tt)))
 
-  pub vector_bus_error : (f : Family) → Holding (plain f s.status s.this (offset_word v)) (field_differs differences (of f s) byVector bus_error v) (fields_of (of f s) bus_error v)
+  pub vector_bus_error : (f : Family) → Holding (plain f s.status s.this (offset_word v)) (field_differs differences (of f s) by_vector bus_error v) (fields_of (of f s) bus_error v)
   unfolding differences field_differs fields_of top_fields throwaway look in_frame words6 words8 short_frame long_frame disabled_frame field_at is_counted frame_bytes
   vector_bus_error mc68000 = (tt, (tt, (tt, (tt, (tt, (tt, (tt, tt)))))))
   vector_bus_error mc68010 = (is (fits s.status sr), (tt, (tt, (tt, (tt, (tt, (tt, (tt, (tt, (tt, (tt, (tt, (tt, (tt, (tt, (tt, (tt, (tt, (tt, (tt, (tt, (tt, (tt, (tt, (tt, (tt, tt))))))))))))))))))))))))))
@@ -231,7 +231,7 @@ module _ (s : State) (v : ℕ) (sr : s.status < 0x10000) (this : s.this < 0x1000
   vector_bus_error mc68040 = (is (fits s.status sr), (refl, (tt, (tt, (tt, (tt, (tt, (tt, (tt, (tt, (tt, (tt, (tt, (tt, (tt, (tt, (tt, (tt, (tt, (tt, (tt, (tt, (tt, (tt, (tt, (tt, (tt, (tt, tt))))))))))))))))))))))))))))
   vector_bus_error mc68060 = (is (fits s.status sr), (refl, (tt, (tt, (tt, (tt, (tt, (tt, (tt, (tt, (tt, (tt, (tt, (tt, (tt, (tt, (tt, (tt, (tt, (tt, tt))))))))))))))))))))
 
-  pub vector_address_error : (f : Family) → Holding (plain f s.status s.this (offset_word v)) (field_differs differences (of f s) byVector address_error v) (fields_of (of f s) address_error v)
+  pub vector_address_error : (f : Family) → Holding (plain f s.status s.this (offset_word v)) (field_differs differences (of f s) by_vector address_error v) (fields_of (of f s) address_error v)
   unfolding differences field_differs fields_of top_fields throwaway look in_frame words6 words8 short_frame long_frame disabled_frame field_at is_counted frame_bytes
   vector_address_error mc68000 = (tt, (tt, (tt, (tt, (tt, (tt, (tt, tt)))))))
   vector_address_error mc68010 = (is (fits s.status sr), (tt, (tt, (tt, (tt, (tt, (tt, (tt, (tt, (tt, (tt, (tt, (tt, (tt, (tt, (tt, (tt, (tt, (tt, (tt, (tt, (tt, (tt, (tt, (tt, (tt, tt))))))))))))))))))))))))))
@@ -240,12 +240,12 @@ module _ (s : State) (v : ℕ) (sr : s.status < 0x10000) (this : s.this < 0x1000
   vector_address_error mc68040 = (is (fits s.status sr), (refl, (tt, (tt, tt))))
   vector_address_error mc68060 = (is (fits s.status sr), (refl, (tt, (tt, tt))))
 
-  pub vector_protocol : (b : Bool) → Holding (short_frame s.status s.this (offset_word v)) (field_differs differences (of (cond b mc68020 mc68030) s) byVector protocol v) (fields_of (of (cond b mc68020 mc68030) s) protocol v)
+  pub vector_protocol : (b : Bool) → Holding (short_frame s.status s.this (offset_word v)) (field_differs differences (of (cond b mc68020 mc68030) s) by_vector protocol v) (fields_of (of (cond b mc68020 mc68030) s) protocol v)
   unfolding differences field_differs fields_of top_fields throwaway look in_frame words6 words8 short_frame long_frame disabled_frame field_at is_counted frame_bytes
   vector_protocol true = (is (fits s.status sr), (tt, (tt, (tt, (tt, (tt, tt))))))
   vector_protocol false = (is (fits s.status sr), (tt, (tt, (tt, (tt, (tt, tt))))))
 
-  pub vector_configuration : Holding (short_frame s.status s.this (offset_word v)) (field_differs differences (of mc68030 s) byVector configuration v) (fields_of (of mc68030 s) configuration v)
+  pub vector_configuration : Holding (short_frame s.status s.this (offset_word v)) (field_differs differences (of mc68030 s) by_vector configuration v) (fields_of (of mc68030 s) configuration v)
   unfolding differences field_differs fields_of top_fields throwaway look in_frame words6 words8 short_frame long_frame disabled_frame field_at is_counted frame_bytes
   vector_configuration = (is (fits s.status sr), (tt, (tt, (tt, tt))))
 

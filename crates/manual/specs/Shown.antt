@@ -27,11 +27,11 @@ use Rattle.manual.specs.State.{State, on_pins}
 use Rattle.manual.specs.Vectors.{Class, place, vector_at}
 use Rattle.manual.specs.Formats.{Field}
 use Rattle.manual.specs.Exceptions.{top_fields, pointer_after, status_after}
-use Rattle.manual.specs.Differences.{Row, What, field, fields, atTop, format, pc, pins, differences, applies, covers_field, lowest, When, always, chk, vectored, based, ofTheBus, past24}
-use Rattle.manual.specs.Differences.{in_master as inMaster'}
+use Rattle.manual.specs.Differences.{Row, What, field, fields, at_top, format, pc, pins, differences, applies, covers_field, lowest, When, always, chk, vectored, based, of_the_bus, past24}
+use Rattle.manual.specs.Differences.{in_master as in_master'}
 use Rattle.manual.specs.Differences.{nonzero as not_zero}
-use Rattle.manual.specs.Differences.{length as lengthRow}
-use Rattle.manual.specs.Differences.{status as statusRow}
+use Rattle.manual.specs.Differences.{length as length_row}
+use Rattle.manual.specs.Differences.{status as status_row}
 use Rattle.manual.specs.Calls.{Event, state_of, event_of}
 use Rattle.manual.specs.Cells.{part_of, read_at}
 use Rattle.manual.specs.Computed.{shown}
@@ -178,10 +178,10 @@ by_field i r s e z k (t ∷ ts) =
 abbrev by_what : What → Input → Row → State → Event → World → ℕ → Bool
 by_what (field o l) i r s e z k = by_field i r s e z k (top_fields s e.class e.vector)
 by_what fields i r s e z k = by_field i r s e z k (top_fields s e.class e.vector)
-by_what atTop i r s e z k = by_field i r s e z k (top_fields s e.class e.vector)
+by_what at_top i r s e z k = by_field i r s e z k (top_fields s e.class e.vector)
 by_what format i r s e z k = by_field i r s e z k (top_fields s e.class e.vector)
-by_what lengthRow i r s e z k = applies s e.via e.class e.vector none r && values i (some (pointer_after s e.class)) (some (a7_of (cpu_of z)))
-by_what statusRow i r s e z k = applies s e.via e.class e.vector none r && values i (some (status_after s e.class)) (some (get_sr (cpu_of z)))
+by_what length_row i r s e z k = applies s e.via e.class e.vector none r && values i (some (pointer_after s e.class)) (some (a7_of (cpu_of z)))
+by_what status_row i r s e z k = applies s e.via e.class e.vector none r && values i (some (status_after s e.class)) (some (get_sr (cpu_of z)))
 by_what pc i r s e z k = applies s e.via e.class e.vector none r && values i (long_at (peek (mem z)) (mask_address k (vector_at s e.vector))) (some (pc_of (cpu_of z)))
 by_what pins i r s e z k = applies s e.via e.class e.vector (some i.offset) r && values i (some (on_pins s.lines i.offset)) (some (mask_address k i.offset))
 
@@ -492,9 +492,9 @@ of_any always = false
 of_any not_zero = false
 of_any chk = false
 of_any vectored = false
-of_any inMaster' = false
+of_any in_master' = false
 of_any based = true
-of_any ofTheBus = false
+of_any of_the_bus = false
 of_any past24 = true
 
 abbrev pub has_all : ℕ → List Row → List Input → Bool

@@ -17,7 +17,7 @@ use Rattle.calls.specs.Calls.{begun, refusal, perform}
 use Rattle.calls.specs.Calls.{run as performed}
 use Rattle.unwind.specs.Returns.{back, refused_back}
 use Rattle.unwind.specs.Unwind.{sight_of, returned, return_from}
-use Rattle.unwind.specs.Unwind.{refusal as refusalHere}
+use Rattle.unwind.specs.Unwind.{refusal as refusal_here}
 use Rattle.unwind.specs.Laws.{return_refused}
 use Rattle.unwind.specs.declared.Returned.{Returned}
 use Rattle.forms.specs.Plans.{Plan}
@@ -30,7 +30,7 @@ use Rattle.lines.specs.declared.Command.{Command}
 use Rattle.lines.specs.declared.Command.TheVariants.{Wrong, Kind, Pc, Ppc, A7, Long, Exc, Trap, Irq, Walk, Ret}
 use Rattle.lines.specs.Commands.{command_of}
 use Rattle.sessions.specs.Sessions.{Session, on_core, entered, interrupted, act, step}
-use Rattle.sessions.specs.Sessions.{returned as sessionReturned}
+use Rattle.sessions.specs.Sessions.{returned as session_returned}
 use Rattle.sessions.specs.Printed.{steps}
 use Rattle.printed.specs.Steps.{steps_of, nest_of, ended, book_of}
 
@@ -59,9 +59,9 @@ module _ (w : World) (c : Call) (d : direct c ≡ true) (b : List Page) where
 -- a return leaves the bus
 pub return_bus : (m : Core) (s : List ℕ) → (return_from m s).core.bus ≡ m.bus
 unfolding return_from returned put_cpu
-return_bus m s = go (eqb (refusalHere m (length s)) 0)
+return_bus m s = go (eqb (refusal_here m (length s)) 0)
   where
-    go : (t : Bool) → (pick t (returned m (back (sight_of m s) m.cpu)) (returned m (refused_back m.cpu (refusalHere m (length s))))).core.bus ≡ m.bus
+    go : (t : Bool) → (pick t (returned m (back (sight_of m s) m.cpu)) (returned m (refused_back m.cpu (refusal_here m (length s))))).core.bus ≡ m.bus
     go true = refl
     go false = refl
 
@@ -87,7 +87,7 @@ same_book : (w : World) (b : List Page) (st : State Real) → st ≡ standing w 
 same_book w b st e = e ∙ ap (standing w) (sym (ap (λ (z : State Real). z.book) e))
 
 command_follows : (s : Session) (c : Command) (b : List Page) → run Real (steps_of s c) (standing s.after b) ≡ standing (act s c).after (run Real (steps_of s c) (standing s.after b)).book
-unfolding steps_of act entered interrupted sessionReturned
+unfolding steps_of act entered interrupted session_returned
 command_follows s (Exc v) b = same_book _ _ _ (enters s.after (call.TakeException v) refl b)
 command_follows s (Trap n) b = same_book _ _ _ (enters s.after (call.Trap n) refl b)
 command_follows s (Irq n) b = same_book _ _ _ (enters (perform s.after (call.SetIrq n)).after call.CheckAndServiceInterrupts refl b)

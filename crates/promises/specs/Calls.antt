@@ -30,7 +30,7 @@ use Rattle.answers.specs.declared.Call.TheVariants.{TakeException, Trap, TakeGro
 use Rattle.answers.specs.declared.Answer.TheVariants.{Cycles, Flag, Refused}
 use Rattle.answers.specs.Matters.{matter_of}
 use Rattle.numbers.specs.Numbers.{bit}
-use Rattle.answers.specs.Answers.{refusedBy, value_of, count_of, Performed, answered, eventsOf, cycles, flag, plain, ofEntry, ofRead, ofService, ofTrace}
+use Rattle.answers.specs.Answers.{refused_by, value_of, count_of, Performed, answered, events_of, cycles, flag, plain, of_entry, of_read, of_service, of_trace}
 use Rattle.calls.specs.Calls.{restarted, run, begun, refusal, perform}
 use Rattle.promises.specs.Entries.{entry_cost, group2_writes, on_written, group2_most, take_group2_events, exception_trace_events, take_fp_unimp060_events, take_fp_disabled060_events}
 use Rattle.promises.specs.Taken.{take_exception_16, trap_16, take_rewound_16}
@@ -160,7 +160,7 @@ module _ (w : World) (s : w.core.bus.events ≡ 0) (d : Domain w) {l : List ℕ}
 
 -- a call that runs, from a world without events inside the domain; a floating-point entry on kind 11
 run_events : (c : Call) (w : World) → w.core.bus.events ≡ 0 → Domain w → ((matter_of c).floating ≡ true → kind_of (cpu_of w) ≡ 11) → Written (most_events c) w.log (run w c).after
-unfolding most_events run matter_of ofEntry ofRead ofService ofTrace cycles flag plain
+unfolding most_events run matter_of of_entry of_read of_service of_trace cycles flag plain
 run_events (TakeException v) w s d k = take_exception_16 w s d v
 run_events (Trap n) w s d k = trap_16 w s d n
 run_events (TakeGroup2Exception v) w s d k = group2_bound w s d (take_group2_events w s d v)
@@ -193,8 +193,8 @@ run_events PrefetchFirst w s d k = few_more (queue_most (kind_of (cpu_of w))) (p
 run_events PrefetchSecond w s d k = few_more (queue_most (kind_of (cpu_of w))) (prefetch_second_events w s d)
 
 -- its answer tells its events, and no refusal
-run_count : (c : Call) (w : World) → count_of (run w c).answer ≡ eventsOf (run w c).after.core
-unfolding run count_of ofEntry ofRead ofService ofTrace cycles flag plain
+run_count : (c : Call) (w : World) → count_of (run w c).answer ≡ events_of (run w c).after.core
+unfolding run count_of of_entry of_read of_service of_trace cycles flag plain
 run_count (TakeException v) w = refl
 run_count (Trap n) w = refl
 run_count (TakeGroup2Exception v) w = refl
@@ -226,8 +226,8 @@ run_count (Push32 v) w = refl
 run_count PrefetchFirst w = refl
 run_count PrefetchSecond w = refl
 
-run_accepts : (c : Call) (w : World) → refusedBy (run w c).answer ≡ 0
-unfolding run refusedBy ofEntry ofRead ofService ofTrace cycles flag plain
+run_accepts : (c : Call) (w : World) → refused_by (run w c).answer ≡ 0
+unfolding run refused_by of_entry of_read of_service of_trace cycles flag plain
 run_accepts (TakeException v) w = refl
 run_accepts (Trap n) w = refl
 run_accepts (TakeGroup2Exception v) w = refl
@@ -265,7 +265,7 @@ pub record Told (m : ℕ) (l : List ℕ) (x : Performed) : Type 0 where
   pub es : List Event
   pub few : length es ≤ m
   pub answers : count_of x.answer ≡ length es
-  pub count : eventsOf x.after.core ≡ length es
+  pub count : events_of x.after.core ≡ length es
   pub log : x.after.log ≡ spell es ++ drop (length es * 3) l
 
 -- what a number that does not apply leaves
@@ -313,20 +313,20 @@ module _ (w : World) (c : Call) (h : refusal w c ≡ 0) where
 
 module _ (w : World) (c : Call) where
   -- the answer has the number of the refusal, and 0 where there is none
-  pub answer_refusal : refusedBy (perform w c).answer ≡ refusal w c
-  unfolding perform refusedBy
+  pub answer_refusal : refused_by (perform w c).answer ≡ refusal w c
+  unfolding perform refused_by
   answer_refusal = go (eqb (refusal w c) 0) refl
     where
-      go : (b : Bool) → eqb (refusal w c) 0 ≡ b → refusedBy (pick b (run (begun w) c) (answered w (Refused (refusal w c)))).answer ≡ refusal w c
+      go : (b : Bool) → eqb (refusal w c) 0 ≡ b → refused_by (pick b (run (begun w) c) (answered w (Refused (refusal w c)))).answer ≡ refusal w c
       go true e = run_accepts c (begun w) ∙ sym (eqb-true (refusal w c) 0 e)
       go false e = refl
 
   -- THE NUMBER ANSWERED is n exactly if condition n holds and none below it does
-  pub answer_exact : (n : ℕ) → 0 < n → (refusedBy (perform w c).answer ≡ n) ↔ ((holds w c n ≡ true) × ((m : ℕ) → m < n → holds w c m ≡ false))
+  pub answer_exact : (n : ℕ) → 0 < n → (refused_by (perform w c).answer ≡ n) ↔ ((holds w c n ≡ true) × ((m : ℕ) → m < n → holds w c m ≡ false))
   answer_exact n p = subst (λ r. (r ≡ n) ↔ ((holds w c n ≡ true) × ((m : ℕ) → m < n → holds w c m ≡ false))) (sym answer_refusal) (refusal_exact w c n p)
 
   -- and 0 exactly if none holds
-  pub answer_none : (refusedBy (perform w c).answer ≡ 0) ↔ ((m : ℕ) → holds w c m ≡ false)
+  pub answer_none : (refused_by (perform w c).answer ≡ 0) ↔ ((m : ℕ) → holds w c m ≡ false)
   answer_none = subst (λ r. (r ≡ 0) ↔ ((m : ℕ) → holds w c m ≡ false)) (sym answer_refusal) (refusal_none w c)
 
 -- ---- cycles
@@ -397,24 +397,24 @@ cycles_of underway (Push32 v) = 0
 cycles_of underway PrefetchFirst = 0
 cycles_of underway PrefetchSecond = 0
 
-run_cycles : (c : Call) (w : World) → is_entry c ≡ true → (run w c).answer ≡ Cycles (cycles_of (in_exception (cpu_of w)) c) (eventsOf (run w c).after.core)
-unfolding is_entry cycles_of run ofEntry ofRead ofService ofTrace cycles flag plain exception_trace take_group2 take_fp_unimp060 take_fp_disabled060 exception_cycles
-run_cycles (TakeException v) w e = ap (λ n. Cycles n (eventsOf (take_exception w v).after.core)) (take_exception_cycles w v)
-run_cycles (Trap n) w e = ap (λ x. Cycles x (eventsOf (trap w n).after.core)) (trap_cycles w n)
+run_cycles : (c : Call) (w : World) → is_entry c ≡ true → (run w c).answer ≡ Cycles (cycles_of (in_exception (cpu_of w)) c) (events_of (run w c).after.core)
+unfolding is_entry cycles_of run of_entry of_read of_service of_trace cycles flag plain exception_trace take_group2 take_fp_unimp060 take_fp_disabled060 exception_cycles
+run_cycles (TakeException v) w e = ap (λ n. Cycles n (events_of (take_exception w v).after.core)) (take_exception_cycles w v)
+run_cycles (Trap n) w e = ap (λ x. Cycles x (events_of (trap w n).after.core)) (trap_cycles w n)
 run_cycles (TakeGroup2Exception v) w e = refl
 run_cycles ExceptionChk w e = refl
 run_cycles ExceptionZeroDivide w e = refl
-run_cycles ExceptionPrivilege w e = ap (λ n. Cycles n (eventsOf (take_exception w 8).after.core)) (take_exception_cycles w 8)
+run_cycles ExceptionPrivilege w e = ap (λ n. Cycles n (events_of (take_exception w 8).after.core)) (take_exception_cycles w 8)
 run_cycles ExceptionTrace w e = refl
 run_cycles (ExceptionAddressError a wr i) w e = refl
 run_cycles (ExceptionBusError a wr i z cause) w e = refl
 run_cycles (TakeFpUnimp060 ea) w e = refl
 run_cycles TakeFpDisabled060 w e = refl
-run_cycles TakeAlineException w e = ap (λ n. Cycles n (eventsOf (take_rewound w 10).after.core)) (take_rewound_cycles w 10)
-run_cycles TakeFlineException w e = ap (λ n. Cycles n (eventsOf (take_rewound w 11).after.core)) (take_rewound_cycles w 11)
-run_cycles (TakeTrapException n) w e = ap (λ x. Cycles x (eventsOf (trap w n).after.core)) (trap_cycles w n)
-run_cycles TakeBkptException w e = ap (λ n. Cycles n (eventsOf (take_rewound w 4).after.core)) (take_rewound_cycles w 4)
-run_cycles TakeIllegalException w e = ap (λ n. Cycles n (eventsOf (take_rewound w 4).after.core)) (take_rewound_cycles w 4)
+run_cycles TakeAlineException w e = ap (λ n. Cycles n (events_of (take_rewound w 10).after.core)) (take_rewound_cycles w 10)
+run_cycles TakeFlineException w e = ap (λ n. Cycles n (events_of (take_rewound w 11).after.core)) (take_rewound_cycles w 11)
+run_cycles (TakeTrapException n) w e = ap (λ x. Cycles x (events_of (trap w n).after.core)) (trap_cycles w n)
+run_cycles TakeBkptException w e = ap (λ n. Cycles n (events_of (take_rewound w 4).after.core)) (take_rewound_cycles w 4)
+run_cycles TakeIllegalException w e = ap (λ n. Cycles n (events_of (take_rewound w 4).after.core)) (take_rewound_cycles w 4)
 run_cycles (TriggerAddressError a wr i) w e = clash {b = false} e refl
 run_cycles (TriggerBusError a wr i z) w e = clash {b = false} e refl
 run_cycles CheckTrace w e = clash {b = false} e refl
@@ -431,9 +431,9 @@ run_cycles PrefetchFirst w e = clash {b = false} e refl
 run_cycles PrefetchSecond w e = clash {b = false} e refl
 
 -- THE CYCLES: an accepted entry answers those of the table
-pub cycles_of_the_table : (w : World) (c : Call) → refusal w c ≡ 0 → is_entry c ≡ true → (perform w c).answer ≡ Cycles (cycles_of (in_exception (cpu_of w)) c) (eventsOf (perform w c).after.core)
+pub cycles_of_the_table : (w : World) (c : Call) → refusal w c ≡ 0 → is_entry c ≡ true → (perform w c).answer ≡ Cycles (cycles_of (in_exception (cpu_of w)) c) (events_of (perform w c).after.core)
 unfolding begun restarted
-cycles_of_the_table w c h e = subst (λ x. x.answer ≡ Cycles (cycles_of (in_exception (cpu_of w)) c) (eventsOf x.after.core)) (sym (accepted_runs w c h)) (run_cycles c (begun w) e)
+cycles_of_the_table w c h e = subst (λ x. x.answer ≡ Cycles (cycles_of (in_exception (cpu_of w)) c) (events_of x.after.core)) (sym (accepted_runs w c h)) (run_cycles c (begun w) e)
 
 -- ---- the interrupt call
 
@@ -441,16 +441,16 @@ module _ (w : World) (h : refusal w CheckAndServiceInterrupts ≡ 0) where
   abbrev X : Performed
   X = perform w CheckAndServiceInterrupts
 
-  pub performed : X ≡ ofService (check_and_service (begun w))
+  pub performed : X ≡ of_service (check_and_service (begun w))
   unfolding run
   performed = accepted_runs w CheckAndServiceInterrupts h
 
   -- the answer is a flag: whether the interrupt was taken
-  pub service_answers : X.answer ≡ Flag (takes_interrupt (cpu_of w)) (eventsOf X.after.core)
-  unfolding ofService flag begun restarted
+  pub service_answers : X.answer ≡ Flag (takes_interrupt (cpu_of w)) (events_of X.after.core)
+  unfolding of_service flag begun restarted
   service_answers =
-      subst (λ x. x.answer ≡ Flag (takes_interrupt (cpu_of w)) (eventsOf x.after.core)) (sym performed)
-      (ap (λ b. Flag b (eventsOf (check_and_service (begun w)).after.core)) (answer_decides (begun w)))
+      subst (λ x. x.answer ≡ Flag (takes_interrupt (cpu_of w)) (events_of x.after.core)) (sym performed)
+      (ap (λ b. Flag b (events_of (check_and_service (begun w)).after.core)) (answer_decides (begun w)))
 
   -- TAKEN EXACTLY if the level is 7 or exceeds the mask
   pub service_exactly : (value_of X.answer ≡ 1) ↔ Due (cpu_of w)
@@ -473,10 +473,10 @@ module _ (w : World) (h : refusal w CheckAndServiceInterrupts ≡ 0) where
 
   -- where it is not taken the world stays, with no event
   pub service_untaken : value_of X.answer ≡ 0 → X.after ≡ begun w
-  unfolding ofService flag
+  unfolding of_service flag
   service_untaken e = subst (λ x. x.after ≡ begun w) (sym performed) (untaken_unchanged (begun w) (decided false e))
 
   -- where it is taken no level is pending after it, and `stopped` is 0
   pub service_taken : value_of X.answer ≡ 1 → ((cpu_of X.after).flags.int_level ≡ 0) × ((cpu_of X.after).flow.stopped ≡ 0)
-  unfolding ofService flag
+  unfolding of_service flag
   service_taken e = subst (λ x. ((cpu_of x.after).flags.int_level ≡ 0) × ((cpu_of x.after).flow.stopped ≡ 0)) (sym performed) (taken_after (begun w) (decided true e))

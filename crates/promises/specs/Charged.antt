@@ -24,7 +24,7 @@ use Rattle.refusals.specs.Refusals.{bad_cycles, tests_of}
 use Rattle.refusals.specs.Laws.{outcomes}
 use Rattle.answers.specs.declared.Call.TheVariants.{CheckAndServiceInterrupts}
 use Rattle.answers.specs.Matters.{matter_of}
-use Rattle.answers.specs.Answers.{value_of, flag, ofService}
+use Rattle.answers.specs.Answers.{value_of, flag, of_service}
 use Rattle.calls.specs.Calls.{restarted, begun, refusal, perform}
 use Rattle.promises.specs.Refusals.{refusal_none}
 use Rattle.promises.specs.Interrupts.{answer_decides}
@@ -136,5 +136,5 @@ module _ (w : World) (h : refusal w CheckAndServiceInterrupts ≡ 0) where
 
   -- where the interrupt is taken 46 cycles are taken off on kind 2, else 44
   pub service_charges : value_of (perform w CheckAndServiceInterrupts).answer ≡ 1 → left (perform w CheckAndServiceInterrupts).after ≡ left w -ℤ pos (pick (eqb (kind_of (cpu_of w)) 2) 46 44)
-  unfolding ofService flag
+  unfolding of_service flag
   service_charges e = subst (λ x. left x.after ≡ left w -ℤ pos (pick (eqb (kind_of (cpu_of w)) 2) 46 44)) (sym (performed w h)) (taken_charged (decided w h true e))

@@ -26,7 +26,7 @@ use Rattle.bounds.specs.Unique.{unique}
 use Rattle.answers.specs.declared.Call.{Call}
 use Rattle.answers.specs.declared.Call.TheVariants.{TakeException, Trap, TakeGroup2Exception, ExceptionChk, ExceptionZeroDivide, ExceptionPrivilege, ExceptionTrace, ExceptionAddressError, ExceptionBusError, TakeFpUnimp060, TakeFpDisabled060, TakeAlineException, TakeFlineException, TakeTrapException, TakeBkptException, TakeIllegalException, TriggerAddressError, TriggerBusError, CheckTrace, SetIrq, CheckInterrupts, CheckAndServiceInterrupts, Read16, Read32, Write16, Write32, Push16, Push32, PrefetchFirst, PrefetchSecond}
 use Rattle.answers.specs.declared.Answer.TheVariants.{Refused}
-use Rattle.answers.specs.Answers.{answered, cycles, plain, ofEntry, ofRead, ofService}
+use Rattle.answers.specs.Answers.{answered, cycles, plain, of_entry, of_read, of_service}
 use Rattle.calls.specs.Calls.{begun, refusal, perform}
 use Rattle.promises.specs.Refusals.{accepted_domain}
 use Rattle.promises.specs.Serviced.{Serves, service_interrupt_same}
@@ -132,30 +132,30 @@ module _ (k : ℕ) (t u : Raise) (T : Raises (Kept k Either) Any (is_prefetch_ki
 
   run_same : ((w : World) (q : Fault) → Domain w → t w q ≡ u w q) → (w : World) → Domain w → P w → (c : Call) → run_by t w c ≡ run_by u w c
   unfolding run_by
-  run_same E w d p (TakeException v) = ap ofEntry (take_exception_same w v p)
-  run_same E w d p (Trap n) = ap ofEntry (trap_same w n p)
-  run_same E w d p (TakeGroup2Exception v) = ap ofEntry (take_group2_same w v p)
-  run_same E w d p ExceptionChk = ap ofEntry (take_group2_same w 6 p)
-  run_same E w d p ExceptionZeroDivide = ap ofEntry (take_group2_same w 5 p)
-  run_same E w d p ExceptionPrivilege = ap ofEntry (take_exception_same w 8 p)
-  run_same E w d p ExceptionTrace = ap ofEntry (exception_trace_same w p)
+  run_same E w d p (TakeException v) = ap of_entry (take_exception_same w v p)
+  run_same E w d p (Trap n) = ap of_entry (trap_same w n p)
+  run_same E w d p (TakeGroup2Exception v) = ap of_entry (take_group2_same w v p)
+  run_same E w d p ExceptionChk = ap of_entry (take_group2_same w 6 p)
+  run_same E w d p ExceptionZeroDivide = ap of_entry (take_group2_same w 5 p)
+  run_same E w d p ExceptionPrivilege = ap of_entry (take_exception_same w 8 p)
+  run_same E w d p ExceptionTrace = ap of_entry (exception_trace_same w p)
   run_same E w d p (ExceptionAddressError a wr i) = ap (λ x. cycles x 50) (entry_address_good k Either t u safely w a wr i p).0
   run_same E w d p (ExceptionBusError a wr i z cause) = ap (λ x. cycles x 50) (entry_bus_good k Either t u safely w a wr i z (cause_number cause) p).0
-  run_same E w d p (TakeFpUnimp060 ea) = ap ofEntry (take_fp_unimp060_same w ea p)
-  run_same E w d p TakeFpDisabled060 = ap ofEntry (take_fp_disabled060_same w p)
-  run_same E w d p TakeAlineException = ap ofEntry (take_rewound_same w 10 p)
-  run_same E w d p TakeFlineException = ap ofEntry (take_rewound_same w 11 p)
-  run_same E w d p (TakeTrapException n) = ap ofEntry (trap_same w n p)
-  run_same E w d p TakeBkptException = ap ofEntry (take_rewound_same w 4 p)
-  run_same E w d p TakeIllegalException = ap ofEntry (take_rewound_same w 4 p)
+  run_same E w d p (TakeFpUnimp060 ea) = ap of_entry (take_fp_unimp060_same w ea p)
+  run_same E w d p TakeFpDisabled060 = ap of_entry (take_fp_disabled060_same w p)
+  run_same E w d p TakeAlineException = ap of_entry (take_rewound_same w 10 p)
+  run_same E w d p TakeFlineException = ap of_entry (take_rewound_same w 11 p)
+  run_same E w d p (TakeTrapException n) = ap of_entry (trap_same w n p)
+  run_same E w d p TakeBkptException = ap of_entry (take_rewound_same w 4 p)
+  run_same E w d p TakeIllegalException = ap of_entry (take_rewound_same w 4 p)
   run_same E w d p (TriggerAddressError a wr i) = ap plain (E w (address_error a wr i) d)
   run_same E w d p (TriggerBusError a wr i z) = ap plain (E w (bus_error a wr i z) d)
   run_same E w d p CheckTrace = refl
   run_same E w d p (SetIrq n) = refl
   run_same E w d p CheckInterrupts = refl
-  run_same E w d p CheckAndServiceInterrupts = ap ofService (check_and_service_same w p)
-  run_same E w d p (Read16 a) = ap ofRead (guard_read_good (Kept k Either) Any (is_prefetch_kind k) t u (steps k Either) T 0 w a false p tt).0
-  run_same E w d p (Read32 a) = ap ofRead (guard_read_good (Kept k Either) Any (is_prefetch_kind k) t u (steps k Either) T 0 w a true p tt).0
+  run_same E w d p CheckAndServiceInterrupts = ap of_service (check_and_service_same w p)
+  run_same E w d p (Read16 a) = ap of_read (guard_read_good (Kept k Either) Any (is_prefetch_kind k) t u (steps k Either) T 0 w a false p tt).0
+  run_same E w d p (Read32 a) = ap of_read (guard_read_good (Kept k Either) Any (is_prefetch_kind k) t u (steps k Either) T 0 w a true p tt).0
   run_same E w d p (Write16 a v) = ap plain (guard_write_good (Kept k Either) Any (is_prefetch_kind k) t u (steps k Either) T 0 w a false v p tt).0
   run_same E w d p (Write32 a v) = ap plain (guard_write_good (Kept k Either) Any (is_prefetch_kind k) t u (steps k Either) T 0 w a true v p tt).0
   run_same E w d p (Push16 v) = ap plain (pushed_good (Kept k Either) Any (is_prefetch_kind k) t u (steps k Either) T 0 w (word v) (λ h j m x p. tt) p).0

@@ -22,7 +22,7 @@ use Rattle.interrupts.specs.Interrupts.{acknowledge_level, synced_acknowledge, e
 use Rattle.answers.specs.declared.Call.{Call}
 use Rattle.answers.specs.declared.Call.TheVariants.{TakeException, Trap, TakeGroup2Exception, ExceptionChk, ExceptionZeroDivide, ExceptionPrivilege, ExceptionTrace, ExceptionAddressError, ExceptionBusError, TakeFpUnimp060, TakeFpDisabled060, TakeAlineException, TakeFlineException, TakeTrapException, TakeBkptException, TakeIllegalException, TriggerAddressError, TriggerBusError, CheckTrace, SetIrq, CheckInterrupts, CheckAndServiceInterrupts, Read16, Read32, Write16, Write32, Push16, Push32, PrefetchFirst, PrefetchSecond}
 use Rattle.answers.specs.declared.Answer.TheVariants.{Refused}
-use Rattle.answers.specs.Answers.{Performed, answered, cycles, flag, plain, ofEntry, ofRead, ofService, ofTrace}
+use Rattle.answers.specs.Answers.{Performed, answered, cycles, flag, plain, of_entry, of_read, of_service, of_trace}
 use Rattle.calls.specs.Calls.{run, begun, refusal, perform}
 
 module _ (t : Raise) where
@@ -127,30 +127,30 @@ module _ (t : Raise) where
 
   -- calls
   unfoldable pub run_by : World → Call → Performed
-  run_by w (TakeException v) = ofEntry (take_exception_by w v)
-  run_by w (Trap n) = ofEntry (trap_by w n)
-  run_by w (TakeGroup2Exception v) = ofEntry (take_group2_by w v)
-  run_by w ExceptionChk = ofEntry (take_group2_by w chk)
-  run_by w ExceptionZeroDivide = ofEntry (take_group2_by w zero_divide)
-  run_by w ExceptionPrivilege = ofEntry (take_exception_by w privilege_violation)
-  run_by w ExceptionTrace = ofEntry (exception_trace_by w)
+  run_by w (TakeException v) = of_entry (take_exception_by w v)
+  run_by w (Trap n) = of_entry (trap_by w n)
+  run_by w (TakeGroup2Exception v) = of_entry (take_group2_by w v)
+  run_by w ExceptionChk = of_entry (take_group2_by w chk)
+  run_by w ExceptionZeroDivide = of_entry (take_group2_by w zero_divide)
+  run_by w ExceptionPrivilege = of_entry (take_exception_by w privilege_violation)
+  run_by w ExceptionTrace = of_entry (exception_trace_by w)
   run_by w (ExceptionAddressError a write instruction) = cycles (exception_address_error t w a write instruction) 50
   run_by w (ExceptionBusError a write instruction z cause) = cycles (exception_bus_error t w a write instruction z (cause_number cause)) 50
-  run_by w (TakeFpUnimp060 ea) = ofEntry (take_fp_unimp060_by w ea)
-  run_by w TakeFpDisabled060 = ofEntry (take_fp_disabled060_by w)
-  run_by w TakeAlineException = ofEntry (take_rewound_by w line1010)
-  run_by w TakeFlineException = ofEntry (take_rewound_by w line1111)
-  run_by w (TakeTrapException n) = ofEntry (trap_by w n)
-  run_by w TakeBkptException = ofEntry (take_rewound_by w illegal_instruction)
-  run_by w TakeIllegalException = ofEntry (take_rewound_by w illegal_instruction)
+  run_by w (TakeFpUnimp060 ea) = of_entry (take_fp_unimp060_by w ea)
+  run_by w TakeFpDisabled060 = of_entry (take_fp_disabled060_by w)
+  run_by w TakeAlineException = of_entry (take_rewound_by w line1010)
+  run_by w TakeFlineException = of_entry (take_rewound_by w line1111)
+  run_by w (TakeTrapException n) = of_entry (trap_by w n)
+  run_by w TakeBkptException = of_entry (take_rewound_by w illegal_instruction)
+  run_by w TakeIllegalException = of_entry (take_rewound_by w illegal_instruction)
   run_by w (TriggerAddressError a write instruction) = plain (t w (address_error a write instruction))
   run_by w (TriggerBusError a write instruction z) = plain (t w (bus_error a write instruction z))
-  run_by w CheckTrace = ofTrace w (check_trace (cpu_of w))
+  run_by w CheckTrace = of_trace w (check_trace (cpu_of w))
   run_by w (SetIrq n) = plain (step (λ c. set_irq c n) w)
   run_by w CheckInterrupts = flag w (check_interrupts (cpu_of w))
-  run_by w CheckAndServiceInterrupts = ofService (check_and_service_by w)
-  run_by w (Read16 a) = ofRead (read_at t w a false)
-  run_by w (Read32 a) = ofRead (read_at t w a true)
+  run_by w CheckAndServiceInterrupts = of_service (check_and_service_by w)
+  run_by w (Read16 a) = of_read (read_at t w a false)
+  run_by w (Read32 a) = of_read (read_at t w a true)
   run_by w (Write16 a v) = plain (write_at t w a false v)
   run_by w (Write32 a v) = plain (write_at t w a true v)
   run_by w (Push16 v) = plain (push_field t w (word v))

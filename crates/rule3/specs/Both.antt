@@ -17,7 +17,7 @@ use Rattle.unwind.specs.Frames.{Sight, sight, byte_served, byte_of, all_served, 
 use Rattle.unwind.specs.Returns.{in_user, take_frame, refused_back, done_back, second_back, first_back, back}
 use Rattle.unwind.specs.Straight.{all_each}
 use Rattle.nest.specs.View.{Bytes, peek, addr, aligned, odd, frame_len, View, top, opt, word, long, Taken, settle, sized, frame, nonzero, view, second}
-use Rattle.nest.specs.View.{Back as NestBack, back as nestBack}
+use Rattle.nest.specs.View.{Back as NestBack, back as nest_back}
 use Rattle.nest.specs.Reading.{view_kind, view_a7, view_s}
 use Rattle.entered.specs.Pointers.{regs_of, Fit}
 use Rattle.entered.specs.Entered.{kind_regs}
@@ -154,7 +154,7 @@ module _ (bus : Bus) (store : List ℕ) where
       frame_some (view (regs_of c)) bus store (omega (arith, k)) ((λ i. (frame_of (sight (k i) bus store) (p i)).refused) ∙ e)
 
   abbrev Out : Cpu → Type 0
-  Out c = (x : NestBack) × (nestBack (view (regs_of c)) byte ≡ some x)
+  Out c = (x : NestBack) × (nest_back (view (regs_of c)) byte ≡ some x)
 
   -- a number that is tested and is not 0 cannot be
   clash : {A : Type 0} (n : ℕ) → eqb n 0 ≡ false → n ≡ 0 → A
@@ -193,8 +193,8 @@ module _ (bus : Bus) (store : List ℕ) where
       go false ft z = (record { row = record { format = t.format; status = t.status; address = t.address; offset = t.offset }; view = t.after }, rw ft)
 
   -- a return that `unwind` accepts is accepted by the nest; with `back_gives` it is the same one
-  pub back_some : (c : Cpu) → Fit c → kind_of c < 12 → (back (from c) c).refused ≡ 0 → (x : NestBack) × (nestBack (view (regs_of c)) byte ≡ some x)
-  unfolding back nestBack first_back
+  pub back_some : (c : Cpu) → Fit c → kind_of c < 12 → (back (from c) c).refused ≡ 0 → (x : NestBack) × (nest_back (view (regs_of c)) byte ≡ some x)
+  unfolding back nest_back first_back
   back_some c h l = go (in_user c) refl (eqb (frame_of (from c) (a7_of c)).refused 0) refl
     where
       taken : in_user c ≡ false → (t : Taken) → frame (view (regs_of c)) byte ≡ some t → (x : NestBack) × (second byte t ≡ some x) → Out c

@@ -21,7 +21,7 @@ use Rattle.forms.specs.Tests.{clean_test}
 use Rattle.forms.specs.Forms.{plan_of, is_some, no_plan_lem}
 use Rattle.nest.specs.View.{Regs, View, Bytes, Frame, addr, peek, view, under, s_bit, m_bit, nonzero, frames_of}
 use Rattle.nest.specs.Nest.{Step, entry, return, handlers, State, begin, exec, bytes_of, live, depth, Holds, here, there, Sound, Along, Always, AtTaken, StartsSound, ServedThen, ServedLater, No68000Error, LiveApart, LiveBelowTop, Keeps, HandlersKeep, HandlersLeave, Premises}
-use Rattle.nest.specs.Nest.{kind_of as kindNow}
+use Rattle.nest.specs.Nest.{kind_of as kind_now}
 use Rattle.nest.specs.Nest.{Machine, Entered, Returned, Walked}
 use Rattle.nest.specs.Checks.{and_true, served_b, served_test_lem, below_b, below_test, apart_b, apart_test}
 use Rattle.entered.specs.Pointers.{regs_of}
@@ -303,12 +303,12 @@ module _ (engine : Engine) where
       go false f q = none_of q
 
   abbrev pub keeps_test : State M → Cpu → Room → Bool
-  keeps_test st r s = view_test (view (regs_of r)) (view (regs_of st.rec)) && agree_all (peek (mem_of s.bus s.bytes)) (bytes_of M st) (kindNow M st) (live st.book)
+  keeps_test st r s = view_test (view (regs_of r)) (view (regs_of st.rec)) && agree_all (peek (mem_of s.bus s.bytes)) (bytes_of M st) (kind_now M st) (live st.book)
 
   keeps_tested : (st : State M) (r : Cpu) (s : Room) → keeps_test st r s ≡ true → Keeps M st r s
   keeps_tested st r s e =
       let a = and_true (view_test (view (regs_of r)) (view (regs_of st.rec))) _ e in
-      record { stacks = view_tested _ _ a.0; frames = agree_all_lem _ _ (kindNow M st) (live st.book) a.1 }
+      record { stacks = view_tested _ _ a.0; frames = agree_all_lem _ _ (kind_now M st) (live st.book) a.1 }
 
   abbrev pub step_test : Clause → Step M → State M → Bool
   step_test q (entry c) st = cond (takes_by (world_of st.rec st.sto) c.call) (entry_test q c st.rec st.sto) true
@@ -318,8 +318,8 @@ module _ (engine : Engine) where
 
   abbrev pub after_test : Clause → State M → Bool
   after_test q st =
-      where_asked (asks q served) (served_b (bytes_of M st) (kindNow M st) (live st.book))
-      && (below_b (kindNow M st) (live st.book) && where_asked (asks q apart) (apart_b (kindNow M st) (live st.book)))
+      where_asked (asks q served) (served_b (bytes_of M st) (kind_now M st) (live st.book))
+      && (below_b (kind_now M st) (live st.book) && where_asked (asks q apart) (apart_b (kind_now M st) (live st.book)))
 
   abbrev pub list_test : Clause → List (Step M) → State M → Bool
   list_test q [] st = true
@@ -401,21 +401,21 @@ module _ (engine : Engine) where
 
     module _ (st : State M) (e : after_test q st ≡ true) where
       abbrev serves : Bool
-      serves = served_b (bytes_of M st) (kindNow M st) (live st.book)
+      serves = served_b (bytes_of M st) (kind_now M st) (live st.book)
 
       after_served : asks q served ≡ true → ServedLater M st
       after_served h = served_test_lem _ _ _ (asked (asks q served) serves (and_true (where_asked (asks q served) serves) _ e).0 h)
 
-      abbrev others : (below_b (kindNow M st) (live st.book) && where_asked (asks q apart) (apart_b (kindNow M st) (live st.book))) ≡ true
+      abbrev others : (below_b (kind_now M st) (live st.book) && where_asked (asks q apart) (apart_b (kind_now M st) (live st.book))) ≡ true
       others = (and_true (where_asked (asks q served) serves) _ e).1
 
       after_below : LiveBelowTop M st
-      after_below = below_test _ _ (and_true (below_b (kindNow M st) (live st.book)) _ others).0
+      after_below = below_test _ _ (and_true (below_b (kind_now M st) (live st.book)) _ others).0
 
       after_apart : asks q apart ≡ true → LiveApart M st
       after_apart h =
-          apart_test _ _ (and_true (below_b (kindNow M st) (live st.book)) _ others).0
-          (asked (asks q apart) _ (and_true (below_b (kindNow M st) (live st.book)) _ others).1 h)
+          apart_test _ _ (and_true (below_b (kind_now M st) (live st.book)) _ others).0
+          (asked (asks q apart) _ (and_true (below_b (kind_now M st) (live st.book)) _ others).1 h)
 
   -- THE TEST: a start inside the domain, and every step
   abbrev pub test_but : Clause → List (Step M) → Cpu → Room → Bool

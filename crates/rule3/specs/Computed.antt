@@ -11,7 +11,7 @@ use Rattle.formats.specs.Formats.{disabled_frame}
 use Rattle.exceptions.specs.Exceptions.{take_rewound, exception_trace, stack_unimp, take_fp_unimp060, stack_disabled, take_fp_disabled060}
 use Rattle.images.specs.Pushes.{calm, laid_field}
 use Rattle.images.specs.Images.{field_address}
-use Rattle.images.specs.Images.{laid as laidFrame}
+use Rattle.images.specs.Images.{laid as laid_frame}
 use Rattle.forms.specs.Gist.{gist, gist_cpu, framed_by}
 use Rattle.forms.specs.Orders.{words6, words8}
 use Rattle.forms.specs.Plans.{turned, stack_all, short_of, exc_plan, rewound_plan, group2_frame, group2_plan, trace_plan, fp_unimp_plan, fp_disabled_plan, address_plan, bus_plan, interrupt_vector, interrupt_frame, throwaways, settles, interrupt_by, interrupt_plan}
@@ -33,5 +33,5 @@ use Rattle.rule3.specs.Rows.{told}
 use Rattle.rule3.specs.Rule3.{give_back, walk}
 
 unfoldable pub nested : Cpu → Room → Returned Cpu
-unfolding computed rewind_pc leave_stop note_fpiar frame8 frame68000 address_frame exception_address_error disabled_frame take_rewound begin_trace exception_trace stack_unimp take_fp_unimp060 stack_disabled take_fp_disabled060 status_mask format_length takes_format frame_length put_back_sr calm laid_field field_address laidFrame gist gist_cpu framed_by words6 words8 turned stack_all short_of exc_plan rewound_plan group2_frame group2_plan trace_plan fp_unimp_plan fp_disabled_plan address_plan bus_plan interrupt_vector interrupt_frame throwaways settles interrupt_by interrupt_plan field_test fields_test stacks_test reach_test clean_test plan_of byte_address byte_served byte_of all_served word_of long_of head_of refused_frame taken_frame sized_frame format_frame odd_pointer frame_of in_user raise_a7 swap_sr take_frame row_of refused_back done_back second_back first_back back trail_of put_row put_rows laid walk_of refusal returned return_from short_rows walk_from in_windows in_store peek addr sr_mask under s_bit m_bit view served restored Along Always AtTaken HandlersKeep HandlersLeave regs_of windows_of mem_of paper paper_takes error_call enter_by takes_by CleanCall rows_from told give_back walk
+unfolding computed rewind_pc leave_stop note_fpiar frame8 frame68000 address_frame exception_address_error disabled_frame take_rewound begin_trace exception_trace stack_unimp take_fp_unimp060 stack_disabled take_fp_disabled060 status_mask format_length takes_format frame_length put_back_sr calm laid_field field_address laid_frame gist gist_cpu framed_by words6 words8 turned stack_all short_of exc_plan rewound_plan group2_frame group2_plan trace_plan fp_unimp_plan fp_disabled_plan address_plan bus_plan interrupt_vector interrupt_frame throwaways settles interrupt_by interrupt_plan field_test fields_test stacks_test reach_test clean_test plan_of byte_address byte_served byte_of all_served word_of long_of head_of refused_frame taken_frame sized_frame format_frame odd_pointer frame_of in_user raise_a7 swap_sr take_frame row_of refused_back done_back second_back first_back back trail_of put_row put_rows laid walk_of refusal returned return_from short_rows walk_from in_windows in_store peek addr sr_mask under s_bit m_bit view served restored Along Always AtTaken HandlersKeep HandlersLeave regs_of windows_of mem_of paper paper_takes error_call enter_by takes_by CleanCall rows_from told give_back walk
 nested c s = give_back c s

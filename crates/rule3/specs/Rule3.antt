@@ -20,7 +20,7 @@ use Rattle.unwind.specs.Unwind.{of_store, refusal, short_rows, walk_from, return
 use Rattle.unwind.specs.Unwind.{returned as answer}
 use Rattle.unwind.specs.declared.Returned.{Returned as Answer}
 use Rattle.nest.specs.View.{Row, View, view, peek, under, opt}
-use Rattle.nest.specs.View.{Back as NestBack, back as nestBack, backs}
+use Rattle.nest.specs.View.{Back as NestBack, back as nest_back, backs}
 use Rattle.nest.specs.Nest.{Machine, Returned, denied, returned, Walked, State, depth, rows, Told, Rule3}
 use Rattle.nest.specs.Laws.{Return}
 use Rattle.entered.specs.Pointers.{regs_of, Fit}
@@ -120,7 +120,7 @@ module _ (r : Cpu) (s : Room) where
   unfolding answer put_cpu
   given e = rw e
 
-  return_law : (x : NestBack) → Passes r s → InsideRoom r s → nestBack (view (regs_of r)) (peek (mem_of s.bus s.bytes)) ≡ some x → (r' : Cpu) × Return Real r r' s x
+  return_law : (x : NestBack) → Passes r s → InsideRoom r s → nest_back (view (regs_of r)) (peek (mem_of s.bus s.bytes)) ≡ some x → (r' : Cpu) × Return Real r r' s x
   return_law x p i e =
       let g : Gives r (back sees r) x = back_gives s.bus s.bytes r x (fit_of r s p i) p.kind e in (
         (back sees r).cpu,
@@ -159,13 +159,13 @@ module _ (k : ℕ) (s : Room) (small : k < 12) where
   abbrev v : Sight
   v = sight k s.bus s.bytes
 
-  gives : (c : Cpu) (x : NestBack) → Fit c → kind_of c ≡ k → nestBack (view (regs_of c)) (peek (mem_of s.bus s.bytes)) ≡ some x → Gives c (back v c) x
+  gives : (c : Cpu) (x : NestBack) → Fit c → kind_of c ≡ k → nest_back (view (regs_of c)) (peek (mem_of s.bus s.bytes)) ≡ some x → Gives c (back v c) x
   gives c x f e h = subst (λ (j : ℕ). Gives c (back (sight j s.bus s.bytes) c) x) e (back_gives s.bus s.bytes c x f (omega (arith, e)) h)
 
   trails : (n : ℕ) (c : Cpu) (rows : List Row) → Fit c → kind_of c ≡ k → backs n (view (regs_of c)) (peek (mem_of s.bus s.bytes)) ≡ some rows → Trails k n c s rows
   unfolding backs trail_of
   trails zero c rows f e = λ h. record { accepted = refl; rows_are = cc }
-  trails (suc n) c rows f e = go (λ rs g i. trails n (back v c).cpu rs g i) (nestBack (view (regs_of c)) (peek (mem_of s.bus s.bytes))) refl
+  trails (suc n) c rows f e = go (λ rs g i. trails n (back v c).cpu rs g i) (nest_back (view (regs_of c)) (peek (mem_of s.bus s.bytes))) refl
     where
       d : Cpu
       d = (back v c).cpu
@@ -183,7 +183,7 @@ module _ (k : ℕ) (s : Room) (small : k < 12) where
             rows_are = rw g.accepted ((λ i. g.row i ∷ t.rows_are i) ∙ z);
           }
 
-      go : Under → (o : Option NestBack) → nestBack (view (regs_of c)) (peek (mem_of s.bus s.bytes)) ≡ o → opt o (λ x. opt (backs n x.view (peek (mem_of s.bus s.bytes))) (λ rs. some (x.row ∷ rs))) ≡ some rows → Trails k (suc n) c s rows
+      go : Under → (o : Option NestBack) → nest_back (view (regs_of c)) (peek (mem_of s.bus s.bytes)) ≡ o → opt o (λ x. opt (backs n x.view (peek (mem_of s.bus s.bytes))) (λ rs. some (x.row ∷ rs))) ≡ some rows → Trails k (suc n) c s rows
       go u none p q = let z : ◌≡◌ {A = ℕ} 0 1 = cc in absurd (omega arith)
       go u (some x) p q = rest u x (gives c x f e p) (backs n x.view (peek (mem_of s.bus s.bytes))) refl q
 

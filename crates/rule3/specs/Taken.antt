@@ -24,7 +24,7 @@ use Rattle.unwind.specs.Frames.{Sight, sight, byte_of, word_of, long_of, head_of
 use Rattle.unwind.specs.Returns.{in_user, raise_a7, swap_sr, take_frame, row_of, refused_back, done_back, second_back, first_back, back}
 use Rattle.unwind.specs.Laws.{take_status}
 use Rattle.nest.specs.View.{Regs, Bytes, peek, wrap, under, s_bit, m_bit, nonzero, View, view, top, opt, Taken, settle, frame, last, second}
-use Rattle.nest.specs.View.{Row as NestRow, Back as NestBack, back as nestBack}
+use Rattle.nest.specs.View.{Row as NestRow, Back as NestBack, back as nest_back}
 use Rattle.nest.specs.Reading.{view_kind, view_a7, view_s}
 use Rattle.nest.specs.Banks.{bank_g, save, loaded, select, with_a7, with_flags, view_settle}
 use Rattle.nest.specs.Settled.{frame_settled}
@@ -401,8 +401,8 @@ module _ (bus : Bus) (store : List ℕ) where
       go false f g = one_gives c t x h l e (cc)
 
   -- where the nest's return is accepted, so is `unwind`'s, with the same row, view and values
-  pub back_gives : (c : Cpu) (x : NestBack) → Fit c → kind_of c < 12 → nestBack (view (regs_of c)) byte ≡ some x → Gives c (back (from c) c) x
-  unfolding nestBack back
+  pub back_gives : (c : Cpu) (x : NestBack) → Fit c → kind_of c < 12 → nest_back (view (regs_of c)) byte ≡ some x → Gives c (back (from c) c) x
+  unfolding nest_back back
   back_gives c x h l = go (view (regs_of c)).s refl (frame (view (regs_of c)) byte) refl
     where
       go : (q : Bool) → (view (regs_of c)).s ≡ q → (o : Option Taken) → frame (view (regs_of c)) byte ≡ o → cond q (opt o (second byte)) none ≡ some x

@@ -28,13 +28,13 @@ use Rattle.refusals.specs.Refusals.{refusal_of}
 use Rattle.steps.specs.Steps.{refuses_odd, vector_address, stacked_address, begin_entry, begin_bus, begin_address, close_bus, enter_bus_error, iack_vector, enter_level, close_interrupt, with_s}
 use Rattle.access.specs.Access.{Fault, bus_error, address_error, Raise, read_or, prefetch_read, kept_first, first_from, prefetch_first, kept_second, second_from, prefetch_second, checked_read, read_at, wrote, checked_write, write_at, stack_field, push_field, push_fields, short_writes, push_exception_frame68000, vector_read, refill, jump_to, jump_vector, push_frame, exception_address_error, exception_bus_error, raise_bus, raise_address, trigger, raised}
 use Rattle.formats.specs.Formats.{format_word, offset_word, short_frame}
-use Rattle.exceptions.specs.Exceptions.{Entry, entry, supervised, stack_short, finished as finishedEntry, taken, take_exception, trap}
+use Rattle.exceptions.specs.Exceptions.{Entry, entry, supervised, stack_short, finished as finished_entry, taken, take_exception, trap}
 use Rattle.interrupts.specs.Interrupts.{vector_from, acknowledge_level, synced_acknowledge, rest68000, from68000, push_interrupt68000, writes68010, rest68010, push_interrupt68010, rest_other, push_interrupt_other, first_frame, throwaway, second_frame, ended, dispatched, service_interrupt, serviced, check_and_service}
 use Rattle.answers.specs.declared.Call.{Call}
 use Rattle.answers.specs.declared.Call.TheVariants.{TakeException, Trap, SetIrq, CheckAndServiceInterrupts}
 use Rattle.answers.specs.declared.Answer.TheVariants.{Refused}
 use Rattle.answers.specs.Matters.{matter_of}
-use Rattle.answers.specs.Answers.{Performed, answered, cycles, flag, plain, ofEntry, ofService}
+use Rattle.answers.specs.Answers.{Performed, answered, cycles, flag, plain, of_entry, of_service}
 use Rattle.calls.specs.Calls.{run, begun, refusal, perform}
 use Rattle.lines.specs.declared.Command.{Command}
 use Rattle.lines.specs.declared.Command.TheVariants as command
@@ -73,12 +73,12 @@ abbrev Tries : World → Attempt → Attempt → Type 0
 Tries w x y = Tied after_try bare_try (length w.store) (length w.log) x y
 
 -- what is so of each of two steps is so of one after the other
-join : {A B : Type 0} (at : A → World) (bared : A → A) (to : B → World) (baredTo : B → B) (g : A → B) →
-    ((a : A) → Tied to baredTo (length (at a).store) (length (at a).log) (g a) (g (bared a))) →
-    (w : World) (a b : A) → Tied at bared (length w.store) (length w.log) a b → Tied to baredTo (length w.store) (length w.log) (g a) (g b)
-join at bared to baredTo g h w a b e =
+join : {A B : Type 0} (at : A → World) (bared : A → A) (to : B → World) (bared_to : B → B) (g : A → B) →
+    ((a : A) → Tied to bared_to (length (at a).store) (length (at a).log) (g a) (g (bared a))) →
+    (w : World) (a b : A) → Tied at bared (length w.store) (length w.log) a b → Tied to bared_to (length w.store) (length w.log) (g a) (g b)
+join at bared to bared_to g h w a b e =
     record {
-      blind = (h a).blind ∙ ap (λ x. baredTo (g x)) e.blind ∙ sym (h b).blind;
+      blind = (h a).blind ∙ ap (λ x. bared_to (g x)) e.blind ∙ sym (h b).blind;
       stores = (h a).stores ∙ e.stores;
       logs = (h a).logs ∙ e.logs;
     }
@@ -335,7 +335,7 @@ stack_short_lem pc format w =
     (push_frame_lem raised raise (short_frame (get_sr (cpu_of w)) pc format) (supervised w))
 
 take_one : (v : ℕ) (w : World) → Worlds w (taken w v) (taken (bare w) v)
-unfolding taken finishedEntry
+unfolding taken finished_entry
 take_one v w =
     join_ww (step (λ c. set_exception c false)) (stepped (λ c. set_exception c false)) w _ _
     (join_ww (λ x. jump_vector raised x v) (jump_vector_lem raised raise v) w _ _ (stack_short_lem (stacked_address (cpu_of w) v) (offset_word v) w))
@@ -445,21 +445,21 @@ Calls w x y = Tied after_call bare_call (length w.store) (length w.log) x y
 abbrev Quiet : Call → Type 0
 Quiet c = (w : World) → Calls w (run w c) (run (bare w) c)
 
-of_entry : (x : Entry) → Calls x.after (ofEntry x) (ofEntry (bare_entry x))
-unfolding ofEntry cycles
-of_entry x = record { blind = refl; stores = refl; logs = refl }
+of_entry_lem : (x : Entry) → Calls x.after (of_entry x) (of_entry (bare_entry x))
+unfolding of_entry cycles
+of_entry_lem x = record { blind = refl; stores = refl; logs = refl }
 
-of_service : (x : Attempt) → Calls x.after (ofService x) (ofService (bare_try x))
-unfolding ofService flag
-of_service x = record { blind = refl; stores = refl; logs = refl }
+of_service_lem : (x : Attempt) → Calls x.after (of_service x) (of_service (bare_try x))
+unfolding of_service flag
+of_service_lem x = record { blind = refl; stores = refl; logs = refl }
 
 exc_quiet : (v : ℕ) → Quiet (TakeException v)
 unfolding run
-exc_quiet v w = join after_entry bare_entry after_call bare_call ofEntry of_entry w _ _ (entry_tied v w)
+exc_quiet v w = join after_entry bare_entry after_call bare_call of_entry of_entry_lem w _ _ (entry_tied v w)
 
 trap_quiet : (n : ℕ) → Quiet (Trap n)
 unfolding run trap
-trap_quiet n w = join after_entry bare_entry after_call bare_call ofEntry of_entry w _ _ (entry_tied (trap_base + n % 16) w)
+trap_quiet n w = join after_entry bare_entry after_call bare_call of_entry of_entry_lem w _ _ (entry_tied (trap_base + n % 16) w)
 
 irq_quiet : (n : ℕ) → Quiet (SetIrq n)
 unfolding run plain
@@ -467,7 +467,7 @@ irq_quiet n w = record { blind = refl; stores = refl; logs = refl }
 
 service_quiet : Quiet CheckAndServiceInterrupts
 unfolding run
-service_quiet w = join after_try bare_try after_call bare_call ofService of_service w _ _ (interrupt w)
+service_quiet w = join after_try bare_try after_call bare_call of_service of_service_lem w _ _ (interrupt w)
 
 -- a call keeps the lengths of store and log
 call_sizes : (c : Call) → Quiet c → (w : World) → (length (perform w c).after.store ≡ length w.store) × (length (perform w c).after.log ≡ length w.log)

@@ -11,7 +11,7 @@ use Rattle.answers.specs.declared.Call.TheVariants.{TakeException, Trap, SetIrq,
 use Rattle.answers.specs.declared.Answer.{Answer}
 use Rattle.answers.specs.declared.Answer.TheVariants.{Cycles, Flag, Refused}
 use Rattle.numbers.specs.Numbers.{bit, flag}
-use Rattle.answers.specs.Answers.{Performed, answered, refusedBy, value_of, count_of, cycles, flag as flagged, ofEntry, ofService}
+use Rattle.answers.specs.Answers.{Performed, answered, refused_by, value_of, count_of, cycles, flag as flagged, of_entry, of_service}
 use Rattle.calls.specs.Calls.{run, begun, refusal, perform}
 use Rattle.numbers.specs.declared.RawCall.{RawCall}
 use Rattle.boundary.specs.Calls.{Outcome, outcome, decode, of_performed, raw_of, raw_call}
@@ -59,10 +59,10 @@ raw_service w = refl
 
 -- a call whose numbers print what its answer prints
 unfoldable Tells : ℕ → Performed → Type 0
-Tells n x = told (shown_of x.after.core) (refusedBy x.answer) (cycles_of x.after.core n (value_of x.answer)) ≡ answer_told x.after.core x.answer
+Tells n x = told (shown_of x.after.core) (refused_by x.answer) (cycles_of x.after.core n (value_of x.answer)) ≡ answer_told x.after.core x.answer
 
 tells_refused : (n k : ℕ) (w : World) → eqb k 0 ≡ false → Tells n (answered w (Refused k))
-unfolding Tells told refusedBy answer_told
+unfolding Tells told refused_by answer_told
 tells_refused n k w e = rw e
 
 performed_tells : (n : ℕ) (w : World) (c : Call) → Tells n (run (begun w) c) → Tells n (perform w c)
@@ -74,11 +74,11 @@ performed_tells n w c h = go (eqb (refusal w c) 0) refl
     go false e = rw e (tells_refused n (refusal w c) w e)
 
 exc_tells : (w : World) (v : ℕ) → Tells 1 (run w (TakeException v))
-unfolding Tells run ofEntry cycles told shown_of cycles_of refusedBy value_of answer_told state_of
+unfolding Tells run of_entry cycles told shown_of cycles_of refused_by value_of answer_told state_of
 exc_tells w v = refl
 
 trap_tells : (w : World) (n : ℕ) → Tells 2 (run w (Trap n))
-unfolding Tells run ofEntry cycles told shown_of cycles_of refusedBy value_of answer_told state_of
+unfolding Tells run of_entry cycles told shown_of cycles_of refused_by value_of answer_told state_of
 trap_tells w n = refl
 
 flag_bit : (b : Bool) → flag (bit b) ≡ b
@@ -87,7 +87,7 @@ flag_bit true = refl
 flag_bit false = refl
 
 service_tells : (w : World) → Tells 22 (run w CheckAndServiceInterrupts)
-unfolding Tells run ofService flagged told shown_of cycles_of refusedBy value_of answer_told state_of
+unfolding Tells run of_service flagged told shown_of cycles_of refused_by value_of answer_told state_of
 service_tells w = rw flag_bit
 
 by_number_lem : (s : Session) (r : RawCall) (c : Call) → raw_call s.after r ≡ of_performed (perform s.after c) → Tells r.number (perform s.after c) → entered_by s r ≡ entered s c

@@ -7,7 +7,7 @@ use Rattle.status.specs.Status.{get_sr}
 use Rattle.memory.specs.declared.Core.{Core}
 use Rattle.memory.specs.declared.Bus.{Bus}
 use Rattle.memory.specs.Served.{served_of}
-use Rattle.memory.specs.World.{World, world, step as onCpu, poke_long}
+use Rattle.memory.specs.World.{World, world, step as on_cpu, poke_long}
 use Rattle.answers.specs.declared.Call.{Call}
 use Rattle.answers.specs.declared.Call.TheVariants.{TakeException, Trap, SetIrq, CheckAndServiceInterrupts}
 use Rattle.answers.specs.declared.Answer.{Answer}
@@ -87,9 +87,9 @@ returned s =
 unfoldable pub act : Session → Command → Session
 act s command.Wrong = say s s.after (refused_line 14)
 act s (command.Kind k) = session (world (fresh_core k) (cleared s.after.store) s.after.log) s.printed
-act s (command.Pc v) = session (onCpu (λ c. set_pc c v) s.after) s.printed
-act s (command.Ppc v) = session (onCpu (λ c. set_ppc c v) s.after) s.printed
-act s (command.A7 v) = session (onCpu (λ c. set_a7 c v) s.after) s.printed
+act s (command.Pc v) = session (on_cpu (λ c. set_pc c v) s.after) s.printed
+act s (command.Ppc v) = session (on_cpu (λ c. set_ppc c v) s.after) s.printed
+act s (command.A7 v) = session (on_cpu (λ c. set_a7 c v) s.after) s.printed
 act s (command.Long a v) =
     say s (world s.after.core (poke_long s.after.core.bus s.after.store a v) s.after.log)
     (long_told s.after.core s.after.store a)

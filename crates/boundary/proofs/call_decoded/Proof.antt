@@ -1,6 +1,6 @@
 use mathlib.Core.Path.{◌≡◌, sym, ap, ◌∙◌}
 use Rattle.boundary.specs.Calls.{raw_of}
-use Rattle.boundary.proofs.Answers.{performed-way, unknown-way}
+use Rattle.boundary.proofs.Answers.{performed_way, unknown_way}
 use borrow.Author.Rules.{rules}
 use Rattle.boundary.proofs.call_decoded.Statement.{statement}
 use Rattle.boundary.proofs.call_decoded.Tie as tie
@@ -33,11 +33,11 @@ same-length-2 c = c.before.before.before.before.before.perform.auto.1.1.0
 
 returns : tie.Need-returns
 unfolding raw_of
-returns c = performed-way c.before.before.before.before.before.perform.ensures c.performed.ensures ∙ sym (ap (raw_of _) c.before.before.before.before.before.before.before.before.before.call.given.1)
+returns c = performed_way c.before.before.before.before.before.perform.ensures c.performed.ensures ∙ sym (ap (raw_of _) c.before.before.before.before.before.before.before.before.before.call.given.1)
 
 returns-2 : tie.Need-returns-2
 unfolding raw_of
-returns-2 c = unknown-way c.unknown.ensures ∙ sym (ap (raw_of _) c.before.enum_told.given.1)
+returns-2 c = unknown_way c.unknown.ensures ∙ sym (ap (raw_of _) c.before.enum_told.given.1)
 
 pub call-decoded-spec : {M : Type 1} → statement M
 call-decoded-spec =

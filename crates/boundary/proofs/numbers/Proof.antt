@@ -1,6 +1,6 @@
 use mathlib.Core.Path.{◌≡◌, sym, ap, ◌∙◌}
-use Rattle.answers.specs.Answers.{refusedBy, value_of, count_of}
-use Rattle.boundary.proofs.Answers.{inNumbers, flag-way}
+use Rattle.answers.specs.Answers.{refused_by, value_of, count_of}
+use Rattle.boundary.proofs.Answers.{in_numbers, flag_way}
 use borrow.Author.Rules.{rules}
 use Rattle.boundary.proofs.numbers.Statement.{statement}
 use Rattle.boundary.proofs.numbers.Tie as tie
@@ -43,24 +43,24 @@ raw-requires-5 : tie.Need-raw-requires-5
 raw-requires-5 c κs = search rules
 
 returns : tie.Need-returns
-unfolding refusedBy value_of count_of
-returns c = c.raw.ensures ∙ sym (ap (inNumbers _) c.before.before.a.given.1)
+unfolding refused_by value_of count_of
+returns c = c.raw.ensures ∙ sym (ap (in_numbers _) c.before.before.a.given.1)
 
 returns-2 : tie.Need-returns-2
-unfolding refusedBy value_of count_of
-returns-2 c = flag-way c.before.before.before.a2.given.1 c.before.bit-of.ensures c.raw2.ensures
+unfolding refused_by value_of count_of
+returns-2 c = flag_way c.before.before.before.a2.given.1 c.before.bit-of.ensures c.raw2.ensures
 
 returns-3 : tie.Need-returns-3
-unfolding refusedBy value_of count_of
-returns-3 c = c.raw3.ensures ∙ sym (ap (inNumbers _) c.before.before.a3.given.1)
+unfolding refused_by value_of count_of
+returns-3 c = c.raw3.ensures ∙ sym (ap (in_numbers _) c.before.before.a3.given.1)
 
 returns-4 : tie.Need-returns-4
-unfolding refusedBy value_of count_of
-returns-4 c = c.raw4.ensures ∙ sym (ap (inNumbers _) c.before.before.a4.given.1)
+unfolding refused_by value_of count_of
+returns-4 c = c.raw4.ensures ∙ sym (ap (in_numbers _) c.before.before.a4.given.1)
 
 returns-5 : tie.Need-returns-5
-unfolding refusedBy value_of count_of
-returns-5 c = c.raw5.ensures ∙ sym (ap (inNumbers _) c.before.before.a5.given.1)
+unfolding refused_by value_of count_of
+returns-5 c = c.raw5.ensures ∙ sym (ap (in_numbers _) c.before.before.a5.given.1)
 
 pub numbers-spec : {M : Type 1} → statement M
 numbers-spec =

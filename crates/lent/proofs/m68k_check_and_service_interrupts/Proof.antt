@@ -31,8 +31,8 @@ use denote.RattleType.{owns}
 use denote.Memory.{mem, cell_at, pointee}
 use denote.Laws.{Is, shows}
 use denote.Builtin.{u8, u32}
-use denote.Ref.{MutBor, MutRef, mut_vals, mut_Tells}
-use denote.Slice.{slice_val, slice_ty, MutSlice, Room, mut_slice_vals, mut_slice_Tells}
+use denote.Ref.{MutBor, MutRef, mut_vals, mut_tells}
+use denote.Slice.{slice_val, slice_ty, MutSlice, Room, mut_slice_vals, mut_slice_tells}
 use denote.Steps.{only, opens, closes, owned, peeks, heard, nothing}
 use denote.Struct.Steps.{spelt}
 use denote.Struct.Laws as LL
@@ -42,7 +42,7 @@ use denote.Triple.Statement.{Contract, Triple}
 use denote.Triple.Call.{calls_at}
 use denote.Triple.Clauses.{ensured, lasts}
 use denote.Triple.Table.{entered, cited}
-use denote.Triple.Walked.{says, Stays, stay_ref, stay_slice, walk_of, Goes-ref, Goes-slice, Walks, ends_at, walked, walk_Meets}
+use denote.Triple.Walked.{says, Stays, stay_ref, stay_slice, walk_of, Goes-ref, Goes-slice, Walks, ends_at, walked, walk_meets}
 use denote.Signature.{plain}
 use Rattle.attempts.specs.Attempts.{Tried, calmed_by, patched_by}
 use Rattle.attempts.specs.Lent.{left, lent_call}
@@ -339,13 +339,13 @@ module _ {M : Type 1} {𝓤 : Ura M} (𝓛 : Logic 𝓤) (mem : Memory → SProp
   walks C Λ fm known-attempt known-patch₀ known-patch₁ known =
       walked 𝓛 f.ended stayed (f.clauses 𝓛 mem run) (WpFn 𝓤 H C Λ code.function)
       (λ κs. (mut_vals, (mut_slice_vals, (mut_slice_vals, tt))))
-      (λ κs. (mut_Tells (named 0) κs.0 LentCore·.the_row, (mut_slice_Tells (named 1) κs.1.0 u8, (mut_slice_Tells (named 2) κs.1.1.0 u32, tt))))
+      (λ κs. (mut_tells (named 0) κs.0 LentCore·.the_row, (mut_slice_tells (named 1) κs.1.0 u8, (mut_slice_tells (named 2) κs.1.1.0 u32, tt))))
       (λ κs qs bounds a g are. via 𝓤 _ (fst∗ 𝓤 _ (emp 𝓤)) (walk_code 𝓛 mem run κs.0 κs.1.0 κs.1.1.0 qs.0 qs.1.0 qs.1.1.0 a.0.ref_ptr.0 a.0.ref_ptr.1 a.0.ghost_name a.0.now a.1.0 a.1.1.0 C Λ fm known-attempt known-patch₀ known-patch₁ known are.1.0.0.1 are.1.1.0.0.1))
 
 meets : {M : Type 1} {𝓤 : Ura M} (𝓛 : Logic 𝓤) → (mem : Memory → SProp 𝓤) (run : Routine → Fun 𝓤) (𝓣 : Tables 𝓤 𝓛.H) → Triple 𝓤 (𝓣.C #attempt) (Attempt 𝓛 mem run) → Triple 𝓤 (𝓣.C #patch₀) (Patch₀ 𝓛 mem run) → Triple 𝓤 (𝓣.C #patch₁) (Patch₁ 𝓛 mem run) → Triple 𝓤 (𝓣.C #core) (Core 𝓛 mem run)
     → Meets 𝓛 f.signature (WpFn 𝓤 𝓛.H 𝓣.C 𝓣.Λ code.function) (f.spec 𝓛 mem run)
 meets {𝓤 = 𝓤} 𝓛 mem run 𝓣 known-attempt known-patch₀ known-patch₁ known =
-    walk_Meets 𝓛 f.ended stayed
+    walk_meets 𝓛 f.ended stayed
     (Goes-ref 𝓛 3 0 tt (plain (λ _. LentCore·.the_row)), (Goes-slice 𝓛 3 1 tt (plain (λ _. u8)), (Goes-slice 𝓛 3 2 tt (plain (λ _. u32)), tt)))
     (f.clauses 𝓛 mem run) (WpFn 𝓤 𝓛.H 𝓣.C 𝓣.Λ code.function) (WpFn-mono 𝓤 𝓛.H 𝓛.laws 𝓣 code.function) (walks 𝓛 mem run 𝓣.C 𝓣.Λ (fm_of 𝓤 𝓛.H 𝓛.laws 𝓣) known-attempt known-patch₀ known-patch₁ known)
 

@@ -23,9 +23,9 @@ use sound.WpLaws.{FmC, fm_of, WpFn-mono}
 use denote.RattleType.{owns}
 use denote.Memory.{mem, part_at}
 use denote.Laws.{Is, shows}
-use denote.Plain.{uint_Lawful}
+use denote.Plain.{uint_lawful}
 use denote.Builtin.{u32}
-use denote.Ref.{Bor, ShrRef, shr_vals, shr_Tells}
+use denote.Ref.{Bor, ShrRef, shr_vals, shr_tells}
 use denote.Slice.{slice_val}
 use denote.Steps.{looks, shuts, owned, peeks, heard, nothing}
 use denote.Struct.Steps.{spelt}
@@ -36,7 +36,7 @@ use denote.Triple.Statement.{Contract, Triple}
 use denote.Triple.Call.{calls_at}
 use denote.Triple.Clauses.{ensured, lasts}
 use denote.Triple.Table.{entered, cited}
-use denote.Triple.Walked.{says, Stays, stay_none_ref, walk_of, Goes-none_ref, Walks, ends_at, walked, walk_Meets}
+use denote.Triple.Walked.{says, Stays, stay_none_ref, walk_of, Goes-none_ref, Walks, ends_at, walked, walk_meets}
 use denote.Exit.{yes}
 use denote.Signature.{plain}
 use Rattle.attempts.specs.Lent.{lent_sr}
@@ -130,7 +130,7 @@ module _ {M : Type 1} {𝓤 : Ura M} (𝓛 : Logic 𝓤) (at_mem : Memory → SP
         split ! $ move ! (1 ∷ []) $ use1 𝓛 (some (λ (zs : Unit {0} × Unit {0}). ‵ (lasts core.ended tt to zs) ⊛ raw (fact 𝓤 (Ensured r)))) (id⊢ 𝓤 _) $ pick ! (λ zs.
         split ! $ move ! (1 ∷ []) $ heard ! (Ensured r) (λ e. fsplit ! $ drop ! $ drop ! $ split ! $ move ! (1 ∷ []) $ peeks ! u32 (Is u32) (shows 𝓛 u32) r (w ∷ []) (λ is.
         -- [answer; toks; lft; bor; obs; _2; dead2; _1; dead1; _0; dead0]
-        land ! (from ! (stop !)) (init ! 8 refl ((uint_Lawful 𝓛 w32).typed r _ is).0) $ returns ! (look ! 8 refl) $ forget ! 4 refl $ forget ! 6 refl $ forget ! 8 refl $ move ! (8 ∷ 9 ∷ []) $ free1 ! $ move ! (6 ∷ 7 ∷ []) $ free1 ! $ move ! (4 ∷ 5 ∷ []) $ free1 ! $ free0 ! $ keep ! (2 ∷ 1 ∷ 3 ∷ 0 ∷ []) $ by ! (exits r w e)))))))))))
+        land ! (from ! (stop !)) (init ! 8 refl ((uint_lawful 𝓛 w32).typed r _ is).0) $ returns ! (look ! 8 refl) $ forget ! 4 refl $ forget ! 6 refl $ forget ! 8 refl $ move ! (8 ∷ 9 ∷ []) $ free1 ! $ move ! (6 ∷ 7 ∷ []) $ free1 ! $ move ! (4 ∷ 5 ∷ []) $ free1 ! $ free0 ! $ keep ! (2 ∷ 1 ∷ 3 ∷ 0 ∷ []) $ by ! (exits r w e)))))))))))
 
 module _ {M : Type 1} {𝓤 : Ura M} (𝓛 : Logic 𝓤) (mem : Memory → SProp 𝓤) (run : Routine → Fun 𝓤) where
   open 𝓛 use {H}
@@ -139,13 +139,13 @@ module _ {M : Type 1} {𝓤 : Ura M} (𝓛 : Logic 𝓤) (mem : Memory → SProp
   walks C Λ fm known =
       walked 𝓛 f.ended stayed (f.clauses 𝓛 mem run) (WpFn 𝓤 H C Λ code.function)
       (λ κs. (shr_vals, tt))
-      (λ κs. (shr_Tells (named 0) κs.0 LentCpu·.the_row, tt))
+      (λ κs. (shr_tells (named 0) κs.0 LentCpu·.the_row, tt))
       (λ κs qs bounds a g are. via 𝓤 _ (fst∗ 𝓤 _ (emp 𝓤)) (walk_code 𝓛 mem run κs.0 qs.0 a.0.ref_ptr.0 a.0.ref_ptr.1 0 a.0.now C Λ fm known))
 
 meets : {M : Type 1} {𝓤 : Ura M} (𝓛 : Logic 𝓤) → (mem : Memory → SProp 𝓤) (run : Routine → Fun 𝓤) (𝓣 : Tables 𝓤 𝓛.H) → Triple 𝓤 (𝓣.C #core) (Core 𝓛 mem run)
     → Meets 𝓛 f.signature (WpFn 𝓤 𝓛.H 𝓣.C 𝓣.Λ code.function) (f.spec 𝓛 mem run)
 meets {𝓤 = 𝓤} 𝓛 mem run 𝓣 known =
-    walk_Meets 𝓛 f.ended stayed
+    walk_meets 𝓛 f.ended stayed
     (Goes-none_ref 𝓛 1 (0 ∷ []) tt (plain (λ _. LentCpu·.the_row)) yes, tt)
     (f.clauses 𝓛 mem run) (WpFn 𝓤 𝓛.H 𝓣.C 𝓣.Λ code.function) (WpFn-mono 𝓤 𝓛.H 𝓛.laws 𝓣 code.function) (walks 𝓛 mem run 𝓣.C 𝓣.Λ (fm_of 𝓤 𝓛.H 𝓛.laws 𝓣) known)
 

@@ -30,8 +30,8 @@ use denote.RattleType.{owns}
 use denote.Memory.{mem, cell_at, pointee}
 use denote.Laws.{Is, shows}
 use denote.Builtin.{u8}
-use denote.Ref.{Bor, MutBor, MutRef, shr_vals, mut_Tells}
-use denote.Slice.{slice_val, slice_ty, ShrSlice, shr_slice_vals, shr_slice_Tells, shr_slice_Lawful, shr_slice_copy}
+use denote.Ref.{Bor, MutBor, MutRef, shr_vals, mut_tells}
+use denote.Slice.{slice_val, slice_ty, ShrSlice, shr_slice_vals, shr_slice_tells, shr_slice_lawful, shr_slice_copy}
 use denote.Steps.{only, opens, closes, owned, peeks, heard, nothing}
 use denote.Struct.Steps.{spelt}
 use denote.Struct.Laws as LL
@@ -41,7 +41,7 @@ use denote.Triple.Statement.{Contract, Triple}
 use denote.Triple.Call.{calls_at}
 use denote.Triple.Clauses.{ensured, lasts}
 use denote.Triple.Table.{entered, cited}
-use denote.Triple.Walked.{says, Stays, stay_ref, stay_none_slice, walk_of, Goes-ref, Goes-none_slice, Walks, ends_at, walked, walk_Meets}
+use denote.Triple.Walked.{says, Stays, stay_ref, stay_none_slice, walk_of, Goes-ref, Goes-none_slice, Walks, ends_at, walked, walk_meets}
 use denote.Exit.{yes}
 use denote.Signature.{plain}
 use Rattle.attempts.specs.Lent.{lent_return, served_return}
@@ -245,7 +245,7 @@ module _ {M : Type 1} {𝓤 : Ura M} (𝓛 : Logic 𝓤) (at_mem : Memory → SP
     walk_code : Is (ShrSlice (named 1) κ₁ u8) t₀ (s t₀ ∷ []) → ent 𝓤 (on_entry 𝓛 f.signature (κ₀, (κ₁, tt)) (q₀, (q₁, tt)) a vals) (WpFn 𝓤 H C Λ code.function (vptr b o ∷ s t₀ ∷ []) Post)
     walk_code t₀-is =
         qed 𝓛 ((‵ (flft κ₀ q₀) ⊛ ‵ (flft κ₁ q₁) ⊛ ‵ ftrue) ∷ ‵ (owns (MutRef (named 0) κ₀ LentCore·.the_row ∷ ShrSlice (named 1) κ₁ u8 ∷ []) a vals) ∷ []) ∵ enter ! C Λ code.function (vptr b o ∷ s t₀ ∷ []) _ $
-        alloc1 ! (λ l₀. alloc1 ! (λ l₁. alloc1 ! (λ l₂. alloc1 ! (λ l₃. alloc1 ! (λ l₄. alloc1 ! (λ l₅. alloc1 ! (λ l₆. alloc1 ! (λ l₇. alloc1 ! (λ l₈. alloc1 ! (λ l₉. alloc0 ! $ params1 ! $ pass1 ! (init ! 16 refl (tt, tt)) $ pass1 ! (init ! 14 refl ((shr_slice_Lawful 𝓛 (named 1) κ₁ u8).typed t₀ _ t₀-is).0) $ pass0 ! $
+        alloc1 ! (λ l₀. alloc1 ! (λ l₁. alloc1 ! (λ l₂. alloc1 ! (λ l₃. alloc1 ! (λ l₄. alloc1 ! (λ l₅. alloc1 ! (λ l₆. alloc1 ! (λ l₇. alloc1 ! (λ l₈. alloc1 ! (λ l₉. alloc0 ! $ params1 ! $ pass1 ! (init ! 16 refl (tt, tt)) $ pass1 ! (init ! 14 refl ((shr_slice_lawful 𝓛 (named 1) κ₁ u8).typed t₀ _ t₀-is).0) $ pass0 ! $
         -- the record's borrow is opened, and the record copied whole
         move ! (21 ∷ []) $ fsplit ! $ fsplit3 ! $ drop ! $ move ! (23 ∷ []) $ split ! $ move ! (2 ∷ 3 ∷ 0 ∷ []) $ opens ! tt LentCore·.the_row {h = h} b o (λ vs. spelt ! LentCore·.the_row (Is LentCore·.the_row) (shows 𝓛 LentCore·.the_row) (LL.vals LentCore·.the_type LentCore·'.the_laws) (LL.tells LentCore·.the_type LentCore·'.the_laws) full_share h vs b o $ move ! (1 ∷ []) $ peeks ! LentCore·.the_row (Is LentCore·.the_row) (shows 𝓛 LentCore·.the_row) h (machine ∷ []) (λ g.
         -- [own; cell; opened; obs; auth; toks; owns; _9; dead9; _8; dead8; _7; dead7; _6; dead6; _5; dead5; _4; dead4; _3; dead3; _2; dead2; _1; dead1; _0; dead0]
@@ -260,13 +260,13 @@ module _ {M : Type 1} {𝓤 : Ura M} (𝓛 : Logic 𝓤) (mem : Memory → SProp
   walks C Λ fm known-attempt known-patch₀ known =
       walked 𝓛 f.ended stayed (f.clauses 𝓛 mem run) (WpFn 𝓤 H C Λ code.function)
       (λ κs. (shr_vals, (shr_slice_vals, tt)))
-      (λ κs. (mut_Tells (named 0) κs.0 LentCore·.the_row, (shr_slice_Tells (named 1) κs.1.0 u8, tt)))
+      (λ κs. (mut_tells (named 0) κs.0 LentCore·.the_row, (shr_slice_tells (named 1) κs.1.0 u8, tt)))
       (λ κs qs bounds a g are. via 𝓤 _ (fst∗ 𝓤 _ (emp 𝓤)) (walk_code 𝓛 mem run κs.0 κs.1.0 qs.0 qs.1.0 a.0.ref_ptr.0 a.0.ref_ptr.1 a.0.ghost_name a.0.now a.1.0 C Λ fm known-attempt known-patch₀ known are.1.0))
 
 meets : {M : Type 1} {𝓤 : Ura M} (𝓛 : Logic 𝓤) → (mem : Memory → SProp 𝓤) (run : Routine → Fun 𝓤) (𝓣 : Tables 𝓤 𝓛.H) → Triple 𝓤 (𝓣.C #attempt) (Attempt 𝓛 mem run) → Triple 𝓤 (𝓣.C #patch₀) (Patch₀ 𝓛 mem run) → Triple 𝓤 (𝓣.C #core) (Core 𝓛 mem run)
     → Meets 𝓛 f.signature (WpFn 𝓤 𝓛.H 𝓣.C 𝓣.Λ code.function) (f.spec 𝓛 mem run)
 meets {𝓤 = 𝓤} 𝓛 mem run 𝓣 known-attempt known-patch₀ known =
-    walk_Meets 𝓛 f.ended stayed
+    walk_meets 𝓛 f.ended stayed
     (Goes-ref 𝓛 2 0 tt (plain (λ _. LentCore·.the_row)), (Goes-none_slice 𝓛 2 (1 ∷ []) tt (plain (λ _. u8)) yes, tt))
     (f.clauses 𝓛 mem run) (WpFn 𝓤 𝓛.H 𝓣.C 𝓣.Λ code.function) (WpFn-mono 𝓤 𝓛.H 𝓛.laws 𝓣 code.function) (walks 𝓛 mem run 𝓣.C 𝓣.Λ (fm_of 𝓤 𝓛.H 𝓛.laws 𝓣) known-attempt known-patch₀ known)
 

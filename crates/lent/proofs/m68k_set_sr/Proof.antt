@@ -25,9 +25,9 @@ use sound.WpLaws.{FmC, fm_of, WpFn-mono}
 use denote.RattleType.{owns}
 use denote.Memory.{mem, cell_at, pointee}
 use denote.Laws.{Is, shows}
-use denote.Plain.{uint_vals, uint_Tells, uint_Lawful, uint_Makes}
+use denote.Plain.{uint_vals, uint_tells, uint_lawful, uint_makes}
 use denote.Builtin.{u16, u32}
-use denote.Ref.{MutBor, MutRef, mut_vals, mut_Tells}
+use denote.Ref.{MutBor, MutRef, mut_vals, mut_tells}
 use denote.Slice.{slice_val}
 use denote.Steps.{only, opens, closes, owned, peeks, heard, nothing}
 use denote.Struct.Steps.{spelt}
@@ -38,7 +38,7 @@ use denote.Triple.Statement.{Contract, Triple}
 use denote.Triple.Call.{calls_at}
 use denote.Triple.Clauses.{ensured, lasts}
 use denote.Triple.Table.{entered, cited}
-use denote.Triple.Walked.{says, Stays, stay_ref, stay_none, walk_of, Goes-ref, Goes-none, Walks, ends_at, walked, walk_Meets}
+use denote.Triple.Walked.{says, Stays, stay_ref, stay_none, walk_of, Goes-ref, Goes-none, Walks, ends_at, walked, walk_meets}
 use denote.Exit.{yes}
 use denote.Signature.{plain}
 use Rattle.attempts.specs.Lent.{lent_set_sr, served_status}
@@ -124,7 +124,7 @@ module _ {M : Type 1} {𝓤 : Ura M} (𝓛 : Logic 𝓤) (at_mem : Memory → SP
   exits r e is =
       qed 𝓛 (‵ (flft κ₀ q₀) ∷ (‵ ftrue) ∷ ‵ (fobs γ ((LentCpu·.the_row).coded.code r.cpu)) ∷ ‵ (fbor κ₀ (Body (mem LentCpu·.the_row) b o γ)) ∷ []) ∵
       suffices ! _ (ends_at 𝓛 f.ended stayed (f.clauses 𝓛 at_mem run) (((κ₀, tt), (q₀, tt), tt, a, vals), tt) (vint w32 r.status) r.status (r.cpu, (tt, tt)) (tt, (tt, tt))) $ says ! e $
-      join ! $ frame ! $ nothing ! $ owned ! u16 (Is u16) (uint_Makes 𝓛 w16) p₀ _ p₀-is $ fjoin ! $ move ! (1 ∷ 2 ∷ []) $ feq_i ! (List Val) (vptr b o ∷ []) (vptr b o ∷ []) refl $ fjoin3 ! $ fjoin ! $ frame ! $ owned ! u32 (Is u32) (uint_Makes 𝓛 w32) r.status _ is $ done !
+      join ! $ frame ! $ nothing ! $ owned ! u16 (Is u16) (uint_makes 𝓛 w16) p₀ _ p₀-is $ fjoin ! $ move ! (1 ∷ 2 ∷ []) $ feq_i ! (List Val) (vptr b o ∷ []) (vptr b o ∷ []) refl $ fjoin3 ! $ fjoin ! $ frame ! $ owned ! u32 (Is u32) (uint_makes 𝓛 w32) r.status _ is $ done !
 
   module _ (C : Calls 𝓤 H) (Λ : Loops 𝓤 H) (fm : FmC 𝓤 H 𝓛.laws C) (known : Triple 𝓤 (C #core) (Core 𝓛 at_mem run)) where
     abbrev E : ℕ → ℕ → ℕ → ℕ → ℕ → Env 𝓤 H
@@ -134,7 +134,7 @@ module _ {M : Type 1} {𝓤 : Ura M} (𝓛 : Logic 𝓤) (at_mem : Memory → SP
     answers : (l₀ l₁ l₂ l₃ l₄ : ℕ) (r : ServedStatus) (w : Val) (is : Is ServedStatus·.the_row r (w ∷ [])) → Ensured r
         → Sq 𝓛 ((‵ ftrue) ∷ ‵ (cell_at full_share (LentCpu·.the_row).mir (LL.val LentCpu·.the_type LentCpu·'.the_laws r.cpu ∷ []) b o) ∷ ‵ (fobor κ₀ q₀ (Body (mem LentCpu·.the_row) b o γ)) ∷ ‵ (fobs γ ((LentCpu·.the_row).coded.code h)) ∷ ‵ (fauth γ ((LentCpu·.the_row).coded.code h)) ∷ ‵ (fat full_share (ServedStatus·'.mir) l₄ 0 (LL.val ServedStatus·.the_type ServedStatus·'.the_laws r)) ∷ ‵ (fdies (ServedStatus·'.mir) l₄) ∷ ‵ (fat full_share (LentCpu·'.mir) l₃ 0 (machine)) ∷ ‵ (fdies (LentCpu·'.mir) l₃) ∷ ‵ (fat full_share (ty_int w16) l₂ 0 (vint w16 p₀)) ∷ ‵ (fdies (ty_int w16) l₂) ∷ ‵ (fat full_share (ty_ref (named 0) mut (pointee (LentCpu·.the_row).written)) l₁ 0 (vptr b o)) ∷ ‵ (fdies (ty_ref (named 0) mut (pointee (LentCpu·.the_row).written)) l₁) ∷ ‵ (froom (ty_int w32) l₀ 0) ∷ ‵ (fdies (ty_int w32) l₀) ∷ []) (runs C Λ (E l₀ l₁ l₂ l₃ l₄) pieces.t-4 (at_ret (E l₀ l₁ l₂ l₃ l₄) Post))
     answers l₀ l₁ l₂ l₃ l₄ r w is e =
-        assigns ! (of_opd ! (load ! (from ! (fld ! {τ = ty_int w32} {d = 0} refl (stop !))) (look_in ! 5 (sub ! 0 {τ = ty_int w32} {d = 0} refl (whole !))))) (from ! (stop !)) (init ! 13 refl ((uint_Lawful 𝓛 w32).typed r.status _ (answer-is r w is)).0) $
+        assigns ! (of_opd ! (load ! (from ! (fld ! {τ = ty_int w32} {d = 0} refl (stop !))) (look_in ! 5 (sub ! 0 {τ = ty_int w32} {d = 0} refl (whole !))))) (from ! (stop !)) (init ! 13 refl ((uint_lawful 𝓛 w32).typed r.status _ (answer-is r w is)).0) $
         owned ! LentCpu·.the_row (Is LentCpu·.the_row) (LL.makes LentCpu·.the_type LentCpu·'.the_plain 𝓛) r.cpu _ (record_is r w is) $ move ! (2 ∷ 0 ∷ 3 ∷ 4 ∷ 5 ∷ []) $ closes ! tt LentCpu·.the_row r.cpu (LL.val LentCpu·.the_type LentCpu·'.the_laws r.cpu ∷ []) b o $
         returns ! (look ! 12 refl) $ forget ! 4 refl $ forget ! 6 refl $ forget ! 8 refl $ forget ! 10 refl $ forget ! 12 refl $ move ! (12 ∷ 13 ∷ []) $ free1 ! $ move ! (10 ∷ 11 ∷ []) $ free1 ! $ move ! (8 ∷ 9 ∷ []) $ free1 ! $ move ! (6 ∷ 7 ∷ []) $ free1 ! $ move ! (4 ∷ 5 ∷ []) $ free1 ! $ free0 ! $ keep ! (2 ∷ 3 ∷ 0 ∷ 1 ∷ []) $ by ! (exits r e (answer-is r w is))
 
@@ -147,7 +147,7 @@ module _ {M : Type 1} {𝓤 : Ura M} (𝓛 : Logic 𝓤) (at_mem : Memory → SP
     walk_code : ent 𝓤 (on_entry 𝓛 f.signature (κ₀, tt) (q₀, tt) a vals) (WpFn 𝓤 H C Λ code.function (vptr b o ∷ vint w16 p₀ ∷ []) Post)
     walk_code =
         qed 𝓛 ((‵ (flft κ₀ q₀) ⊛ ‵ ftrue) ∷ ‵ (owns (MutRef (named 0) κ₀ LentCpu·.the_row ∷ u16 ∷ []) a vals) ∷ []) ∵ enter ! C Λ code.function (vptr b o ∷ vint w16 p₀ ∷ []) _ $
-        alloc1 ! (λ l₀. alloc1 ! (λ l₁. alloc1 ! (λ l₂. alloc1 ! (λ l₃. alloc1 ! (λ l₄. alloc0 ! $ params1 ! $ pass1 ! (init ! 6 refl (tt, tt)) $ pass1 ! (init ! 4 refl ((uint_Lawful 𝓛 w16).typed p₀ _ p₀-is).0) $ pass0 ! $
+        alloc1 ! (λ l₀. alloc1 ! (λ l₁. alloc1 ! (λ l₂. alloc1 ! (λ l₃. alloc1 ! (λ l₄. alloc0 ! $ params1 ! $ pass1 ! (init ! 6 refl (tt, tt)) $ pass1 ! (init ! 4 refl ((uint_lawful 𝓛 w16).typed p₀ _ p₀-is).0) $ pass0 ! $
         -- the record's borrow is opened, and the record copied whole
         move ! (11 ∷ []) $ fsplit ! $ fsplit3 ! $ drop ! $ move ! (13 ∷ []) $ split ! $ move ! (2 ∷ 3 ∷ 0 ∷ []) $ opens ! tt LentCpu·.the_row {h = h} b o (λ vs. spelt ! LentCpu·.the_row (Is LentCpu·.the_row) (shows 𝓛 LentCpu·.the_row) (LL.vals LentCpu·.the_type LentCpu·'.the_laws) (LL.tells LentCpu·.the_type LentCpu·'.the_laws) full_share h vs b o $ move ! (1 ∷ []) $ peeks ! LentCpu·.the_row (Is LentCpu·.the_row) (shows 𝓛 LentCpu·.the_row) h (machine ∷ []) (λ g.
         -- [own; cell; opened; obs; auth; toks; owns; _4; dead4; _3; dead3; _2; dead2; _1; dead1; _0; dead0]
@@ -168,13 +168,13 @@ module _ {M : Type 1} {𝓤 : Ura M} (𝓛 : Logic 𝓤) (mem : Memory → SProp
   walks C Λ fm known =
       walked 𝓛 f.ended stayed (f.clauses 𝓛 mem run) (WpFn 𝓤 H C Λ code.function)
       (λ κs. (mut_vals, (uint_vals w16, tt)))
-      (λ κs. (mut_Tells (named 0) κs.0 LentCpu·.the_row, (uint_Tells w16, tt)))
+      (λ κs. (mut_tells (named 0) κs.0 LentCpu·.the_row, (uint_tells w16, tt)))
       (λ κs qs bounds a g are. via 𝓤 _ (fst∗ 𝓤 _ (emp 𝓤)) (walk_code 𝓛 mem run κs.0 qs.0 a.0.ref_ptr.0 a.0.ref_ptr.1 a.0.ghost_name a.0.now a.1.0 are.1.0 C Λ fm known))
 
 meets : {M : Type 1} {𝓤 : Ura M} (𝓛 : Logic 𝓤) → (mem : Memory → SProp 𝓤) (run : Routine → Fun 𝓤) (𝓣 : Tables 𝓤 𝓛.H) → Triple 𝓤 (𝓣.C #core) (Core 𝓛 mem run)
     → Meets 𝓛 f.signature (WpFn 𝓤 𝓛.H 𝓣.C 𝓣.Λ code.function) (f.spec 𝓛 mem run)
 meets {𝓤 = 𝓤} 𝓛 mem run 𝓣 known =
-    walk_Meets 𝓛 f.ended stayed
+    walk_meets 𝓛 f.ended stayed
     (Goes-ref 𝓛 1 0 tt (plain (λ _. LentCpu·.the_row)), (Goes-none 𝓛 1 (λ _. u16) yes (λ κs x f. refl), tt))
     (f.clauses 𝓛 mem run) (WpFn 𝓤 𝓛.H 𝓣.C 𝓣.Λ code.function) (WpFn-mono 𝓤 𝓛.H 𝓛.laws 𝓣 code.function) (walks 𝓛 mem run 𝓣.C 𝓣.Λ (fm_of 𝓤 𝓛.H 𝓛.laws 𝓣) known)
 

@@ -30,10 +30,10 @@ use sound.WpLaws.{FmC, fm_of, WpFn-mono}
 use denote.RattleType.{owns}
 use denote.Memory.{mem, cell_at, pointee}
 use denote.Laws.{Is, shows}
-use denote.Plain.{uint_vals, uint_Tells, uint_Lawful, uint_Makes}
+use denote.Plain.{uint_vals, uint_tells, uint_lawful, uint_makes}
 use denote.Builtin.{u8, u32}
-use denote.Ref.{MutBor, MutRef, mut_vals, mut_Tells}
-use denote.Slice.{slice_val, slice_ty, MutSlice, Room, mut_slice_vals, mut_slice_Tells}
+use denote.Ref.{MutBor, MutRef, mut_vals, mut_tells}
+use denote.Slice.{slice_val, slice_ty, MutSlice, Room, mut_slice_vals, mut_slice_tells}
 use denote.Steps.{only, opens, closes, owned, peeks, heard, nothing}
 use denote.Struct.Steps.{spelt}
 use denote.Struct.Laws as LL
@@ -43,7 +43,7 @@ use denote.Triple.Statement.{Contract, Triple}
 use denote.Triple.Call.{calls_at}
 use denote.Triple.Clauses.{ensured, lasts}
 use denote.Triple.Table.{entered, cited}
-use denote.Triple.Walked.{says, Stays, stay_ref, stay_none, stay_slice, walk_of, Goes-ref, Goes-none, Goes-slice, Walks, ends_at, walked, walk_Meets}
+use denote.Triple.Walked.{says, Stays, stay_ref, stay_none, stay_slice, walk_of, Goes-ref, Goes-none, Goes-slice, Walks, ends_at, walked, walk_meets}
 use denote.Exit.{yes}
 use denote.Signature.{plain}
 use Rattle.attempts.specs.Attempts.{Tried, calmed_by, patched_by}
@@ -204,7 +204,7 @@ module _ {M : Type 1} {𝓤 : Ura M} (𝓛 : Logic 𝓤) (at_mem : Memory → SP
   exits v u z₀ z₁ e same₀ same₁ is =
       qed 𝓛 (‵ (fobs γ ((LentCore·.the_row).coded.code u)) ∷ ‵ (fbor κ₀ (Body (mem LentCore·.the_row) b o γ)) ∷ ‵ (flft κ₀ q₀) ∷ ‵ (flft κ₁ q₁) ∷ ‵ (flft κ₂ q₂) ∷ ‵ ((MutSlice (named 1) κ₁ u8).own_val (again x₀ x₀.name z₀) (s x₀ ∷ [])) ∷ ‵ ((MutSlice (named 2) κ₂ u32).own_val (again x₁ x₁.name z₁) (s x₁ ∷ [])) ∷ []) ∵
       suffices ! _ (ends_at 𝓛 f.ended stayed (f.clauses 𝓛 at_mem run) (((κ₀, (κ₁, (κ₂, tt))), (q₀, (q₁, (q₂, tt))), tt, a, vals), tt) (LL.val Said·.the_type Said·'.the_laws v) v (u, (tt, (z₀, (z₁, tt)))) (tt, (tt, (same₀, (same₁, tt))))) $ says ! e $
-      nothing ! $ move ! (5 ∷ 0 ∷ []) $ join ! $ move ! (4 ∷ 0 ∷ []) $ join ! $ move ! (3 ∷ 0 ∷ []) $ join ! $ frame ! $ nothing ! $ move ! (4 ∷ 0 ∷ []) $ fjoin ! $ move ! (3 ∷ 0 ∷ []) $ fjoin ! $ owned ! u32 (Is u32) (uint_Makes 𝓛 w32) p₀ _ p₀-is $ fjoin ! $ move ! (1 ∷ 2 ∷ []) $ feq_i ! (List Val) (vptr b o ∷ []) (vptr b o ∷ []) refl $ fjoin3 ! $ fjoin ! $ frame ! $ owned ! Said·.the_row (Is Said·.the_row) (LL.makes Said·.the_type Said·'.the_plain 𝓛) v _ is $ done !
+      nothing ! $ move ! (5 ∷ 0 ∷ []) $ join ! $ move ! (4 ∷ 0 ∷ []) $ join ! $ move ! (3 ∷ 0 ∷ []) $ join ! $ frame ! $ nothing ! $ move ! (4 ∷ 0 ∷ []) $ fjoin ! $ move ! (3 ∷ 0 ∷ []) $ fjoin ! $ owned ! u32 (Is u32) (uint_makes 𝓛 w32) p₀ _ p₀-is $ fjoin ! $ move ! (1 ∷ 2 ∷ []) $ feq_i ! (List Val) (vptr b o ∷ []) (vptr b o ∷ []) refl $ fjoin3 ! $ fjoin ! $ frame ! $ owned ! Said·.the_row (Is Said·.the_row) (LL.makes Said·.the_type Said·'.the_plain 𝓛) v _ is $ done !
 
   module _ (C : Calls 𝓤 H) (Λ : Loops 𝓤 H) (fm : FmC 𝓤 H 𝓛.laws C) (known-attempt : Triple 𝓤 (C #attempt) (Attempt 𝓛 at_mem run)) (known-patch₀ : Triple 𝓤 (C #patch₀) (Patch₀ 𝓛 at_mem run)) (known-patch₁ : Triple 𝓤 (C #patch₁) (Patch₁ 𝓛 at_mem run)) (known : Triple 𝓤 (C #core) (Core 𝓛 at_mem run)) where
     abbrev E : ℕ → ℕ → ℕ → ℕ → ℕ → ℕ → ℕ → ℕ → ℕ → ℕ → ℕ → ℕ → ℕ → ℕ → ℕ → ℕ → ℕ → ℕ → ℕ → ℕ → ℕ → ℕ → Env 𝓤 H
@@ -263,7 +263,7 @@ module _ {M : Type 1} {𝓤 : Ura M} (𝓛 : Logic 𝓤) (at_mem : Memory → SP
         assigns ! (agg ! (and_then ! (load ! (from ! (stop !)) (look ! 10 refl)) (and_then ! (load ! (from ! (fld ! refl (stop !))) (look_in ! 42 (sub ! 1 refl (whole !)))) (no_more !)))) (from ! (stop !)) (init ! 8 refl (tt, (tt, (record { fits = room₁.0 }, tt)))) $
         lft_new ! tt (λ ν₀'. move ! (3 ∷ 4 ∷ []) $ use2 𝓛 (later (some (λ (δ : GName). ‵ ((MutSlice (named 0) (ν₀' ∷ []) u8).own_val (again x₀ δ x₀.now) (s x₀ ∷ [])) ⊛ ‵ (LentAgain u8 κ₁ (ν₀' ∷ []) q₁ x₀.ghost_name x₀.ref_ptr.0 x₀.ref_ptr.1 δ x₀.now)))) (lends_again u8 κ₁ (ν₀' ∷ []) q₁ x₀.ghost_name x₀.ref_ptr.0 x₀.ref_ptr.1 𝓛 (named 1) (named 0) x₀.now) $ await ! tt $ pick ! (λ δ₀'. split ! $
         lft_new ! tt (λ ν₁'. move ! (4 ∷ 5 ∷ []) $ use2 𝓛 (later (some (λ (δ : GName). ‵ ((MutSlice (named 1) (ν₁' ∷ []) u32).own_val (again x₁ δ x₁.now) (s x₁ ∷ [])) ⊛ ‵ (LentAgain u32 κ₂ (ν₁' ∷ []) q₂ x₁.ghost_name x₁.ref_ptr.0 x₁.ref_ptr.1 δ x₁.now)))) (lends_again u32 κ₂ (ν₁' ∷ []) q₂ x₁.ghost_name x₁.ref_ptr.0 x₁.ref_ptr.1 𝓛 (named 2) (named 1) x₁.now) $ await ! tt $ pick ! (λ δ₁'. split ! $
-        nothing ! $ move ! (1 ∷ 0 ∷ []) $ fjoin ! $ move ! (3 ∷ 0 ∷ []) $ fjoin ! $ owned ! u32 (Is u32) (uint_Makes 𝓛 w32) p₀ _ p₀-is $ fjoin ! $ owned ! LentCore·.the_row (Is LentCore·.the_row) (LL.makes LentCore·.the_type LentCore·'.the_plain 𝓛) h _ g $ fjoin ! $ nothing ! $ move ! (3 ∷ 0 ∷ []) $ join ! $ move ! (4 ∷ 0 ∷ []) $ join ! $ use2 𝓛 (raw ((Core 𝓛 at_mem run).pre (to-core ν₀' ν₁' δ₀' δ₁'))) (goes-core ν₀' ν₁' δ₀' δ₁') $
+        nothing ! $ move ! (1 ∷ 0 ∷ []) $ fjoin ! $ move ! (3 ∷ 0 ∷ []) $ fjoin ! $ owned ! u32 (Is u32) (uint_makes 𝓛 w32) p₀ _ p₀-is $ fjoin ! $ owned ! LentCore·.the_row (Is LentCore·.the_row) (LL.makes LentCore·.the_type LentCore·'.the_plain 𝓛) h _ g $ fjoin ! $ nothing ! $ move ! (3 ∷ 0 ∷ []) $ join ! $ move ! (4 ∷ 0 ∷ []) $ join ! $ use2 𝓛 (raw ((Core 𝓛 at_mem run).pre (to-core ν₀' ν₁' δ₀' δ₁'))) (goes-core ν₀' ν₁' δ₀' δ₁') $
         calls_at ! fm (Core 𝓛 at_mem run) known (to-core ν₀' ν₁' δ₀' δ₁') (and_then ! (load ! (from ! (stop !)) (look ! 31 refl)) (and_then ! (load ! (from ! (stop !)) (look ! 45 refl)) (and_then ! (load ! (from ! (stop !)) (look ! 11 refl)) (and_then ! (load ! (from ! (stop !)) (look ! 7 refl)) (no_more !))))) (λ w'.
         use1 𝓛 (later (some (λ (r : Served). ((‵ (flft (ν₀' ∷ []) full_share) ⊛ ‵ (flft (ν₁' ∷ []) full_share) ⊛ ‵ ftrue) ⊛ ‵ ((Served·.the_row).own_val r (w' ∷ []))) ⊛ raw (ensured 𝓛 core.ended (core.clauses 𝓛 at_mem run) (ν₀' ∷ [], (ν₁' ∷ [], tt)) (to δ₀' δ₁') tt r)))) (id⊢ 𝓤 _) $ await ! tt $ pick ! (λ r'.
         split ! $ move ! (1 ∷ []) $ use1 𝓛 (some (λ (zs : Unit {0} × (Unit {0} × (List ℕ × (List ℕ × Unit {0})))). ‵ (lasts core.ended (ν₀' ∷ [], (ν₁' ∷ [], tt)) (to δ₀' δ₁') zs) ⊛ raw (fact 𝓤 (Ensured r' zs.1.1.0 zs.1.1.1.0)))) (id⊢ 𝓤 _) $ pick ! (λ zs'.
@@ -309,7 +309,7 @@ module _ {M : Type 1} {𝓤 : Ura M} (𝓛 : Logic 𝓤) (at_mem : Memory → SP
     tries l₀ l₁ l₂ l₃ l₄ l₅ l₆ l₇ l₈ l₉ l₁₀ l₁₁ l₁₂ l₁₃ l₁₄ l₁₅ l₁₆ l₁₇ l₁₈ l₁₉ l₂₀ l₂₁ g room₀ room₁ =
         lft_new ! tt (λ ν₀. move ! (4 ∷ 2 ∷ []) $ use2 𝓛 (later (some (λ (δ : GName). ‵ ((MutSlice (named 0) (ν₀ ∷ []) u8).own_val (again x₀ δ x₀.now) (s x₀ ∷ [])) ⊛ ‵ (LentAgain u8 κ₁ (ν₀ ∷ []) q₁ x₀.ghost_name x₀.ref_ptr.0 x₀.ref_ptr.1 δ x₀.now)))) (lends_again u8 κ₁ (ν₀ ∷ []) q₁ x₀.ghost_name x₀.ref_ptr.0 x₀.ref_ptr.1 𝓛 (named 1) (named 0) x₀.now) $ await ! tt $ pick ! (λ δ₀. split ! $
         lft_new ! tt (λ ν₁. move ! (5 ∷ 4 ∷ []) $ use2 𝓛 (later (some (λ (δ : GName). ‵ ((MutSlice (named 1) (ν₁ ∷ []) u32).own_val (again x₁ δ x₁.now) (s x₁ ∷ [])) ⊛ ‵ (LentAgain u32 κ₂ (ν₁ ∷ []) q₂ x₁.ghost_name x₁.ref_ptr.0 x₁.ref_ptr.1 δ x₁.now)))) (lends_again u32 κ₂ (ν₁ ∷ []) q₂ x₁.ghost_name x₁.ref_ptr.0 x₁.ref_ptr.1 𝓛 (named 2) (named 1) x₁.now) $ await ! tt $ pick ! (λ δ₁. split ! $
-        nothing ! $ move ! (1 ∷ 0 ∷ []) $ fjoin ! $ move ! (3 ∷ 0 ∷ []) $ fjoin ! $ owned ! u32 (Is u32) (uint_Makes 𝓛 w32) p₀ _ p₀-is $ fjoin ! $ owned ! LentCore·.the_row (Is LentCore·.the_row) (LL.makes LentCore·.the_type LentCore·'.the_plain 𝓛) h _ g $ fjoin ! $ nothing ! $ move ! (3 ∷ 0 ∷ []) $ join ! $ move ! (4 ∷ 0 ∷ []) $ join ! $ use2 𝓛 (raw ((Attempt 𝓛 at_mem run).pre (to-attempt ν₀ ν₁ δ₀ δ₁))) (goes-attempt ν₀ ν₁ δ₀ δ₁) $
+        nothing ! $ move ! (1 ∷ 0 ∷ []) $ fjoin ! $ move ! (3 ∷ 0 ∷ []) $ fjoin ! $ owned ! u32 (Is u32) (uint_makes 𝓛 w32) p₀ _ p₀-is $ fjoin ! $ owned ! LentCore·.the_row (Is LentCore·.the_row) (LL.makes LentCore·.the_type LentCore·'.the_plain 𝓛) h _ g $ fjoin ! $ nothing ! $ move ! (3 ∷ 0 ∷ []) $ join ! $ move ! (4 ∷ 0 ∷ []) $ join ! $ use2 𝓛 (raw ((Attempt 𝓛 at_mem run).pre (to-attempt ν₀ ν₁ δ₀ δ₁))) (goes-attempt ν₀ ν₁ δ₀ δ₁) $
         calls_at ! fm (Attempt 𝓛 at_mem run) known-attempt (to-attempt ν₀ ν₁ δ₀ δ₁) (and_then ! (load ! (from ! (stop !)) (look ! 39 refl)) (and_then ! (load ! (from ! (stop !)) (look ! 45 refl)) (and_then ! (load ! (from ! (stop !)) (look ! 25 refl)) (and_then ! (load ! (from ! (stop !)) (look ! 21 refl)) (no_more !))))) (λ w.
         use1 𝓛 (later (some (λ (r : Attempted). ((‵ (flft (ν₀ ∷ []) full_share) ⊛ ‵ (flft (ν₁ ∷ []) full_share) ⊛ ‵ ftrue) ⊛ ‵ ((Attempted·.the_row).own_val r (w ∷ []))) ⊛ raw (ensured 𝓛 attempt.ended (attempt.clauses 𝓛 at_mem run) (ν₀ ∷ [], (ν₁ ∷ [], tt)) (to δ₀ δ₁) tt r)))) (id⊢ 𝓤 _) $ await ! tt $ pick ! (λ r.
         split ! $ move ! (1 ∷ []) $ use1 𝓛 (some (λ (zs : Unit {0} × (Unit {0} × (List ℕ × (List ℕ × Unit {0})))). ‵ (lasts attempt.ended (ν₀ ∷ [], (ν₁ ∷ [], tt)) (to δ₀ δ₁) zs) ⊛ raw (fact 𝓤 (Went r zs.1.1.0 zs.1.1.1.0)))) (id⊢ 𝓤 _) $ pick ! (λ zs.
@@ -322,7 +322,7 @@ module _ {M : Type 1} {𝓤 : Ura M} (𝓛 : Logic 𝓤) (at_mem : Memory → SP
     walk_code : Room u8 (length x₀.now) → Room u32 (length x₁.now) → ent 𝓤 (on_entry 𝓛 f.signature (κ₀, (κ₁, (κ₂, tt))) (q₀, (q₁, (q₂, tt))) a vals) (WpFn 𝓤 H C Λ code.function (vptr b o ∷ vint w32 p₀ ∷ s x₀ ∷ s x₁ ∷ []) Post)
     walk_code room₀ room₁ =
         qed 𝓛 ((‵ (flft κ₀ q₀) ⊛ ‵ (flft κ₁ q₁) ⊛ ‵ (flft κ₂ q₂) ⊛ ‵ ftrue) ∷ ‵ (owns (MutRef (named 0) κ₀ LentCore·.the_row ∷ u32 ∷ MutSlice (named 1) κ₁ u8 ∷ MutSlice (named 2) κ₂ u32 ∷ []) a vals) ∷ []) ∵ enter ! C Λ code.function (vptr b o ∷ vint w32 p₀ ∷ s x₀ ∷ s x₁ ∷ []) _ $
-        alloc1 ! (λ l₀. alloc1 ! (λ l₁. alloc1 ! (λ l₂. alloc1 ! (λ l₃. alloc1 ! (λ l₄. alloc1 ! (λ l₅. alloc1 ! (λ l₆. alloc1 ! (λ l₇. alloc1 ! (λ l₈. alloc1 ! (λ l₉. alloc1 ! (λ l₁₀. alloc1 ! (λ l₁₁. alloc1 ! (λ l₁₂. alloc1 ! (λ l₁₃. alloc1 ! (λ l₁₄. alloc1 ! (λ l₁₅. alloc1 ! (λ l₁₆. alloc1 ! (λ l₁₇. alloc1 ! (λ l₁₈. alloc1 ! (λ l₁₉. alloc1 ! (λ l₂₀. alloc1 ! (λ l₂₁. alloc0 ! $ params1 ! $ pass1 ! (init ! 40 refl (tt, tt)) $ pass1 ! (init ! 38 refl ((uint_Lawful 𝓛 w32).typed p₀ _ p₀-is).0) $ pass1 ! (init ! 36 refl (tt, (tt, (record { fits = room₀.0 }, tt)))) $ pass1 ! (init ! 34 refl (tt, (tt, (record { fits = room₁.0 }, tt)))) $ pass0 ! $
+        alloc1 ! (λ l₀. alloc1 ! (λ l₁. alloc1 ! (λ l₂. alloc1 ! (λ l₃. alloc1 ! (λ l₄. alloc1 ! (λ l₅. alloc1 ! (λ l₆. alloc1 ! (λ l₇. alloc1 ! (λ l₈. alloc1 ! (λ l₉. alloc1 ! (λ l₁₀. alloc1 ! (λ l₁₁. alloc1 ! (λ l₁₂. alloc1 ! (λ l₁₃. alloc1 ! (λ l₁₄. alloc1 ! (λ l₁₅. alloc1 ! (λ l₁₆. alloc1 ! (λ l₁₇. alloc1 ! (λ l₁₈. alloc1 ! (λ l₁₉. alloc1 ! (λ l₂₀. alloc1 ! (λ l₂₁. alloc0 ! $ params1 ! $ pass1 ! (init ! 40 refl (tt, tt)) $ pass1 ! (init ! 38 refl ((uint_lawful 𝓛 w32).typed p₀ _ p₀-is).0) $ pass1 ! (init ! 36 refl (tt, (tt, (record { fits = room₀.0 }, tt)))) $ pass1 ! (init ! 34 refl (tt, (tt, (record { fits = room₁.0 }, tt)))) $ pass0 ! $
         -- the record's borrow is opened, and the record copied whole
         move ! (45 ∷ []) $ fsplit ! $ fsplit3 ! $ drop ! $ move ! (47 ∷ []) $ split ! $ move ! (2 ∷ 3 ∷ 0 ∷ []) $ opens ! tt LentCore·.the_row {h = h} b o (λ vs. spelt ! LentCore·.the_row (Is LentCore·.the_row) (shows 𝓛 LentCore·.the_row) (LL.vals LentCore·.the_type LentCore·'.the_laws) (LL.tells LentCore·.the_type LentCore·'.the_laws) full_share h vs b o $ move ! (1 ∷ []) $ peeks ! LentCore·.the_row (Is LentCore·.the_row) (shows 𝓛 LentCore·.the_row) h (machine ∷ []) (λ g.
         -- [own; cell; opened; obs; auth; toks; owns; _21; dead21; _20; dead20; _19; dead19; _18; dead18; _17; dead17; _16; dead16; _15; dead15; _14; dead14; _13; dead13; _12; dead12; _11; dead11; _10; dead10; _9; dead9; _8; dead8; _7; dead7; _6; dead6; _5; dead5; _4; dead4; _3; dead3; _2; dead2; _1; dead1; _0; dead0]
@@ -341,13 +341,13 @@ module _ {M : Type 1} {𝓤 : Ura M} (𝓛 : Logic 𝓤) (mem : Memory → SProp
   walks C Λ fm known-attempt known-patch₀ known-patch₁ known =
       walked 𝓛 f.ended stayed (f.clauses 𝓛 mem run) (WpFn 𝓤 H C Λ code.function)
       (λ κs. (mut_vals, (uint_vals w32, (mut_slice_vals, (mut_slice_vals, tt)))))
-      (λ κs. (mut_Tells (named 0) κs.0 LentCore·.the_row, (uint_Tells w32, (mut_slice_Tells (named 1) κs.1.0 u8, (mut_slice_Tells (named 2) κs.1.1.0 u32, tt)))))
+      (λ κs. (mut_tells (named 0) κs.0 LentCore·.the_row, (uint_tells w32, (mut_slice_tells (named 1) κs.1.0 u8, (mut_slice_tells (named 2) κs.1.1.0 u32, tt)))))
       (λ κs qs bounds a g are. via 𝓤 _ (fst∗ 𝓤 _ (emp 𝓤)) (walk_code 𝓛 mem run κs.0 κs.1.0 κs.1.1.0 qs.0 qs.1.0 qs.1.1.0 a.0.ref_ptr.0 a.0.ref_ptr.1 a.0.ghost_name a.0.now a.1.0 a.1.1.0 a.1.1.1.0 are.1.0 C Λ fm known-attempt known-patch₀ known-patch₁ known are.1.1.0.0.1 are.1.1.1.0.0.1))
 
 meets : {M : Type 1} {𝓤 : Ura M} (𝓛 : Logic 𝓤) → (mem : Memory → SProp 𝓤) (run : Routine → Fun 𝓤) (𝓣 : Tables 𝓤 𝓛.H) → Triple 𝓤 (𝓣.C #attempt) (Attempt 𝓛 mem run) → Triple 𝓤 (𝓣.C #patch₀) (Patch₀ 𝓛 mem run) → Triple 𝓤 (𝓣.C #patch₁) (Patch₁ 𝓛 mem run) → Triple 𝓤 (𝓣.C #core) (Core 𝓛 mem run)
     → Meets 𝓛 f.signature (WpFn 𝓤 𝓛.H 𝓣.C 𝓣.Λ code.function) (f.spec 𝓛 mem run)
 meets {𝓤 = 𝓤} 𝓛 mem run 𝓣 known-attempt known-patch₀ known-patch₁ known =
-    walk_Meets 𝓛 f.ended stayed
+    walk_meets 𝓛 f.ended stayed
     (Goes-ref 𝓛 3 0 tt (plain (λ _. LentCore·.the_row)), (Goes-none 𝓛 3 (λ _. u32) yes (λ κs x f. refl), (Goes-slice 𝓛 3 1 tt (plain (λ _. u8)), (Goes-slice 𝓛 3 2 tt (plain (λ _. u32)), tt))))
     (f.clauses 𝓛 mem run) (WpFn 𝓤 𝓛.H 𝓣.C 𝓣.Λ code.function) (WpFn-mono 𝓤 𝓛.H 𝓛.laws 𝓣 code.function) (walks 𝓛 mem run 𝓣.C 𝓣.Λ (fm_of 𝓤 𝓛.H 𝓛.laws 𝓣) known-attempt known-patch₀ known-patch₁ known)
 

@@ -23,10 +23,10 @@ use sound.WpLaws.{FmC, fm_of, WpFn-mono}
 use denote.RattleType.{owns}
 use denote.Memory.{mem, part_at}
 use denote.Laws.{Is, shows}
-use denote.Plain.{uint_vals, uint_Tells, uint_Lawful, uint_Makes}
+use denote.Plain.{uint_vals, uint_tells, uint_lawful, uint_makes}
 use denote.Builtin.{u8, u32}
-use denote.Ref.{Bor, MutBor, ShrRef, shr_vals, shr_Tells}
-use denote.Slice.{slice_val, MutSlice, ShrSlice, Room, finally, shr_slice_vals, mut_slice_Tells, shr_slice_Tells, shr_slice_Lawful, shr_slice_copy}
+use denote.Ref.{Bor, MutBor, ShrRef, shr_vals, shr_tells}
+use denote.Slice.{slice_val, MutSlice, ShrSlice, Room, finally, shr_slice_vals, mut_slice_tells, shr_slice_tells, shr_slice_lawful, shr_slice_copy}
 use denote.Steps.{looks, shuts, owned, peeks, heard, nothing}
 use denote.Struct.Steps.{spelt}
 use denote.Struct.Laws as LL
@@ -36,7 +36,7 @@ use denote.Triple.Statement.{Contract, Triple}
 use denote.Triple.Call.{calls_at}
 use denote.Triple.Clauses.{ensured, lasts}
 use denote.Triple.Table.{entered, cited}
-use denote.Triple.Walked.{says, Stays, stay_none, stay_none_ref, stay_none_slice, gave_slice, walk_of, Goes-none, Goes-none_ref, Goes-none_slice, Goes-gave_slice, Walks, ends_at, walked, walk_Meets}
+use denote.Triple.Walked.{says, Stays, stay_none, stay_none_ref, stay_none_slice, gave_slice, walk_of, Goes-none, Goes-none_ref, Goes-none_slice, Goes-gave_slice, Walks, ends_at, walked, walk_meets}
 use denote.Exit.{yes}
 use denote.Signature.{plain}
 use Rattle.attempts.specs.Lent.{lent_walk}
@@ -115,13 +115,13 @@ module _ {M : Type 1} {𝓤 : Ura M} (𝓛 : Logic 𝓤) (at_mem : Memory → SP
   exits r w z₀ e same₀ =
       qed 𝓛 (‵ (flft κ₀ q₀) ∷ (‵ (flft κ₁ q₁) ⊛ ‵ (flft κ₂ q₂) ⊛ ‵ ftrue) ∷ ‵ (fres γ ((LentCore·.the_row).coded.code h)) ∷ ‵ (fshr_bor κ₀ (λ s'. part_at LentCore·.the_row s' h b o)) ∷ ‵ ((ShrSlice (named 1) κ₁ u8).own_val t₀ (s t₀ ∷ [])) ∷ ‵ (finally u32 x₀.name z₀) ∷ ‵ ((Walked·.the_row).own_val r (w ∷ [])) ∷ []) ∵
       suffices ! _ (ends_at 𝓛 f.ended stayed (f.clauses 𝓛 at_mem run) (((κ₀, (κ₁, (κ₂, tt))), (q₀, (q₁, (q₂, tt))), tt, a, vals), tt) w (r) (tt, (tt, (tt, (z₀, tt)))) (tt, (tt, (tt, (same₀, tt))))) $ says ! e $
-      join ! $ frame ! $ nothing ! $ move ! (4 ∷ 0 ∷ []) $ fjoin ! $ move ! (3 ∷ 0 ∷ []) $ fjoin ! $ owned ! u32 (Is u32) (uint_Makes 𝓛 w32) p₀ _ p₀-is $ fjoin ! $ move ! (1 ∷ 2 ∷ []) $ feq_i ! (List Val) (vptr b o ∷ []) (vptr b o ∷ []) refl $ fjoin3 ! $ fjoin ! $ frame ! $ done !
+      join ! $ frame ! $ nothing ! $ move ! (4 ∷ 0 ∷ []) $ fjoin ! $ move ! (3 ∷ 0 ∷ []) $ fjoin ! $ owned ! u32 (Is u32) (uint_makes 𝓛 w32) p₀ _ p₀-is $ fjoin ! $ move ! (1 ∷ 2 ∷ []) $ feq_i ! (List Val) (vptr b o ∷ []) (vptr b o ∷ []) refl $ fjoin3 ! $ fjoin ! $ frame ! $ done !
 
   module _ (C : Calls 𝓤 H) (Λ : Loops 𝓤 H) (fm : FmC 𝓤 H 𝓛.laws C) (known : Triple 𝓤 (C #core) (Core 𝓛 at_mem run)) where
     walk_code : Is (ShrSlice (named 1) κ₁ u8) t₀ (s t₀ ∷ []) → Room u32 (length x₀.now) → ent 𝓤 (on_entry 𝓛 f.signature (κ₀, (κ₁, (κ₂, tt))) (q₀, (q₁, (q₂, tt))) a vals) (WpFn 𝓤 H C Λ code.function (vptr b o ∷ vint w32 p₀ ∷ s t₀ ∷ s x₀ ∷ []) Post)
     walk_code t₀-is room₀ =
         qed 𝓛 ((‵ (flft κ₀ q₀) ⊛ ‵ (flft κ₁ q₁) ⊛ ‵ (flft κ₂ q₂) ⊛ ‵ ftrue) ∷ ‵ (owns (ShrRef (named 0) κ₀ LentCore·.the_row ∷ u32 ∷ ShrSlice (named 1) κ₁ u8 ∷ MutSlice (named 2) κ₂ u32 ∷ []) a vals) ∷ []) ∵ enter ! C Λ code.function (vptr b o ∷ vint w32 p₀ ∷ s t₀ ∷ s x₀ ∷ []) _ $
-        alloc1 ! (λ l₀. alloc1 ! (λ l₁. alloc1 ! (λ l₂. alloc1 ! (λ l₃. alloc1 ! (λ l₄. alloc1 ! (λ l₅. alloc1 ! (λ l₆. alloc1 ! (λ l₇. alloc0 ! $ params1 ! $ pass1 ! (init ! 12 refl (tt, tt)) $ pass1 ! (init ! 10 refl ((uint_Lawful 𝓛 w32).typed p₀ _ p₀-is).0) $ pass1 ! (init ! 8 refl ((shr_slice_Lawful 𝓛 (named 1) κ₁ u8).typed t₀ _ t₀-is).0) $ pass1 ! (init ! 6 refl (tt, (tt, (record { fits = room₀.0 }, tt)))) $ pass0 ! $
+        alloc1 ! (λ l₀. alloc1 ! (λ l₁. alloc1 ! (λ l₂. alloc1 ! (λ l₃. alloc1 ! (λ l₄. alloc1 ! (λ l₅. alloc1 ! (λ l₆. alloc1 ! (λ l₇. alloc0 ! $ params1 ! $ pass1 ! (init ! 12 refl (tt, tt)) $ pass1 ! (init ! 10 refl ((uint_lawful 𝓛 w32).typed p₀ _ p₀-is).0) $ pass1 ! (init ! 8 refl ((shr_slice_lawful 𝓛 (named 1) κ₁ u8).typed t₀ _ t₀-is).0) $ pass1 ! (init ! 6 refl (tt, (tt, (record { fits = room₀.0 }, tt)))) $ pass0 ! $
         -- the record's borrow is looked into, and the record copied whole
         move ! (17 ∷ []) $ fsplit ! $ fsplit3 ! $ drop ! $ move ! (19 ∷ []) $ split ! $ move ! (3 ∷ 0 ∷ []) $ looks ! tt LentCore·.the_row (Is LentCore·.the_row) (shows 𝓛 LentCore·.the_row) (LL.vals LentCore·.the_type LentCore·'.the_laws) (LL.tells LentCore·.the_type LentCore·'.the_laws) (LL.copy LentCore·.the_type LentCore·'.the_copy 𝓛) h b o (λ q' vs. spelt ! LentCore·.the_row (Is LentCore·.the_row) (shows 𝓛 LentCore·.the_row) (LL.vals LentCore·.the_type LentCore·'.the_laws) (LL.tells LentCore·.the_type LentCore·'.the_laws) q' h vs b o $ move ! (1 ∷ []) $ peeks ! LentCore·.the_row (Is LentCore·.the_row) (shows 𝓛 LentCore·.the_row) h (machine ∷ []) (λ g.
         -- [own; cell; opened; bor; toks; obs; owns; _7; dead7; _6; dead6; _5; dead5; _4; dead4; _3; dead3; _2; dead2; _1; dead1; _0; dead0]
@@ -145,13 +145,13 @@ module _ {M : Type 1} {𝓤 : Ura M} (𝓛 : Logic 𝓤) (mem : Memory → SProp
   walks C Λ fm known =
       walked 𝓛 f.ended stayed (f.clauses 𝓛 mem run) (WpFn 𝓤 H C Λ code.function)
       (λ κs. (shr_vals, (uint_vals w32, (shr_slice_vals, (shr_slice_vals, tt)))))
-      (λ κs. (shr_Tells (named 0) κs.0 LentCore·.the_row, (uint_Tells w32, (shr_slice_Tells (named 1) κs.1.0 u8, (mut_slice_Tells (named 2) κs.1.1.0 u32, tt)))))
+      (λ κs. (shr_tells (named 0) κs.0 LentCore·.the_row, (uint_tells w32, (shr_slice_tells (named 1) κs.1.0 u8, (mut_slice_tells (named 2) κs.1.1.0 u32, tt)))))
       (λ κs qs bounds a g are. via 𝓤 _ (fst∗ 𝓤 _ (emp 𝓤)) (walk_code 𝓛 mem run κs.0 κs.1.0 κs.1.1.0 qs.0 qs.1.0 qs.1.1.0 a.0.ref_ptr.0 a.0.ref_ptr.1 a.0.ghost_name a.0.now a.1.0 a.1.1.0 a.1.1.1.0 are.1.0 C Λ fm known are.1.1.0 are.1.1.1.0.0.1))
 
 meets : {M : Type 1} {𝓤 : Ura M} (𝓛 : Logic 𝓤) → (mem : Memory → SProp 𝓤) (run : Routine → Fun 𝓤) (𝓣 : Tables 𝓤 𝓛.H) → Triple 𝓤 (𝓣.C #core) (Core 𝓛 mem run)
     → Meets 𝓛 f.signature (WpFn 𝓤 𝓛.H 𝓣.C 𝓣.Λ code.function) (f.spec 𝓛 mem run)
 meets {𝓤 = 𝓤} 𝓛 mem run 𝓣 known =
-    walk_Meets 𝓛 f.ended stayed
+    walk_meets 𝓛 f.ended stayed
     (Goes-none_ref 𝓛 3 (0 ∷ []) tt (plain (λ _. LentCore·.the_row)) yes, (Goes-none 𝓛 3 (λ _. u32) yes (λ κs x f. refl), (Goes-none_slice 𝓛 3 (1 ∷ []) tt (plain (λ _. u8)) yes, (Goes-gave_slice 𝓛 3 2 tt (plain (λ _. u32)), tt))))
     (f.clauses 𝓛 mem run) (WpFn 𝓤 𝓛.H 𝓣.C 𝓣.Λ code.function) (WpFn-mono 𝓤 𝓛.H 𝓛.laws 𝓣 code.function) (walks 𝓛 mem run 𝓣.C 𝓣.Λ (fm_of 𝓤 𝓛.H 𝓛.laws 𝓣) known)
 

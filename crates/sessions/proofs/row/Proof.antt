@@ -49,7 +49,7 @@ same_length : tie.Need-same-length
 same_length c = search rules
 
 returns : tie.Need-returns
-returns c = (c.before.before.row_Line.ensures.0, laid_room _ _ _ _ c.before.before.before.before.before.before.before.before.before.before.requires.1 c.before.before.row_Line.ensures.1)
+returns c = (c.before.before.row_line.ensures.0, laid_room _ _ _ _ c.before.before.before.before.before.before.before.before.before.before.requires.1 c.before.before.row_line.ensures.1)
 
 pub row-spec : {M : Type 1} → statement M
 row-spec =

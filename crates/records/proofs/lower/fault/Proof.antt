@@ -5,7 +5,7 @@ use Rattle.records.proofs.lower.fault.Statement.{statement}
 use Rattle.records.proofs.lower.fault.Tie as tie
 use Rattle.records.proofs.lower.fault.Reads as reads
 use Rattle.records.proofs.lower.fault.Lts as lts
-use Rattle.records.proofs.lower.code.Reads as code_Reads
+use Rattle.records.proofs.lower.code.Reads as code_reads
 use Rattle.records.proofs.lower.vector.Reads as vector-reads
 
 vector-requires : tie.Need-vector-requires

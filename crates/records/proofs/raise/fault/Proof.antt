@@ -5,7 +5,7 @@ use Rattle.records.proofs.raise.fault.Statement.{statement}
 use Rattle.records.proofs.raise.fault.Tie as tie
 use Rattle.records.proofs.raise.fault.Reads as reads
 use Rattle.records.proofs.raise.fault.Lts as lts
-use Rattle.records.proofs.raise.code.Reads as code_Reads
+use Rattle.records.proofs.raise.code.Reads as code_reads
 use Rattle.records.proofs.raise.vector.Reads as vector-reads
 
 vector-requires : tie.Need-vector-requires
