@@ -1,0 +1,6 @@
+use Rattle.answers.proofs.Ways.{replaced_made}
+use borrow.Author.Rules.{rules}
+use Rattle.answers.proofs.replaced.Goals as goal
+
+pub returns : goal.returns
+returns c = replaced_made _ _ c.with_cpu-d.ensures c.done.ensures
