@@ -1,0 +1,16 @@
+use mathlib.Core.Path.{◌≡◌, refl, sym, ◌∙◌}
+use native.Mathlib.Omega.{arith}
+use lib.ListN.{length-set}
+use borrow.Author.Tests.{lt-ltb, le-ltb, le-leb, lt-leb, eq-eqb, ne_eqb}
+use Rattle.fast_plans.proofs.Ways.{vector_small, interrupt_plan_way}
+use borrow.Author.Rules.{rules}
+use Rattle.fast_plans.proofs.plans.interrupt_plan.Goals as goal
+
+pub overflow_mul-result : goal.overflow_mul-result
+overflow_mul-result c = record { fits = omega (arith, vector_small _ _ c.iack_vector-v.ensures) }
+
+pub overflow_mul-v : goal.overflow_mul-v
+overflow_mul-v c = record { fits = omega (arith, vector_small _ _ c.iack_vector-v.ensures) }
+
+pub returns : goal.returns
+returns c = interrupt_plan_way _ c.response_to-response.ensures c.iack_vector-v.ensures c.compose-sr.ensures c.choose8.ensures c.choose8-2.ensures c.choose.ensures c.choose-2.ensures c.choose-3.ensures c.choose-4.ensures c.choose-5.ensures

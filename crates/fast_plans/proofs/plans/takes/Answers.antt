@@ -1,0 +1,6 @@
+use Rattle.fast_plans.proofs.Ways.{takes_way}
+use borrow.Author.Rules.{rules}
+use Rattle.fast_plans.proofs.plans.takes.Goals as goal
+
+pub returns : goal.returns
+returns c = takes_way _ c.choose.ensures

@@ -1,0 +1,8 @@
+use mathlib.Core.Path.{◌≡◌, refl, sym, ◌∙◌}
+use Rattle.fast_plans.specs.Quiet.{calm_patch}
+use borrow.Author.Rules.{rules}
+use Rattle.fast_plans.proofs.quiet.calm.Goals as goal
+
+pub returns : goal.returns
+unfolding calm_patch
+returns c = c.quiet_patch.ensures
