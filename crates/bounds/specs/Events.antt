@@ -8,7 +8,7 @@ use Rattle.types.specs.Kinds.{pick, either, is_pre68020, is_prefetch_kind, is040
 use Rattle.cpu.specs.Fields.{kind_of, address_of, is_faulted, in_exception, cause_number_of, halted}
 use Rattle.status.specs.Banks.{enter_supervisor}
 use Rattle.cpu.specs.Clocks.{prefetch_enabled}
-use Rattle.memory.specs.LogLaws.{replay, spell}
+use Rattle.memory.proofs.LogLaws.{replay, spell}
 use Rattle.memory.specs.World.{World, cpu_of, step}
 use Rattle.frames.specs.declared.Field.{Field}
 use Rattle.frames.specs.declared.Frame.{Frame}

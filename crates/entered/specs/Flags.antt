@@ -3,7 +3,7 @@ use Rattle.std.specs.Prelude.{ℕ, zero, suc, ◌*◌, ◌/◌, ◌%◌, ◌<◌
 use Rattle.std.proofs.Common.{ap, ◌∙◌, inl, inr, arith, eqb-true}
 use Rattle.std.specs.Int.Bits.{bit_and}
 use Rattle.types.specs.Kinds.{has_m, has_t0, status_mask, mask_status}
-use Rattle.types.specs.Laws.{masked_status_bits}
+use Rattle.types.proofs.Laws.{masked_status_bits}
 use Rattle.types.specs.Every.{at}
 use Rattle.cpu.specs.declared.Cpu.{Cpu}
 use Rattle.status.specs.Status.{get_sr, s_of, m_of}

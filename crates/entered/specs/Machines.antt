@@ -10,7 +10,7 @@ use Rattle.types.specs.Kinds.{pick, either, both, is_prefetch_kind}
 use Rattle.cpu.specs.declared.Cpu.{Cpu}
 use Rattle.cpu.specs.Fields.{kind_of, in_exception, halted, rewind_pc}
 use Rattle.memory.specs.declared.Bus.{Bus}
-use Rattle.memory.specs.ByteLaws.{AllBytes}
+use Rattle.memory.proofs.ByteLaws.{AllBytes}
 use Rattle.memory.specs.World.{World, world, tried, put_cpu, cpu_of, step}
 use Rattle.types.specs.Tables.{exception_cycles}
 use Rattle.pending.specs.Interrupts.{pending_level, mask_level, takes_interrupt}

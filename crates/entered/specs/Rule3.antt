@@ -5,7 +5,7 @@ use Rattle.std.proofs.Math.Option.{Option, none, some}
 use Rattle.types.specs.Kinds.{pick}
 use Rattle.cpu.specs.declared.Cpu.{Cpu}
 use Rattle.memory.specs.declared.Bus.{Bus}
-use Rattle.memory.specs.ByteLaws.{AllBytes}
+use Rattle.memory.proofs.ByteLaws.{AllBytes}
 use Rattle.memory.specs.World.{World, cpu_of}
 use Rattle.refusals.specs.Refusals.{bad_store, bad_windows}
 use Rattle.images.specs.Pushes.{calm}

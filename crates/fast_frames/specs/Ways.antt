@@ -12,7 +12,7 @@ use Rattle.status.specs.Banks.{enter_supervisor}
 use Rattle.memory.specs.declared.Bus.{Bus}
 use Rattle.memory.specs.declared.Core.{Core}
 use Rattle.memory.specs.World.{World, world}
-use Rattle.memory.specs.LogLaws.{Event}
+use Rattle.memory.proofs.LogLaws.{Event}
 use Rattle.frames.specs.declared.Frame.{Frame}
 use Rattle.frames.specs.Frames.{field_at}
 use Rattle.access.specs.Access.{raised, push_frame, jump_vector}

@@ -5,7 +5,7 @@ use Rattle.std.proofs.Common.{ap, ◌∙◌, lit<}
 use native.Mathlib.Omega.{arith}
 use borrow.Author.Tests.{ltb-false, leb-true, eqb-true, le-ltb, le-leb}
 use Rattle.types.specs.Kinds.{pick, both, mask_address, is_pre68020}
-use Rattle.types.specs.Laws.{pick_holds}
+use Rattle.types.proofs.Laws.{pick_holds}
 use Rattle.memory.specs.declared.Bus.{Bus}
 use Rattle.memory.specs.Served.{served_of, in_store, windows_in_use, clear_of, place_of}
 use Rattle.unwind.specs.Frames.{sight, byte_address, byte_of, all_served, word_of, long_of, head_of, taken_frame, sized_frame, format_frame, odd_pointer, frame_of}

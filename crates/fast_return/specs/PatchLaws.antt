@@ -4,7 +4,7 @@ use Rattle.std.proofs.Math.Path.{refl}
 use Rattle.std.proofs.Common.{sym, ap, ◌∙◌, arith}
 use borrow.Author.Tests.{eqb-true, ltb-true, leb-true, le-ltb}
 use Rattle.types.specs.Kinds.{pick, either, both, is_pre68020}
-use Rattle.types.specs.Laws.{pick_holds}
+use Rattle.types.proofs.Laws.{pick_holds}
 use Rattle.cpu.specs.declared.Cpu.{Cpu}
 use Rattle.cpu.specs.Fields.{kind_of, vbr_of, a7_of, checks_alignment, has_fc_override, fc_override_of}
 use Rattle.memory.specs.declared.Bus.{Bus}

@@ -19,8 +19,8 @@ use Rattle.memory.specs.declared.Bus.{Bus}
 use Rattle.memory.specs.Served.{served_of, place_of}
 use Rattle.memory.specs.World.{World, world, put_cpu, width_of, served, fetched, read_value, cpu_of, with_cpu}
 use Rattle.memory.specs.Runs.{Outside, Apart}
-use Rattle.memory.specs.ByteLaws.{put, get, Fits, put_length, put_keeps, read_back, read_other}
-use Rattle.memory.specs.AccessLaws.{kept}
+use Rattle.memory.proofs.ByteLaws.{put, get, Fits, put_length, put_keeps, read_back, read_other}
+use Rattle.memory.proofs.AccessLaws.{kept}
 use Rattle.memory.specs.ServedLaws.{Clear, start, size, served_means, served_if}
 use Rattle.frames.specs.declared.Field.{Field}
 use Rattle.frames.specs.declared.Frame.{Frame}

@@ -12,8 +12,8 @@ use Rattle.memory.specs.declared.Bus.{Bus}
 use Rattle.memory.specs.Log.{counted}
 use Rattle.memory.specs.Served.{meets, clear_of, windows_in_use, in_store, served_of, place_of}
 use Rattle.memory.specs.World.{World, world, noted, stored, with_cpu, put_cpu, width_of, served, written, flush, raw_write, try_write, cpu_of}
-use Rattle.memory.specs.ByteLaws.{put}
-use Rattle.memory.specs.AccessLaws.{kept, write_store}
+use Rattle.memory.proofs.ByteLaws.{put}
+use Rattle.memory.proofs.AccessLaws.{kept, write_store}
 use Rattle.frames.specs.declared.Field.{Field}
 use Rattle.frames.specs.Frames.{is_counted, is_raw}
 use Rattle.steps.specs.Steps.{refuses_odd}

@@ -6,7 +6,7 @@ use Rattle.cpu.specs.declared.Cpu.{Cpu}
 use Rattle.cpu.specs.Fields.{kind_of, ppc_of, ir_of, wdata_of, has_fc_override, fc_override_of}
 use Rattle.status.specs.Status.{get_sr, compose}
 use Rattle.status.specs.Banks.{enter_supervisor}
-use Rattle.memory.specs.ByteLaws.{Fits}
+use Rattle.memory.proofs.ByteLaws.{Fits}
 use Rattle.memory.specs.World.{World, read_value, cpu_of, step}
 use Rattle.frames.specs.declared.Field.{Field}
 use Rattle.frames.specs.declared.Frame.{Frame}

@@ -6,7 +6,7 @@ use Rattle.std.proofs.Math.Bool.{cond}
 use Rattle.std.proofs.Math.Option.{Option, none, some}
 use Rattle.std.proofs.Math.Dec.{leb}
 use Rattle.types.specs.Every.{at}
-use Rattle.types.specs.Laws.{pick_holds}
+use Rattle.types.proofs.Laws.{pick_holds}
 use Rattle.types.specs.Kinds.{pick, is_pre68020, is040, is060, mask_address}
 use Rattle.types.specs.Causes.{cause_number}
 use Rattle.types.specs.declared.FaultCause.{FaultCause}

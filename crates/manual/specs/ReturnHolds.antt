@@ -22,7 +22,7 @@ use Rattle.unwind.specs.declared.returns.Back.{Back}
 use Rattle.unwind.specs.Frames.{Sight, byte_address, byte_of, word_of, long_of, head_of, all_served, refused_frame, taken_frame, sized_frame, format_frame, odd_pointer, frame_of}
 use Rattle.unwind.specs.Returns.{in_user, take_frame, row_of, refused_back, done_back, second_back, first_back, back}
 use Rattle.unwind.specs.Unwind.{refusal, sight_of, returned, return_from}
-use Rattle.unwind.specs.Laws.{take_status}
+use Rattle.unwind.proofs.Laws.{take_status}
 use Rattle.nest.specs.View.{settle, view}
 use Rattle.entered.specs.Pointers.{regs_of, Fit}
 use Rattle.rule3.specs.Taken.{take_view, take_fit, take_kind}

@@ -10,7 +10,7 @@ use Rattle.types.specs.declared.FaultCause.{FaultCause}
 use Rattle.cpu.specs.declared.Cpu.{Cpu}
 use Rattle.cpu.specs.Fields.{kind_of, pc_of, ppc_of, ir_of, wdata_of, a7_of, vbr_of, is_faulted, in_exception, checks_alignment, cause_number_of, has_fc_override, fc_override_of, set_exception, restore_registers, clear_cause}
 use Rattle.status.specs.Status.{get_sr, s_of, m_under_s, decompose, set_sr_noint_nosp, restore_sr, keep_resume}
-use Rattle.status.specs.Laws.{drop_m, status_restored}
+use Rattle.status.proofs.Laws.{drop_m, status_restored}
 use Rattle.memory.specs.World.{World, put_cpu, cpu_of, step}
 use Rattle.frames.specs.declared.Frame.{Frame}
 use Rattle.frames.specs.Codes.{is_supervisor, state_code, fault_code}

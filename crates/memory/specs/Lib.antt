@@ -3,7 +3,4 @@ pub mod Served
 pub mod Log
 pub mod World
 pub mod Runs
-pub mod ByteLaws
 pub mod ServedLaws
-pub mod LogLaws
-pub mod AccessLaws

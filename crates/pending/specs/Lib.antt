@@ -1,3 +1,2 @@
 pub mod Trace
 pub mod Interrupts
-pub mod Laws

@@ -18,7 +18,7 @@ use Rattle.calls.specs.Calls.{run as performed}
 use Rattle.unwind.specs.Returns.{back, refused_back}
 use Rattle.unwind.specs.Unwind.{sight_of, returned, return_from}
 use Rattle.unwind.specs.Unwind.{refusal as refusal_here}
-use Rattle.unwind.specs.Laws.{return_refused}
+use Rattle.unwind.proofs.Laws.{return_refused}
 use Rattle.unwind.specs.declared.Returned.{Returned}
 use Rattle.forms.specs.Plans.{Plan}
 use Rattle.forms.specs.Forms.{plan_of}

@@ -13,7 +13,7 @@ use Rattle.types.specs.Tables.{exception_cycles}
 use Rattle.cpu.specs.Fields.{kind_of, in_exception}
 use Rattle.pending.specs.Trace.{check_trace}
 use Rattle.pending.specs.Interrupts.{set_irq, takes_interrupt}
-use Rattle.memory.specs.LogLaws.{Event, spell}
+use Rattle.memory.proofs.LogLaws.{Event, spell}
 use Rattle.memory.specs.World.{World, cpu_of}
 use Rattle.frames.specs.Frames.{word, long}
 use Rattle.exceptions.specs.Exceptions.{take_exception, trap, take_rewound, take_group2, exception_trace, take_fp_unimp060, take_fp_disabled060}

@@ -12,7 +12,7 @@ use Rattle.cpu.specs.Clocks.{set_clocks, clear_prefetch, first_word, second_word
 use Rattle.status.specs.Status.{keep_resume, clear_trace, restore_sr, set_sr_noint_nosp, set_int_mask, clear_m}
 use Rattle.status.specs.Banks.{enter_supervisor, set_sflag, restore_sp, put_s, backup_sp, set_sm_flag, set_sm_flag_nosp}
 use Rattle.pending.specs.Interrupts.{pending_level, takes_interrupt, clear_level, has_cycles}
-use Rattle.pending.specs.Laws.{cycles_charged}
+use Rattle.pending.proofs.Laws.{cycles_charged}
 use Rattle.memory.specs.World.{World, put_cpu, noted, stored, release, acknowledged, cpu_of, step}
 use Rattle.frames.specs.Frames.{bus_frame, address_frame}
 use Rattle.steps.specs.Steps.{begin_bus, begin_address, close_bus, enter_bus_error, enter_level, close_interrupt}

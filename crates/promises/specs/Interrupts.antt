@@ -12,7 +12,7 @@ use Rattle.status.specs.Status.{get_sr, set_int_mask, clear_m, clear_trace, m_is
 use Rattle.status.specs.Banks.{enter_supervisor, set_sflag, restore_sp, put_s, backup_sp, set_sm_flag, set_sm_flag_nosp}
 use Rattle.cpu.specs.Clocks.{has_clocks, set_clocks, internal_cycles}
 use Rattle.pending.specs.Interrupts.{pending_level, mask_level, takes_interrupt, clear_level, charge_interrupt, charged}
-use Rattle.pending.specs.Laws.{seven_taken, taken_above, taken_exceeds, exceeding_taken}
+use Rattle.pending.proofs.Laws.{seven_taken, taken_above, taken_exceeds, exceeding_taken}
 use Rattle.memory.specs.World.{World, Attempt, tried, put_cpu, noted, flush, response_of, acknowledged, cpu_of, with_cpu, step}
 use Rattle.access.specs.Access.{raised, write_at, jump_vector}
 use Rattle.formats.specs.Formats.{format_word, offset_word}

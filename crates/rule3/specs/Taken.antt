@@ -16,13 +16,13 @@ use Rattle.status.specs.Status.{get_sr, decompose, s_of, m_of, put_back_sr}
 use Rattle.status.specs.Banks.{sp_index, backup_sp, restore_sp}
 use Rattle.refusals.specs.Refusals.{odd_base, bad_code}
 use Rattle.memory.specs.declared.Bus.{Bus}
-use Rattle.memory.specs.ByteLaws.{AllBytes}
+use Rattle.memory.proofs.ByteLaws.{AllBytes}
 use Rattle.unwind.specs.declared.frames.Frame.{Frame}
 use Rattle.unwind.specs.declared.returns.Row.{Row}
 use Rattle.unwind.specs.declared.returns.Back.{Back}
 use Rattle.unwind.specs.Frames.{Sight, sight, byte_of, word_of, long_of, head_of, refused_frame, taken_frame, sized_frame, format_frame, odd_pointer, all_served, frame_of}
 use Rattle.unwind.specs.Returns.{in_user, raise_a7, swap_sr, take_frame, row_of, refused_back, done_back, second_back, first_back, back}
-use Rattle.unwind.specs.Laws.{take_status}
+use Rattle.unwind.proofs.Laws.{take_status}
 use Rattle.nest.specs.View.{Regs, Bytes, peek, wrap, under, s_bit, m_bit, nonzero, View, view, top, opt, Taken, settle, frame, last, second}
 use Rattle.nest.specs.View.{Row as NestRow, Back as NestBack, back as nest_back}
 use Rattle.nest.specs.Reading.{view_kind, view_a7, view_s}

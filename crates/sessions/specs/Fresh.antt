@@ -15,10 +15,10 @@ use Rattle.status.specs.Status.{get_sr, keep_resume, clear_m, m_is_set}
 use Rattle.status.specs.Banks.{enter_supervisor, set_sm_flag}
 use Rattle.memory.specs.declared.Bus.{Bus}
 use Rattle.memory.specs.Bytes.{put_long}
-use Rattle.memory.specs.ByteLaws.{put_length}
+use Rattle.memory.proofs.ByteLaws.{put_length}
 use Rattle.memory.specs.Served.{served_of, place_of}
-use Rattle.memory.specs.LogLaws.{note_length}
-use Rattle.memory.specs.AccessLaws.{write_length}
+use Rattle.memory.proofs.LogLaws.{note_length}
+use Rattle.memory.proofs.AccessLaws.{write_length}
 use Rattle.memory.specs.World.{World, world, Attempt, reply, with_cpu, cpu_of, step, width_of, noted, stored, served, written, fetched, read_value, flush, release, raw_write, raw_read, try_write, try_read, response_of, acknowledged, poke_long}
 use Rattle.pending.specs.Interrupts.{pending_level, takes_interrupt, clear_level}
 use Rattle.frames.specs.declared.Field.{Field}

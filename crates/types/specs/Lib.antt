@@ -4,4 +4,3 @@ pub mod Causes
 pub mod Tables
 pub mod Past
 pub mod Every
-pub mod Laws

@@ -11,9 +11,9 @@ use Rattle.memory.specs.Log.{note_log, counted, with_events}
 use Rattle.memory.specs.Bytes.{put_word, put_long, get_word}
 use Rattle.memory.specs.Served.{served_of, in_store, clear_of, windows_in_use, place_of}
 use Rattle.memory.specs.World.{World, reply, noted, stored, put_cpu, width_of, served, written, fetched, read_value, raw_read, try_read, flush, raw_write, try_write}
-use Rattle.memory.specs.ByteLaws.{put, get}
-use Rattle.memory.specs.LogLaws.{flush_none}
-use Rattle.memory.specs.AccessLaws.{write_code, read_code, kept}
+use Rattle.memory.proofs.ByteLaws.{put, get}
+use Rattle.memory.proofs.LogLaws.{flush_none}
+use Rattle.memory.proofs.AccessLaws.{write_code, read_code, kept}
 use Rattle.steps.specs.Steps.{refuses_odd}
 use Rattle.access.specs.Access.{Raise, read_or, checked_read, read_at, prefetch_read, wrote, checked_write, write_at}
 use Rattle.unfaulted.specs.Closed.{closed, event, told, clock_events, Room}

@@ -7,9 +7,9 @@ use Rattle.types.specs.Kinds.{pick}
 use Rattle.memory.specs.Log.{note_log}
 use Rattle.memory.specs.World.{width_of}
 use Rattle.memory.specs.Runs.{Apart}
-use Rattle.memory.specs.ByteLaws.{put, get, put_length, read_other}
-use Rattle.memory.specs.LogLaws.{Event}
-use Rattle.memory.specs.AccessLaws.{kept}
+use Rattle.memory.proofs.ByteLaws.{put, get, put_length, read_other}
+use Rattle.memory.proofs.LogLaws.{Event}
+use Rattle.memory.proofs.AccessLaws.{kept}
 use Rattle.unfaulted.specs.Closed.{event, told, Piece, laid, writes_of, clock_events, Within}
 
 -- ---- events

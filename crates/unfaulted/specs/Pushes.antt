@@ -9,9 +9,9 @@ use Rattle.cpu.specs.Clocks.{has_clocks, clocks_of, set_clocks}
 use Rattle.memory.specs.declared.Bus.{Bus}
 use Rattle.memory.specs.Log.{note_log}
 use Rattle.memory.specs.World.{World, put_cpu, width_of}
-use Rattle.memory.specs.ByteLaws.{put, put_length}
-use Rattle.memory.specs.LogLaws.{Event}
-use Rattle.memory.specs.AccessLaws.{write_code, kept}
+use Rattle.memory.proofs.ByteLaws.{put, put_length}
+use Rattle.memory.proofs.LogLaws.{Event}
+use Rattle.memory.proofs.AccessLaws.{write_code, kept}
 use Rattle.frames.specs.declared.Field.{Field}
 use Rattle.frames.specs.declared.Frame.{Frame}
 use Rattle.frames.specs.Frames.{field_at, is_counted, is_raw}

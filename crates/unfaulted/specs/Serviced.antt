@@ -12,7 +12,7 @@ use Rattle.pending.specs.Interrupts.{pending_level, takes_interrupt, clear_level
 use Rattle.memory.specs.declared.Bus.{Bus}
 use Rattle.memory.specs.Log.{note_log, counted}
 use Rattle.memory.specs.World.{World, Attempt, reply, tried, noted, put_cpu, flush, response_of, acknowledged}
-use Rattle.memory.specs.LogLaws.{Event}
+use Rattle.memory.proofs.LogLaws.{Event}
 use Rattle.steps.specs.Steps.{iack_vector, enter_level, close_interrupt}
 use Rattle.access.specs.Access.{raised, write_at, push_frame, jump_vector}
 use Rattle.formats.specs.Formats.{offset_word, short_frame}

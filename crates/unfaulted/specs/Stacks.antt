@@ -8,7 +8,7 @@ use Rattle.cpu.specs.Clocks.{clocks_of, set_clocks, prefetch_enabled}
 use Rattle.memory.specs.declared.Bus.{Bus}
 use Rattle.memory.specs.Runs.{Apart}
 use Rattle.memory.specs.World.{World, put_cpu}
-use Rattle.memory.specs.LogLaws.{Event}
+use Rattle.memory.proofs.LogLaws.{Event}
 use Rattle.frames.specs.declared.Frame.{Frame}
 use Rattle.frames.specs.Frames.{field_at}
 use Rattle.access.specs.Access.{Raise, push_fields, push_frame, short_writes, push_exception_frame68000, jump_vector}

@@ -15,7 +15,7 @@ use Rattle.memory.specs.declared.Bus.{Bus}
 use Rattle.memory.specs.World.{response_of}
 use Rattle.memory.specs.Log.{note_log}
 use Rattle.memory.specs.Bytes.{put_word, put_long}
-use Rattle.memory.specs.LogLaws.{Event}
+use Rattle.memory.proofs.LogLaws.{Event}
 use Rattle.unfaulted.specs.Closed.{event, told, Piece, laid, writes_of, clock_events, short_pieces, long_pieces, disabled_pieces, three_pieces, four_pieces, jump_events, entry_events, clocks_after, other_events, events68010, events68000}
 use Rattle.unfaulted.specs.Lists.{told_append, length_writes}
 

@@ -13,8 +13,8 @@ use Rattle.memory.specs.Log.{counted}
 use Rattle.memory.specs.Served.{meets, clear_of, windows_in_use, in_store, served_of, place_of}
 use Rattle.memory.specs.World.{World, noted, stored, width_of, served, written, fetched, raw_write, read_value, raw_read}
 use Rattle.memory.specs.Runs.{Outside, Apart}
-use Rattle.memory.specs.ByteLaws.{put, get, Fits, put_length, put_keeps, put_comm, read_back, read_other, AllBytes, put_small}
-use Rattle.memory.specs.LogLaws.{Logged, noted_one}
+use Rattle.memory.proofs.ByteLaws.{put, get, Fits, put_length, put_keeps, put_comm, read_back, read_other, AllBytes, put_small}
+use Rattle.memory.proofs.LogLaws.{Logged, noted_one}
 use Rattle.memory.specs.ServedLaws.{Clear, served_means}
 
 -- the event code of a write and of a read

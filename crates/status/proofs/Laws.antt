@@ -6,7 +6,7 @@ use mathlib.Core.List.{List}
 use Rattle.std.proofs.Math.ListN.{set}
 use Rattle.std.proofs.lemmas.List.{set-get_or}
 use Rattle.types.specs.Kinds.{pick, is060, mask_status}
-use Rattle.types.specs.Laws.{pick_holds, Parts, packed, masked_status_parts, masked_status_sum}
+use Rattle.types.proofs.Laws.{pick_holds, Parts, packed, masked_status_parts, masked_status_sum}
 use Rattle.cpu.specs.declared.Flags.{Flags}
 use Rattle.cpu.specs.declared.Cpu.{Cpu}
 use Rattle.cpu.specs.Groups.{with_regs, with_flags}

@@ -2,7 +2,7 @@
 use Rattle.std.specs.Prelude.{◌≡◌, refl, Bool, true, false, ℕ, ◌%◌, ◌<◌, eqb, ltb, ℤ, pos, ◌-ℤ◌}
 use Rattle.std.proofs.Common.{sym, ◌∙◌, arith, eq-eqb, ne_eqb, lt-ltb, le-ltb, ltb-true}
 use Rattle.types.specs.Kinds.{pick}
-use Rattle.types.specs.Laws.{pick_holds}
+use Rattle.types.proofs.Laws.{pick_holds}
 use Rattle.cpu.specs.declared.Cpu.{Cpu}
 use Rattle.cpu.specs.Fields.{kind_of}
 use Rattle.pending.specs.Interrupts.{set_irq, pending_level, mask_level, takes_interrupt, has_room, has_cycles, less_cycles, charged, charge_interrupt}
