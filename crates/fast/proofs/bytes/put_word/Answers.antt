@@ -1,0 +1,11 @@
+use Rattle.std.proofs.Common.{◌≡◌, sym, refl, ◌∙◌, arith, length-set, rules, le-ltb, lt-ltb, eq-eqb, ne_eqb, le-leb}
+use borrow.Author.Tests.{lt-leb}
+use Rattle.memory.specs.Bytes.{put_word}
+use Rattle.fast.proofs.bytes.put_word.Goals as goal
+
+pub bounds-store-at-2 : goal.bounds-store-at-2
+bounds-store-at-2 c = simp length-set (omega arith)
+
+pub returns : goal.returns
+unfolding put_word
+returns c = refl

@@ -1,0 +1,7 @@
+use Rattle.std.proofs.Common.{◌≡◌, sym, refl, ◌∙◌, arith, length-set, rules, le-ltb, lt-ltb, eq-eqb, ne_eqb, le-leb}
+use borrow.Author.Tests.{lt-leb}
+use Rattle.fast.proofs.Writes.{long_way}
+use Rattle.fast.proofs.stacks.long.Goals as goal
+
+pub returns : goal.returns
+returns c = long_way _ _ _ _ _ _ _ _ c.put_long.ensures c.event.ensures

@@ -1,0 +1,7 @@
+use Rattle.std.proofs.Common.{◌≡◌, sym, refl, ◌∙◌, arith, length-set, rules, le-ltb, lt-ltb, eq-eqb, ne_eqb, le-leb}
+use borrow.Author.Tests.{lt-leb}
+use Rattle.fast.proofs.Writes.{short_way}
+use Rattle.fast.proofs.stacks.short.Goals as goal
+
+pub returns : goal.returns
+returns c = short_way _ _ _ _ _ _ _ c.word.ensures c.long.ensures c.word-2.ensures

@@ -1,0 +1,7 @@
+use Rattle.std.proofs.Common.{◌≡◌, sym, refl, ◌∙◌, arith, length-set, rules, le-ltb, lt-ltb, eq-eqb, ne_eqb, le-leb}
+use borrow.Author.Tests.{lt-leb}
+use Rattle.fast.proofs.Writes.{three_way}
+use Rattle.fast.proofs.stacks.three.Goals as goal
+
+pub returns : goal.returns
+returns c = three_way _ _ _ _ _ _ _ c.word.ensures c.word-2.ensures c.word-3.ensures

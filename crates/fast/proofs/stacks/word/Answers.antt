@@ -1,0 +1,7 @@
+use Rattle.std.proofs.Common.{◌≡◌, sym, refl, ◌∙◌, arith, length-set, rules, le-ltb, lt-ltb, eq-eqb, ne_eqb, le-leb}
+use borrow.Author.Tests.{lt-leb}
+use Rattle.fast.proofs.Writes.{word_way}
+use Rattle.fast.proofs.stacks.word.Goals as goal
+
+pub returns : goal.returns
+returns c = word_way _ _ _ _ _ _ _ _ c.put_word.ensures c.event.ensures

@@ -1,0 +1,9 @@
+use Rattle.std.proofs.Common.{◌≡◌, sym, refl, ◌∙◌, rules, le-ltb, lt-ltb, eq-eqb, ne_eqb, le-leb}
+use borrow.Author.Tests.{lt-leb}
+use Rattle.fast_return.proofs.quick.is_either.Goals as goal
+
+pub returns-then-n-a : goal.returns-then-n-a
+returns-then-n-a c = simp (eq-eqb _ _ c.if-n-a.true)
+
+pub returns : goal.returns
+returns c = simp (ne_eqb _ _ c.if-n-a.false)

@@ -1,0 +1,14 @@
+use Rattle.std.proofs.Common.{◌≡◌, sym, refl, ◌∙◌, arith, length-set, rules, le-ltb, lt-ltb, eq-eqb, ne_eqb, le-leb}
+use borrow.Author.Tests.{lt-leb}
+use Rattle.unwind.specs.Returns.{put_row}
+use Rattle.fast_return.proofs.rows.put_row.Goals as goal
+
+pub bounds-rows-at-2 : goal.bounds-rows-at-2
+bounds-rows-at-2 c = simp length-set (omega arith)
+
+pub bounds-rows-at-3 : goal.bounds-rows-at-3
+bounds-rows-at-3 c = simp length-set (omega arith)
+
+pub returns : goal.returns
+unfolding put_row
+returns c = refl
