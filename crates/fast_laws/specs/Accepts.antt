@@ -3,7 +3,7 @@ use Rattle.std.specs.Prelude.{ℕ, ◌+◌, ◌%◌, ◌^◌, ◌≤◌, ◌≡�
 use Rattle.std.proofs.Math.Path.{refl}
 use Rattle.std.proofs.Common.{sym, inl, inr, arith}
 use Rattle.std.proofs.Math.Bool.{true, false}
-use borrow.Author.Tests.{ltb-false, eqb-true, eqb-false, not_true, not-false, le-ltb}
+use borrow.Author.Tests.{ltb-false, eqb-true, eqb-false, not-true, not-false, le-ltb}
 use Rattle.types.specs.Kinds.{pick, both, is060}
 use Rattle.cpu.specs.Fields.{kind_of, vbr_of, checks_alignment, has_fc_override}
 use Rattle.memory.specs.declared.Core.{Core}
@@ -72,7 +72,7 @@ accepted m stored logged e =
       span = ltb-false (span_of c.flow.cpu_type) (m.bus.base + stored) t7.0;
       log = ltb-false logged 192 t8.0;
       kind = ltb-false 11 c.flow.cpu_type t9.0;
-      running = not_true (eqb c.flow.run_mode 1) t9.1;
+      running = not-true (eqb c.flow.run_mode 1) t9.1;
     }
 
 -- ---- so nothing refuses the call
