@@ -211,7 +211,7 @@ parts_joined : (w : World) (l : List ℕ) (parts : List (List ℕ)) → answers 
 unfolding answers flatten taken_all more
 parts_joined w l [] = refl
 parts_joined w l (part ∷ parts) =
-    go (taken w l part) (parts_joined _ _ parts) ∙ ap (λ (u : Under). (finished u).printed) (sym (cut _ part (flatten parts)))
+    go (taken w l part) (parts_joined (taken w l part).session.after (taken w l part).line parts) ∙ ap (λ (u : Under). (finished u).printed) (sym (cut _ part (flatten parts)))
   where
     go : (u : Under) →
         answers u.session.after u.line parts ≡ (finished (taken u.session.after u.line (flatten parts))).printed →

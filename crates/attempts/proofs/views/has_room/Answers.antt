@@ -1,0 +1,10 @@
+use mathlib.Core.Path.{◌≡◌, refl, sym, ap, ◌∙◌}
+use native.Mathlib.Omega.{arith}
+use lib.ListN.{length-set}
+use borrow.Author.Tests.{lt-ltb, le-ltb, eq-eqb, ne_eqb}
+use mir.Syntax.{w32}
+use mir.Facts.{to_z-of_z}
+use Rattle.attempts.proofs.views.has_room.Goals as goal
+
+pub returns : goal.returns
+returns c = let back = to_z-of_z {w = w32} {z = c.args.f.cycles_remaining} (record { sfits = c.struct_told-1.given.1.1.1.1.1.1.1.1.1.1.1.0.1 }) in rw back at c.has_room.ensures
