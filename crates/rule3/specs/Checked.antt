@@ -241,6 +241,7 @@ agree_all b d k (f ∷ fs) = agree_b b d k f.at f.len && agree_all b d k fs
 agree_all_lem : (b d : Bytes) (k : ℕ) (fs : List Frame) → agree_all b d k fs ≡ true → (a : ℕ) → Holds k fs a → b a ≡ d a
 agree_all_lem b d k (f ∷ fs) e a (here i l q) = subst (λ (x : ℕ). b x ≡ d x) (sym q) (agree_at b d k f.at f.len (and_true (agree_b b d k f.at f.len) (agree_all b d k fs) e).0 i l)
 agree_all_lem b d k (f ∷ fs) e a (there h) = agree_all_lem b d k fs (and_true (agree_b b d k f.at f.len) (agree_all b d k fs) e).1 a h
+agree_all_lem b d k [] e a x'' = elim x'' [ ]
 
 -- ---- a step, the state after it, a list
 
