@@ -1,7 +1,7 @@
 -- Written by tools/generate.py from tools/manifest.txt: not edited by hand.
 -- A law for each way through a function, by tools/ways.py: its premises are how each test went and what each call ensures, in the
 -- order of the code.
-use Rattle.std.proofs.Common.{◌≡◌, ℕ, zero, suc, ◌+◌, ◌-◌, ◌*◌, ◌/◌, ◌%◌, ◌^◌, ◌<◌, ◌≤◌, Bool, true, false, eqb, ltb, leb, List, length, get_or, set, refl, sub-one}
+use Rattle.std.proofs.Common.{◌≡◌, ℕ, ◌+◌, ◌/◌, ◌%◌, ◌^◌, Bool, true, false, List, get_or}
 use Rattle.access.specs.Access.{address_error, bus_error, checked_read, checked_write, exception_address_error, exception_bus_error, first_from, jump_to, jump_vector, kept_first, kept_second, prefetch_first, prefetch_second, push_exception_frame68000, push_field, push_fields, push_frame, raised, read_at, read_or, refill, second_from, short_writes, stack_field, trigger, vector_read, write_at, wrote}
 use Rattle.cpu.specs.Fields.{a7_of, lower_a7}
 use Rattle.cpu.specs.declared.Cpu.{Cpu}

@@ -1,7 +1,7 @@
 -- Written by tools/generate.py from tools/manifest.txt: not edited by hand.
 -- A law for each way through a function, by tools/ways.py: its premises are how each test went and what each call ensures, in the
 -- order of the code.
-use Rattle.std.proofs.Common.{◌≡◌, ℕ, zero, suc, ◌+◌, ◌-◌, ◌*◌, ◌/◌, ◌%◌, ◌^◌, ◌<◌, ◌≤◌, Bool, true, false, eqb, ltb, leb, List, length, get_or, set, refl, sub-one, eq-eqb, ne_eqb}
+use Rattle.std.proofs.Common.{◌≡◌, ℕ, zero, suc, ◌+◌, ◌-◌, ◌%◌, ◌^◌, Bool, true, false, List, get_or, refl, sub-one, eq-eqb, ne_eqb}
 use Rattle.access.specs.Access.{address_error, bus_error, checked_read, checked_write, exception_address_error, exception_bus_error, first_from, jump_to, jump_vector, kept_first, kept_second, prefetch_first, prefetch_read, prefetch_second, push_field, push_fields, push_frame, raise_address, raise_bus, read_at, read_or, refill, second_from, stack_field, trigger, vector_read, write_at, wrote}
 use Rattle.cpu.specs.Clocks.{clear_prefetch, first_word, internal_cycles, one_fetched, prefetch_enabled, second_word}
 use Rattle.cpu.specs.Fields.{a7_of, address_of, cause_number_of, halted, in_exception, is_faulted, lower_a7, odd_pc, pc_of, set_pc, set_wdata, start_vector}

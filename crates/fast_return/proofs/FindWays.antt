@@ -1,7 +1,7 @@
 -- Written by tools/generate.py from tools/manifest.txt: not edited by hand.
 -- A law for each way through a function, by tools/ways.py: its premises are how each test went and what each call ensures, in the
 -- order of the code.
-use Rattle.std.proofs.Common.{◌≡◌, ℕ, zero, suc, ◌+◌, ◌-◌, ◌*◌, ◌/◌, ◌%◌, ◌^◌, ◌<◌, ◌≤◌, Bool, true, false, eqb, ltb, leb, List, length, get_or, set, refl, sub-one}
+use Rattle.std.proofs.Common.{◌≡◌, ℕ, ◌+◌, ◌-◌, ◌%◌, ◌^◌, Bool, true, false, eqb, leb, List, length}
 use Rattle.fast_return.specs.Quick.{format_at, found_in, found_of, found_sized, found_word, lies, not_found, rest_lies, size_of, taken_at}
 use Rattle.fast_return.specs.declared.quick.Found.{Found}
 use Rattle.types.specs.Kinds.{both, either, is040, is060, mask_address}

@@ -1,7 +1,7 @@
 -- Written by tools/generate.py from tools/manifest.txt: not edited by hand.
 -- A law for each way through a function, by tools/ways.py: its premises are how each test went and what each call ensures, in the
 -- order of the code.
-use Rattle.std.proofs.Common.{◌≡◌, ℕ, zero, suc, ◌+◌, ◌-◌, ◌*◌, ◌/◌, ◌%◌, ◌^◌, ◌<◌, ◌≤◌, Bool, true, false, eqb, ltb, leb, List, length, get_or, set, refl, sub-one}
+use Rattle.std.proofs.Common.{◌≡◌, Bool, true, false, eqb}
 use Rattle.fast_return.specs.Patch.{done_patch, found_patch, no_patch}
 use Rattle.fast_return.specs.declared.ReturnPatch.{ReturnPatch}
 use Rattle.fast_return.specs.declared.quick.Found.{Found}

@@ -1,7 +1,7 @@
 -- Laws of the tests on a frame: where it lies, and how long it is.
-use Rattle.std.proofs.Common.{◌≡◌, ℕ, zero, suc, ◌+◌, ◌-◌, ◌/◌, ◌<◌, ◌≤◌, Bool, true, false, eqb, ltb, leb, length, sym, refl, ap, ◌∙◌, arith, ltb-false, le-ltb, lt-ltb, ne_eqb, eqb-true, le-leb}
+use Rattle.std.proofs.Common.{◌≡◌, ℕ, zero, suc, ◌+◌, ◌-◌, ◌/◌, ◌<◌, ◌≤◌, leb, sym, refl, arith, le-ltb, lt-ltb, ne_eqb, le-leb}
 use borrow.Author.Tests.{lt-leb}
-use Rattle.types.specs.Kinds.{pick, is040, is060}
+use Rattle.types.specs.Kinds.{is040, is060}
 use Rattle.types.specs.Tables.{frame_length, takes_format, format_length}
 use Rattle.unwind.specs.Frames.{head_of}
 use Rattle.unwind.specs.Straight.{straight}

@@ -1,9 +1,9 @@
 -- Written by tools/generate.py from tools/manifest.txt: not edited by hand.
 -- A law for each way through a function, by tools/ways.py: its premises are how each test went and what each call ensures, in the
 -- order of the code.
-use Rattle.std.proofs.Common.{◌≡◌, ℕ, zero, suc, ◌+◌, ◌-◌, ◌*◌, ◌/◌, ◌%◌, ◌^◌, ◌<◌, ◌≤◌, Bool, true, false, eqb, ltb, leb, List, length, get_or, set, refl, sub-one}
+use Rattle.std.proofs.Common.{◌≡◌, ℕ, Bool, true, false, eqb, List}
 use Rattle.fast_return.specs.Rows.{bare_bus, done_step, first_step, refused_step, second_step, step}
-use Rattle.fast_return.specs.Seen.{seen, seen_in_user, take_seen}
+use Rattle.fast_return.specs.Seen.{seen_in_user, take_seen}
 use Rattle.fast_return.specs.declared.rows.Step.{Step}
 use Rattle.fast_return.specs.declared.seen.Seen.{Seen}
 use Rattle.memory.specs.declared.Bus.{Bus}

@@ -1,6 +1,6 @@
 -- Laws of the walk's loop. What the buffer `ws` has got after k rows, and the returns that are left from d, give the walk of n returns
 -- from c into the buffer as it came, ws0.
-use Rattle.std.proofs.Common.{◌≡◌, ℕ, zero, suc, ◌+◌, ◌-◌, ◌*◌, ◌<◌, ◌≤◌, Bool, true, false, eqb, List, [], ◌∷◌, length, sym, refl, ap, ◌∙◌, add-zero, arith, ltb-false, ne_eqb}
+use Rattle.std.proofs.Common.{◌≡◌, ℕ, suc, ◌+◌, ◌-◌, ◌*◌, ◌<◌, ◌≤◌, Bool, false, List, length, sym, ap, ◌∙◌, add-zero, arith, ltb-false, ne_eqb}
 use Rattle.fast_return.specs.declared.seen.Seen.{Seen}
 use Rattle.fast_return.specs.declared.rows.Step.{Step}
 use Rattle.unwind.specs.Frames.{Sight}

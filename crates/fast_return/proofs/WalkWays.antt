@@ -1,11 +1,10 @@
 -- Laws of the walk: too short a buffer, or the rows over what is kept of the record.
-use Rattle.std.proofs.Common.{◌≡◌, ℕ, ◌<◌, Bool, true, false, eqb, List, length, sym, refl, ap, ◌∙◌}
-use Rattle.types.specs.Kinds.{pick}
+use Rattle.std.proofs.Common.{◌≡◌, ℕ, ◌<◌, Bool, true, false, List, length, sym, refl, ap, ◌∙◌}
 use Rattle.cpu.specs.Fields.{kind_of}
 use Rattle.memory.specs.declared.Core.{Core}
 use Rattle.unwind.specs.declared.returns.Walked.{Walked}
-use Rattle.unwind.specs.Frames.{Sight, sight}
-use Rattle.unwind.specs.Returns.{Walk, walk, walk_of}
+use Rattle.unwind.specs.Frames.{sight}
+use Rattle.unwind.specs.Returns.{walk, walk_of}
 use Rattle.unwind.specs.Unwind.{short_rows, sight_of, walk_from}
 use Rattle.fast_return.specs.declared.seen.Seen.{Seen}
 use Rattle.fast_return.specs.Accepted.{accepts}

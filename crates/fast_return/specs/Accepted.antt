@@ -1,5 +1,5 @@
 -- A call that is plainly accepted: tests that say more than the numbers 1, 2, 4, 5, 6 and 9 ask.
-use Rattle.std.specs.Prelude.{ℕ, ◌+◌, ◌%◌, Bool, true, false, ◌==◌, nat_le, nat_lt}
+use Rattle.std.specs.Prelude.{ℕ, ◌+◌, ◌%◌, Bool, false, ◌==◌, nat_le, nat_lt}
 use Rattle.types.specs.Kinds.{pick, either}
 use Rattle.cpu.specs.declared.Cpu.{Cpu}
 use Rattle.memory.specs.declared.Bus.{Bus}

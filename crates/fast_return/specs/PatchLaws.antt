@@ -1,22 +1,17 @@
 -- A return that was tried and goes is the return.
-use Rattle.std.specs.Prelude.{◌≡◌, ℕ, ◌+◌, ◌-◌, ◌%◌, ◌^◌, ◌<◌, ◌≤◌, Bool, true, false, not, ltb, leb, List, length, ◌==◌, nat_eq, nat_le, nat_lt}
+use Rattle.std.specs.Prelude.{◌≡◌, ℕ, ◌+◌, ◌-◌, ◌%◌, ◌≤◌, Bool, true, false, ltb, leb, List, length, ◌==◌, nat_eq, nat_le, nat_lt}
 use Rattle.std.proofs.Math.Path.{refl}
 use Rattle.std.proofs.Common.{sym, ap, ◌∙◌, arith}
 use borrow.Author.Tests.{eqb-true, ltb-true, leb-true, le-ltb}
 use Rattle.types.specs.Kinds.{pick, either, both, is_pre68020}
 use Rattle.types.proofs.Laws.{pick_holds}
-use Rattle.cpu.specs.declared.Cpu.{Cpu}
 use Rattle.cpu.specs.Fields.{kind_of, vbr_of, a7_of, checks_alignment, has_fc_override, fc_override_of}
-use Rattle.memory.specs.declared.Bus.{Bus}
 use Rattle.memory.specs.declared.Core.{Core}
-use Rattle.memory.specs.World.{put_cpu}
 use Rattle.refusals.specs.Refusals.{bad_flags, odd_base, bad_cycles, bad_code, bad_store, any_past, bad_windows, short_log, bad_vector, bad_kind, tests_of, first_number, refusal_of}
-use Rattle.unwind.specs.declared.frames.Frame.{Frame}
 use Rattle.unwind.specs.Frames.{sight, byte_address, head_of, refused_frame, frame_of}
-use Rattle.unwind.specs.Returns.{in_user, take_frame, row_of, done_back, first_back, back}
+use Rattle.unwind.specs.Returns.{in_user, done_back, first_back, back}
 use Rattle.unwind.specs.Unwind.{refusal, returned, return_from}
 use Rattle.fast_return.specs.declared.quick.Found.{Found}
-use Rattle.fast_return.specs.declared.ReturnPatch.{ReturnPatch}
 use Rattle.fast_return.specs.Accepted.{plain_flags, plain_cpu, plain_bus, accepts}
 use Rattle.fast_return.specs.Quick.{lies, not_found, taken_at, format_at, size_of, rest_lies, found_sized, found_word, found_in, found_of}
 use Rattle.fast_return.specs.FoundLaws.{found_frame}

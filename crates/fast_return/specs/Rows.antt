@@ -1,5 +1,5 @@
 -- The walk over what it keeps of the record: `back`, `trail_of` and `walk_of` of `unwind` with six numbers in place of the record.
-use Rattle.std.specs.Prelude.{ℕ, zero, suc, Bool, true, false, List, [], ◌∷◌, replicate, ◌==◌}
+use Rattle.std.specs.Prelude.{ℕ, zero, suc, List, [], ◌∷◌, replicate, ◌==◌}
 use Rattle.types.specs.Kinds.{pick}
 use Rattle.memory.specs.declared.Bus.{Bus}
 use Rattle.unwind.specs.declared.frames.Frame.{Frame}

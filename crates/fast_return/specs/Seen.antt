@@ -1,5 +1,5 @@
 -- What a walk keeps of the record: A7, the three saved pointers, S and M, the last two as 0 or 1.
-use Rattle.std.specs.Prelude.{ℕ, ◌+◌, ◌-◌, ◌*◌, ◌/◌, ◌%◌, ◌^◌, Bool, true, false, List, ◌==◌, slice_index, slice_set}
+use Rattle.std.specs.Prelude.{ℕ, ◌+◌, ◌/◌, ◌%◌, ◌^◌, Bool, ◌==◌, slice_index, slice_set}
 use Rattle.types.specs.Kinds.{pick, is060, mask_status}
 use Rattle.cpu.specs.declared.Cpu.{Cpu}
 use Rattle.cpu.specs.declared.Regs.{Regs}

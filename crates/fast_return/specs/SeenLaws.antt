@@ -1,7 +1,7 @@
 -- A frame taken off the stack in use: what is kept of the record after it, and the record after it with every index written out.
-use Rattle.std.specs.Prelude.{◌≡◌, ℕ, zero, suc, ◌+◌, ◌*◌, ◌/◌, ◌%◌, ◌^◌, ◌<◌, Bool, true, false, ◌⊎◌, List, length, ◌==◌, slice_index, slice_index_or, slice_set}
+use Rattle.std.specs.Prelude.{◌≡◌, ℕ, ◌+◌, ◌*◌, ◌/◌, ◌%◌, ◌^◌, ◌<◌, Bool, true, false, ◌⊎◌, List, length, ◌==◌, slice_index, slice_index_or, slice_set}
 use Rattle.std.proofs.Math.Path.{refl}
-use Rattle.std.proofs.Common.{sym, ap, ◌∙◌, inl, inr, arith, length-set, get_or-set_other}
+use Rattle.std.proofs.Common.{sym, inl, inr, arith, length-set, get_or-set_other}
 use Rattle.std.proofs.lemmas.List.{set_comm, set-get_or}
 use Rattle.std.proofs.Math.Seq.{set-set, get_or-set_same}
 use Rattle.types.specs.Kinds.{pick, is060, mask_status}
@@ -13,7 +13,6 @@ use Rattle.status.specs.Status.{put_back_sr, decompose}
 use Rattle.status.specs.Banks.{sp_index, backup_sp, restore_sp}
 use Rattle.unwind.specs.declared.frames.Frame.{Frame}
 use Rattle.unwind.specs.Returns.{raise_a7, swap_sr, take_frame}
-use Rattle.fast_return.specs.declared.seen.Seen.{Seen}
 use Rattle.fast_return.specs.Seen.{seen, stack_of, bank_of, entered_seen, saved_seen, take_seen, banked_regs, back_flags}
 
 -- an index of a saved pointer

@@ -1,8 +1,8 @@
 -- The walk over what is kept of the record is the walk over the record; and a bus without windows is as good as a bare one.
-use Rattle.std.specs.Prelude.{◌≡◌, ℕ, zero, suc, ◌<◌, Bool, true, false, List, [], ◌∷◌, length, ◌==◌}
+use Rattle.std.specs.Prelude.{◌≡◌, ℕ, zero, suc, ◌<◌, Bool, true, false, List, length, ◌==◌}
 use Rattle.std.proofs.Math.Path.{refl, ap}
 use Rattle.std.proofs.Common.{sym, ◌∙◌, length-set}
-use Rattle.types.specs.Kinds.{pick, both}
+use Rattle.types.specs.Kinds.{pick}
 use Rattle.cpu.specs.declared.Cpu.{Cpu}
 use Rattle.cpu.specs.Fields.{kind_of, a7_of, set_a7, set_pc}
 use Rattle.cpu.specs.Clocks.{clear_prefetch}
@@ -13,7 +13,7 @@ use Rattle.memory.specs.Served.{served_of, in_store, windows_in_use, clear_of, p
 use Rattle.unwind.specs.declared.frames.Frame.{Frame}
 use Rattle.unwind.specs.declared.returns.Back.{Back}
 use Rattle.unwind.specs.Frames.{Sight, sight, byte_served, byte_of, byte_address, all_served, word_of, long_of, head_of, taken_frame, sized_frame, format_frame, frame_of}
-use Rattle.unwind.specs.Returns.{raise_a7, swap_sr, take_frame, row_of, refused_back, done_back, second_back, first_back, in_user, back, Trail, trail, trail_of, Walk, laid, walk_of}
+use Rattle.unwind.specs.Returns.{raise_a7, swap_sr, take_frame, refused_back, done_back, second_back, first_back, in_user, back, trail_of, laid, walk_of}
 use Rattle.fast_return.specs.declared.seen.Seen.{Seen}
 use Rattle.fast_return.specs.declared.rows.Step.{Step}
 use Rattle.fast_return.specs.Seen.{seen, seen_in_user, take_seen}

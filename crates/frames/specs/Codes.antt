@@ -1,5 +1,5 @@
 -- The status words of error frames: what a handler reads to tell what was tried, and where. Each is a sum of its fields.
-use Rattle.std.specs.Prelude.{ℕ, ◌+◌, ◌*◌, ◌/◌, ◌%◌, Bool, true, false, eqb, leb}
+use Rattle.std.specs.Prelude.{ℕ, ◌+◌, ◌*◌, ◌/◌, ◌%◌, Bool, eqb, leb}
 use Rattle.types.specs.Kinds.{pick, both}
 use Rattle.cpu.specs.declared.Cpu.{Cpu}
 use Rattle.cpu.specs.Fields.{has_fc_override, fc_override_of}

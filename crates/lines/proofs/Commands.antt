@@ -1,16 +1,15 @@
 -- Laws of the commands: numbers with a limit, a line by its name, the ways through the functions.
 use Prim.Native.Nat.{ℕ, ◌+◌, ◌<◌, ◌≤◌}
-use mathlib.Core.Path.{◌≡◌, refl, sym, ap, ◌∙◌}
+use mathlib.Core.Path.{◌≡◌, sym, ap, ◌∙◌}
 use mathlib.Core.Bool.{Bool, true, false}
 use mathlib.Core.List.{List, [], ◌∷◌}
 use native.Mathlib.Omega.{arith}
 use borrow.Author.Tests.{lt-ltb, le-ltb, eq-eqb, ne_eqb}
-use lib.Dec.{eqb, ltb}
 use lib.ListN.{length, take, drop, drop_of_length-le}
 use Rattle.types.specs.Kinds.{pick}
 use Rattle.lines.specs.Numbers.{number_of}
 use Rattle.lines.specs.declared.numbers.Number.{Number}
-use Rattle.lines.specs.declared.numbers.Number.TheVariants.{Is, Not}
+use Rattle.lines.specs.declared.numbers.Number.TheVariants.{Is}
 use Rattle.lines.specs.declared.Command.{Command}
 use Rattle.lines.specs.declared.Command.TheVariants.{Wrong, Kind, Trap, Irq, Ret}
 use Rattle.lines.specs.Commands.{starts_with, space_in, kind_in, trap_in, irq_in, walk_in, exc_in, a7_in, pc_in, ppc_in, long_in, long_fields, ret_in, word_in, command_of}

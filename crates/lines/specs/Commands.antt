@@ -1,5 +1,5 @@
 -- The commands of paper 01, "The session program": a line to a command.
-use Rattle.std.specs.Prelude.{ℕ, zero, suc, ◌+◌, Bool, true, false, List, [], ◌∷◌, eqb, ltb, length, take, drop}
+use Rattle.std.specs.Prelude.{ℕ, suc, ◌+◌, Bool, true, false, List, [], ◌∷◌, eqb, ltb, length, take, drop}
 use Rattle.lines.specs.declared.numbers.Number.{Number}
 use Rattle.lines.specs.declared.numbers.Number.TheVariants.{Is, Not}
 use Rattle.lines.specs.declared.Command.{Command}

@@ -1,5 +1,5 @@
 -- The numbers of a session's lines. Paper 01: "n is decimal, 1 to 4 digits; others bare hexadecimal, 1 to 8 digits, either case".
-use Rattle.std.specs.Prelude.{ℕ, ◌+◌, ◌-◌, ◌*◌, Bool, true, false, List, [], ◌∷◌, eqb, ltb, leb, length}
+use Rattle.std.specs.Prelude.{ℕ, ◌+◌, ◌-◌, ◌*◌, List, [], ◌∷◌, eqb, ltb, leb, length}
 use Rattle.types.specs.Kinds.{pick}
 use Rattle.lines.specs.declared.numbers.Number.{Number}
 use Rattle.lines.specs.declared.numbers.Number.TheVariants.{Is, Not}

@@ -1,12 +1,9 @@
 -- Written by tools/generate.py from tools/manifest.txt: not edited by hand.
 -- A law for each way through a function, by tools/ways.py: its premises are how each test went and what each call ensures, in the
 -- order of the code.
-use Prim.Native.Nat.{ℕ, zero, suc, ◌+◌, ◌-◌, ◌*◌, ◌/◌, ◌%◌, ◌^◌, ◌<◌, ◌≤◌}
+use Prim.Native.Nat.{ℕ, zero, suc, ◌-◌}
 use mathlib.Core.Path.{◌≡◌, refl}
 use mathlib.Core.Bool.{Bool, true, false}
-use mathlib.Core.List.{List}
-use lib.ListN.{length, get_or, set}
-use lib.Dec.{eqb, ltb, leb}
 use native.Mathlib.Numerals.{sub-one}
 use Rattle.memory.specs.Served.{clear_of, meets}
 use Rattle.memory.specs.declared.Bus.{Bus}

@@ -1,6 +1,6 @@
 -- The state that a function of the core goes from and to: record, bus, store and log. And one access, sync, acknowledge and
 -- release on it.
-use Rattle.std.specs.Prelude.{ℕ, ◌+◌, ◌-◌, ◌%◌, ◌^◌, Bool, true, false, List, length, get_or}
+use Rattle.std.specs.Prelude.{ℕ, ◌%◌, Bool, true, false, List, length, get_or}
 use Rattle.types.specs.Kinds.{pick}
 use Rattle.cpu.specs.declared.Cpu.{Cpu}
 use Rattle.cpu.specs.Clocks.{has_clocks, clocks_of, set_clocks}

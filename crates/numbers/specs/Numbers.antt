@@ -1,5 +1,5 @@
 -- Flags as numbers and back, and the calls by number that have an export of their own.
-use Rattle.std.specs.Prelude.{ℕ, Bool, true, false, not, eqb}
+use Rattle.std.specs.Prelude.{ℕ, Bool, not, eqb}
 use Rattle.types.specs.Kinds.{pick}
 use Rattle.numbers.specs.declared.RawCall.{RawCall}
 

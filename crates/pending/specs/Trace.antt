@@ -1,5 +1,5 @@
 -- Whether an instruction asks for a trace exception.
-use Rattle.std.specs.Prelude.{◌-◌, ◌/◌, ◌%◌, Bool, true, false, eqb}
+use Rattle.std.specs.Prelude.{◌/◌, ◌%◌, Bool, true, false, eqb}
 use Rattle.types.specs.Kinds.{pick, is_pre68020, is040}
 use Rattle.cpu.specs.declared.Cpu.{Cpu}
 use Rattle.cpu.specs.Setters.{with_change_of_flow}

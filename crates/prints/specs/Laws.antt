@@ -1,5 +1,5 @@
 -- Laws for those who lay lines one after the other.
-use Rattle.std.specs.Prelude.{ℕ, ◌+◌, ◌≤◌, ◌≡◌, refl, List, ◌++◌, [], length}
+use Rattle.std.specs.Prelude.{ℕ, ◌+◌, ◌≤◌, ◌≡◌, List, ◌++◌, [], length}
 use Rattle.std.proofs.Common.{ap, ◌∙◌, append_assoc, append-nil, le-leb}
 use Rattle.prints.specs.Prints.{before, more, laid}
 

@@ -1,5 +1,5 @@
 -- The bytes of the lines that a session prints, paper 01, "The session program".
-use Rattle.std.specs.Prelude.{ℕ, zero, suc, ◌+◌, ◌/◌, ◌%◌, Bool, true, false, List, [], ◌∷◌, ◌++◌, ltb, leb, length, take}
+use Rattle.std.specs.Prelude.{ℕ, zero, suc, ◌+◌, ◌/◌, ◌%◌, List, [], ◌∷◌, ◌++◌, ltb, leb, length, take}
 use Rattle.types.specs.Kinds.{pick}
 
 -- what a buffer holds before a place

@@ -1,5 +1,5 @@
 -- The refusals by number, as paper 01 lists them, and the lowest that applies to a call.
-use Rattle.std.specs.Prelude.{ℕ, zero, suc, ◌+◌, ◌%◌, ◌^◌, Bool, true, false, not, List, [], ◌∷◌, eqb, ltb, get_or}
+use Rattle.std.specs.Prelude.{ℕ, zero, suc, ◌+◌, ◌%◌, ◌^◌, Bool, false, not, List, [], ◌∷◌, eqb, ltb, get_or}
 use Rattle.types.specs.Kinds.{pick, either, both}
 use Rattle.cpu.specs.declared.Cpu.{Cpu}
 use Rattle.cpu.specs.Fields.{kind_of, vbr_of, checks_alignment, has_fc_override, fc_override_of}

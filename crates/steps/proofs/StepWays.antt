@@ -1,7 +1,7 @@
 -- Written by tools/generate.py from tools/manifest.txt: not edited by hand.
 -- A law for each way through a function, by tools/ways.py: its premises are how each test went and what each call ensures, in the
 -- order of the code.
-use Rattle.std.proofs.Common.{◌≡◌, ℕ, zero, suc, ◌+◌, ◌-◌, ◌*◌, ◌/◌, ◌%◌, ◌^◌, ◌<◌, ◌≤◌, Bool, true, false, eqb, ltb, leb, List, length, get_or, set, refl, sub-one}
+use Rattle.std.proofs.Common.{◌≡◌, ℕ, ◌+◌, ◌*◌, ◌%◌, ◌^◌, Bool, true, false}
 use Rattle.cpu.specs.Clocks.{internal_cycles}
 use Rattle.cpu.specs.Fields.{clear_cause, clear_fc_override, clear_stopped, leave_stop, pc_of, ppc_of, restore_registers, set_exception, vbr_of}
 use Rattle.cpu.specs.declared.Cpu.{Cpu}

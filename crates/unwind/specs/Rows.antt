@@ -6,7 +6,7 @@ use Rattle.cpu.specs.declared.Cpu.{Cpu}
 use Rattle.memory.specs.declared.Core.{Core}
 use Rattle.unwind.specs.declared.returns.Row.{Row}
 use Rattle.unwind.specs.Frames.{Sight}
-use Rattle.unwind.specs.Returns.{back, Trail, trail, trail_of, put_row, put_rows, Walk, walk, laid, walk_of}
+use Rattle.unwind.specs.Returns.{back, Trail, trail, trail_of, put_row, put_rows, laid, walk_of}
 use Rattle.unwind.specs.Unwind.{refusal, sight_of, short_rows, walk_from}
 
 -- row k of a buffer is its words 4k to 4k + 3

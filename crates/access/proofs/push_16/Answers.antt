@@ -1,4 +1,3 @@
-use Rattle.std.proofs.Common.{◌≡◌, refl, ◌∙◌, rules}
 use Rattle.access.proofs.Named.{push_16_way}
 use Rattle.access.proofs.push_16.Goals as goal
 

@@ -1,4 +1,3 @@
-use Rattle.std.proofs.Common.{◌≡◌, refl, ◌∙◌, rules}
 use Rattle.access.proofs.Named.{push_32_way}
 use Rattle.access.proofs.push_32.Goals as goal
 

@@ -1,4 +1,3 @@
-use Rattle.std.proofs.Common.{◌≡◌, refl, ◌∙◌, rules}
 use Rattle.access.proofs.Named.{push_exception_frame_68000_way}
 use Rattle.access.proofs.push_exception_frame_68000.Goals as goal
 

@@ -1,4 +1,3 @@
-use Rattle.std.proofs.Common.{◌≡◌, refl, ◌∙◌, rules}
 use Rattle.access.proofs.Named.{push_frame_way}
 use Rattle.access.proofs.push_frame.Goals as goal
 

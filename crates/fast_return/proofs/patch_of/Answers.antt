@@ -1,4 +1,3 @@
-use Rattle.std.proofs.Common.{◌≡◌, refl, ◌∙◌, rules}
 use Rattle.fast_return.proofs.PatchWays.{patch_of_way, patch_of_way_2, patch_of_way_3}
 use Rattle.fast_return.proofs.patch_of.Goals as goal
 

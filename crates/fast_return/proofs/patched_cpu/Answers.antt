@@ -1,5 +1,4 @@
 use Rattle.fast_return.proofs.SeenWays.{patched_way}
-use Rattle.std.proofs.Common.{rules}
 use Rattle.fast_return.proofs.patched_cpu.Goals as goal
 
 pub returns : goal.returns

@@ -1,5 +1,4 @@
 use Rattle.fast_return.proofs.SeenWays.{try_way, try_way_2}
-use Rattle.std.proofs.Common.{rules}
 use Rattle.fast_return.proofs.try_return.Goals as goal
 
 pub returns-then-accepted : goal.returns-then-accepted

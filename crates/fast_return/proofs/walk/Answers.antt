@@ -1,6 +1,5 @@
 use Rattle.fast_return.proofs.StepWalks.{rows_fit}
 use Rattle.fast_return.proofs.WalkWays.{walk_way, walk_way_2}
-use Rattle.std.proofs.Common.{rules}
 use Rattle.fast_return.proofs.walk.Goals as goal
 
 pub returns-then-short_rows : goal.returns-then-short_rows

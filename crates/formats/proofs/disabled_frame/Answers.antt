@@ -1,9 +1,5 @@
-use mathlib.Core.Path.{◌≡◌, refl, sym, ◌∙◌}
-use native.Mathlib.Omega.{arith}
-use lib.ListN.{length-set}
-use borrow.Author.Tests.{lt-ltb, le-ltb, le-leb, lt-leb, eq-eqb, ne_eqb}
+use mathlib.Core.Path.{refl}
 use Rattle.formats.specs.Formats.{disabled_frame}
-use borrow.Author.Rules.{rules}
 use Rattle.formats.proofs.disabled_frame.Goals as goal
 
 -- src/formats.rt:97:1

@@ -1,6 +1,4 @@
-use mathlib.Core.Path.{◌≡◌, refl, ◌∙◌}
 use Rattle.frames.proofs.FrameWays.{address_frame_way, address_frame_way_2, address_frame_way_3, address_frame_way_4}
-use borrow.Author.Rules.{rules}
 use Rattle.frames.proofs.address_frame.Goals as goal
 
 pub returns-then-is_68000 : goal.returns-then-is_68000

@@ -1,6 +1,4 @@
-use mathlib.Core.Path.{◌≡◌, refl, ◌∙◌}
 use Rattle.frames.proofs.FrameWays.{bus_frame_way, bus_frame_way_2, bus_frame_way_3, bus_frame_way_4, bus_frame_way_5}
-use borrow.Author.Rules.{rules}
 use Rattle.frames.proofs.bus_frame.Goals as goal
 
 pub returns-then-is_68000 : goal.returns-then-is_68000

@@ -1,5 +1,3 @@
-use mathlib.Core.Path.{◌≡◌, refl, sym}
-use borrow.Author.Rules.{rules}
 use borrow.Author.Tests.{lt-ltb, le-ltb}
 use Rattle.frames.specs.Frames.{field_at}
 use Rattle.frames.proofs.field_at.Goals as goal

@@ -1,9 +1,5 @@
-use mathlib.Core.Path.{◌≡◌, refl, sym, ◌∙◌}
-use native.Mathlib.Omega.{arith}
-use lib.ListN.{length-set}
-use borrow.Author.Tests.{lt-ltb, le-ltb, le-leb, lt-leb, eq-eqb, ne_eqb}
+use mathlib.Core.Path.{refl}
 use Rattle.frames.specs.Frames.{frame4}
-use borrow.Author.Rules.{rules}
 use Rattle.frames.proofs.frame_4.Goals as goal
 
 pub returns : goal.returns

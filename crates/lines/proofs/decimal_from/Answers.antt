@@ -1,12 +1,6 @@
 use Rattle.lines.specs.Numbers.{number_of}
-use native.Mathlib.Omega.{arith}
-use mathlib.Core.Path.{◌≡◌, refl, sym, ap, ◌∙◌}
-use Prim.Native.Nat.{ℕ, ◌+◌, ◌-◌, ◌*◌, ◌^◌, ◌<◌, ◌≤◌}
-use lib.ListN.{length, drop, get_or}
-use borrow.Author.Tests.{lt-ltb, le-ltb, le-leb, lt-leb, eq-eqb, ne_eqb}
+use mathlib.Core.Path.{ap, ◌∙◌}
 use Rattle.lines.proofs.Loops.{none_from, rest}
-use Rattle.lines.specs.Commands.{long_fields, ret_in, word_in, command_of}
-use borrow.Author.Rules.{rules}
 use Rattle.lines.proofs.decimal_from.Goals as goal
 
 pub returns-then-s-at : goal.returns-then-s-at

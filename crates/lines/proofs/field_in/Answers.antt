@@ -1,5 +1,4 @@
 use Rattle.lines.proofs.Commands.{field_1, field_2, field_3, field_4, field_5}
-use borrow.Author.Rules.{rules}
 use Rattle.lines.proofs.field_in.Goals as goal
 
 pub returns-then-starts : goal.returns-then-starts

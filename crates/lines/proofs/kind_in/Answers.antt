@@ -1,10 +1,5 @@
 use Rattle.lines.proofs.Commands.{kind_small, kind_large}
-use mathlib.Core.Path.{◌≡◌, refl, sym, ◌∙◌}
-use native.Mathlib.Omega.{arith}
-use lib.ListN.{length-set}
-use borrow.Author.Tests.{lt-ltb, le-ltb, le-leb, lt-leb, eq-eqb, ne_eqb}
 use Rattle.lines.specs.Commands.{kind_in}
-use borrow.Author.Rules.{rules}
 use Rattle.lines.proofs.kind_in.Goals as goal
 
 pub returns-then-v-lt256 : goal.returns-then-v-lt256

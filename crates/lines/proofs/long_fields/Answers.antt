@@ -1,9 +1,7 @@
 use Rattle.lines.specs.Numbers.{number_of}
 use Rattle.lines.proofs.Loops.{front}
-use native.Mathlib.Omega.{arith}
-use mathlib.Core.Path.{◌≡◌, refl, sym, ap, ◌∙◌}
+use mathlib.Core.Path.{ap, ◌∙◌}
 use Rattle.lines.proofs.Commands.{long_way}
-use borrow.Author.Rules.{rules}
 use Rattle.lines.proofs.long_fields.Goals as goal
 
 pub returns : goal.returns

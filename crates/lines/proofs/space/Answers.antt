@@ -1,9 +1,4 @@
 use native.Mathlib.Omega.{arith}
-use mathlib.Core.Path.{◌≡◌, refl, sym, ◌∙◌}
-use Prim.Native.Nat.{ℕ, ◌+◌, ◌-◌, ◌*◌, ◌^◌, ◌<◌, ◌≤◌}
-use lib.ListN.{length, drop, get_or}
-use borrow.Author.Rules.{rules}
-use Rattle.lines.specs.Commands.{space_in}
 use Rattle.lines.proofs.Loops.{space_starts, space_found, space_goes, space_ends}
 use Rattle.lines.proofs.space.Goals as goal
 

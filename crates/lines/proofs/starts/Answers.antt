@@ -1,9 +1,5 @@
 use native.Mathlib.Omega.{arith}
-use mathlib.Core.Path.{◌≡◌, refl, sym, ◌∙◌}
-use Prim.Native.Nat.{ℕ, ◌+◌, ◌-◌, ◌*◌, ◌^◌, ◌<◌, ◌≤◌}
-use lib.ListN.{length, drop, get_or}
-use borrow.Author.Rules.{rules}
-use Rattle.lines.specs.Commands.{starts_with}
+use mathlib.Core.Path.{refl}
 use Rattle.lines.proofs.Loops.{starts_short, starts_other, starts_goes, starts_ends}
 use Rattle.lines.proofs.starts.Goals as goal
 

@@ -1,10 +1,7 @@
-use native.Mathlib.Omega.{arith}
-use mathlib.Core.Path.{◌≡◌, refl, sym, ◌∙◌}
-use Prim.Native.Nat.{ℕ, ◌+◌, ◌-◌, ◌*◌, ◌^◌, ◌<◌, ◌≤◌}
-use lib.ListN.{length, drop, get_or}
-use borrow.Author.Rules.{rules}
+use mathlib.Core.Path.{◌≡◌}
+use Prim.Native.Nat.{◌-◌, ◌≤◌}
+use lib.ListN.{length, drop}
 use Rattle.lines.specs.Commands.{starts_with}
-use Rattle.lines.proofs.Loops.{starts_short, starts_other, starts_goes, starts_ends}
 use Rattle.lines.proofs.starts.Given as goal
 
 abbrev pub invariant-loop-i : goal.invariant-loop-i

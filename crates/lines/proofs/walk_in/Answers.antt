@@ -1,9 +1,4 @@
-use native.Mathlib.Omega.{arith}
-use mathlib.Core.Path.{◌≡◌, refl, sym, ◌∙◌}
-use Prim.Native.Nat.{ℕ, ◌+◌, ◌-◌, ◌*◌, ◌^◌, ◌<◌, ◌≤◌}
-use lib.ListN.{length, drop, get_or}
 use Rattle.lines.specs.Commands.{walk_in}
-use borrow.Author.Rules.{rules}
 use Rattle.lines.proofs.walk_in.Goals as goal
 
 pub returns-in-Is : goal.returns-in-Is

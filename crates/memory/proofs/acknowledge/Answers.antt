@@ -1,4 +1,3 @@
-use mathlib.Core.Path.{◌≡◌, refl, ◌∙◌}
 use Rattle.memory.proofs.Ways.{acknowledge_way}
 use Rattle.memory.proofs.acknowledge.Goals as goal
 

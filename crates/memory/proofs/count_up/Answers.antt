@@ -1,6 +1,5 @@
 use mathlib.Core.Path.{refl}
 use Rattle.memory.specs.Log.{counted}
-use borrow.Author.Rules.{rules}
 use Rattle.memory.proofs.count_up.Goals as goal
 
 pub returns : goal.returns

@@ -1,5 +1,4 @@
 use Rattle.memory.proofs.Spans.{served_room, fetched_at}
-use borrow.Author.Rules.{rules}
 use Rattle.memory.proofs.fetch.Goals as goal
 
 pub get-requires : goal.get-requires

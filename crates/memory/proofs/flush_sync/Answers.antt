@@ -1,4 +1,3 @@
-use mathlib.Core.Path.{◌≡◌, refl, ◌∙◌}
 use Rattle.memory.proofs.Ways.{flush_sync_way, flush_sync_way_2}
 use Rattle.memory.proofs.flush_sync.Goals as goal
 

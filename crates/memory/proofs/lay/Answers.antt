@@ -1,5 +1,4 @@
 use Rattle.memory.proofs.Spans.{room, laid, not_laid}
-use borrow.Author.Rules.{rules}
 use Rattle.memory.proofs.lay.Goals as goal
 
 pub put-requires : goal.put-requires

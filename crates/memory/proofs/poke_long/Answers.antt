@@ -1,5 +1,4 @@
 use Rattle.memory.proofs.Spans.{poked}
-use borrow.Author.Rules.{rules}
 use Rattle.memory.proofs.poke_long.Goals as goal
 
 pub returns : goal.returns

@@ -1,4 +1,3 @@
-use mathlib.Core.Path.{◌≡◌, refl, ◌∙◌}
 use Rattle.memory.proofs.Spans.{raw_of_try}
 use Rattle.memory.proofs.raw_write.Goals as goal
 

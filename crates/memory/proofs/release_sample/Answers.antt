@@ -1,4 +1,3 @@
-use mathlib.Core.Path.{◌≡◌, refl, ◌∙◌}
 use Rattle.memory.proofs.Ways.{release_sample_way}
 use Rattle.memory.proofs.release_sample.Goals as goal
 

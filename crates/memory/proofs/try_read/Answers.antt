@@ -1,7 +1,5 @@
-use mathlib.Core.Path.{◌≡◌, refl, ◌∙◌, ap}
 use Rattle.memory.proofs.Ways.{try_read_way}
 use Rattle.memory.proofs.Spans.{of_width}
-use borrow.Author.Rules.{rules}
 use Rattle.memory.proofs.try_read.Goals as goal
 
 pub fetch-v-requires : goal.fetch-v-requires

@@ -1,6 +1,4 @@
-use mathlib.Core.Path.{◌∙◌}
 use Rattle.memory.proofs.Spans.{wrote}
-use borrow.Author.Rules.{rules}
 use Rattle.memory.proofs.try_write.Goals as goal
 
 pub returns : goal.returns

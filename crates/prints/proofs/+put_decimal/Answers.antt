@@ -1,9 +1,6 @@
 use Rattle.prints.specs.Laws.{more_more}
-use Rattle.prints.proofs.Joins.{one, join3, join5, nothing, digits_none, digits_last, digits_more}
-use borrow.Author.Rules.{rules}
+use Rattle.prints.proofs.Joins.{nothing, digits_none, digits_last, digits_more}
 use native.Mathlib.Omega.{arith}
-use mathlib.Core.Path.{◌≡◌, refl, sym, ap, ◌∙◌}
-use Prim.Native.Nat.{ℕ, ◌<◌}
 use Rattle.prints.proofs.+put_decimal.Goals as goal
 
 pub returns-then-n-eq0 : goal.returns-then-n-eq0

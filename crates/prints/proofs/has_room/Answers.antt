@@ -1,5 +1,4 @@
 use Rattle.prints.proofs.Joins.{short, long_enough}
-use borrow.Author.Rules.{rules}
 use Rattle.prints.proofs.has_room.Goals as goal
 
 pub returns-then-len-lt34 : goal.returns-then-len-lt34

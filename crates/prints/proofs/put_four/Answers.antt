@@ -1,6 +1,5 @@
 use Rattle.prints.specs.Laws.{more_more}
 use native.Mathlib.Omega.{arith}
-use borrow.Author.Rules.{rules}
 use Rattle.prints.proofs.put_four.Goals as goal
 
 pub returns : goal.returns

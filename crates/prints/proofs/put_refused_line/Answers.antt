@@ -1,8 +1,6 @@
 use Rattle.prints.specs.Prints.{refused_line}
-use Rattle.prints.proofs.Joins.{one, join3, join5, nothing, digits_none, digits_last, digits_more}
+use Rattle.prints.proofs.Joins.{join3}
 use native.Mathlib.Omega.{arith}
-use mathlib.Core.Path.{◌≡◌, refl, sym, ap, ◌∙◌}
-use borrow.Author.Rules.{rules}
 use Rattle.prints.proofs.put_refused_line.Goals as goal
 
 pub returns : goal.returns

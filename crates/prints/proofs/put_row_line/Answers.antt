@@ -1,10 +1,6 @@
-use Rattle.prints.proofs.Joins.{one, join3, join5, nothing, digits_none, digits_last, digits_more}
-use mathlib.Core.Path.{◌≡◌, refl, sym, ◌∙◌}
+use Rattle.prints.proofs.Joins.{join5}
 use native.Mathlib.Omega.{arith}
-use lib.ListN.{length-set}
-use borrow.Author.Tests.{lt-ltb, le-ltb, le-leb, lt-leb, eq-eqb, ne_eqb}
 use Rattle.prints.specs.Prints.{row_line}
-use borrow.Author.Rules.{rules}
 use Rattle.prints.proofs.put_row_line.Goals as goal
 
 pub returns : goal.returns

@@ -1,6 +1,5 @@
 use native.Mathlib.Omega.{arith}
 use Rattle.prints.proofs.Joins.{room_left, on_room, no_room}
-use borrow.Author.Rules.{rules}
 use Rattle.prints.proofs.state_line.Goals as goal
 
 pub put_state_line-requires : goal.put_state_line-requires

@@ -1,11 +1,5 @@
 use Rattle.prints.specs.Laws.{more_more}
-use Rattle.prints.proofs.Joins.{one, join3, join5, nothing, digits_none, digits_last, digits_more}
-use mathlib.Core.Path.{◌≡◌, refl, sym, ◌∙◌}
 use native.Mathlib.Omega.{arith}
-use lib.ListN.{length-set}
-use borrow.Author.Tests.{lt-ltb, le-ltb, le-leb, lt-leb, eq-eqb, ne_eqb}
-use Rattle.prints.specs.Prints.{hex3}
-use borrow.Author.Rules.{rules}
 use Rattle.prints.proofs.then_hex3.Goals as goal
 
 pub returns : goal.returns

@@ -1,9 +1,4 @@
-use mathlib.Core.Path.{◌≡◌, refl, ◌∙◌}
-use native.Mathlib.Omega.{arith}
-use borrow.Author.Rules.{rules}
-use Prim.Native.Nat.{◌+◌, ◌*◌}
 use Rattle.refusals.proofs.Ways.{any_past_way, any_past_way_2, any_past_way_3}
-use Prim.Native.Nat.{ℕ, ◌<◌}
 use Rattle.refusals.proofs.+any_past.Goals as goal
 
 pub returns-then-left-eq0 : goal.returns-then-left-eq0

@@ -1,9 +1,4 @@
 use Rattle.refusals.proofs.Tests.{bad_flags_way, bad_flags_way_2}
-use mathlib.Core.Path.{◌≡◌, refl, sym, ◌∙◌}
-use native.Mathlib.Omega.{arith}
-use lib.ListN.{length-set}
-use borrow.Author.Tests.{lt-ltb, le-ltb, le-leb, lt-leb, eq-eqb, ne_eqb}
-use borrow.Author.Rules.{rules}
 use Rattle.refusals.proofs.bad_flags.Goals as goal
 
 pub returns-then-is_flag : goal.returns-then-is_flag

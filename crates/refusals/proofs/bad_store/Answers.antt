@@ -1,9 +1,5 @@
-use mathlib.Core.Path.{◌≡◌, refl, sym, ◌∙◌}
-use native.Mathlib.Omega.{arith}
-use lib.ListN.{length-set}
-use borrow.Author.Tests.{lt-ltb, le-ltb, le-leb, lt-leb, eq-eqb, ne_eqb}
+use borrow.Author.Tests.{lt-ltb, le-ltb}
 use Rattle.refusals.specs.Refusals.{bad_store}
-use borrow.Author.Rules.{rules}
 use Rattle.refusals.proofs.bad_store.Goals as goal
 
 pub returns-then-len-gt65536 : goal.returns-then-len-gt65536

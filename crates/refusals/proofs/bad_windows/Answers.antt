@@ -1,10 +1,6 @@
 use Rattle.refusals.proofs.Tests.{bad_windows_way_2}
-use mathlib.Core.Path.{◌≡◌, refl, sym, ◌∙◌}
-use native.Mathlib.Omega.{arith}
-use lib.ListN.{length-set}
-use borrow.Author.Tests.{lt-ltb, le-ltb, le-leb, lt-leb, eq-eqb, ne_eqb}
+use borrow.Author.Tests.{lt-ltb}
 use Rattle.refusals.specs.Refusals.{bad_windows}
-use borrow.Author.Rules.{rules}
 use Rattle.refusals.proofs.bad_windows.Goals as goal
 
 pub returns-then-n-gt8 : goal.returns-then-n-gt8

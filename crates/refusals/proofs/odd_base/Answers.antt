@@ -1,5 +1,4 @@
-use mathlib.Core.Path.{◌≡◌, sym, ◌∙◌}
-use borrow.Author.Rules.{rules}
+use mathlib.Core.Path.{sym, ◌∙◌}
 use Rattle.cpu.specs.Fields.{checks_alignment, vbr_of}
 use Rattle.refusals.specs.Refusals.{odd_base}
 use Rattle.refusals.proofs.odd_base.Goals as goal

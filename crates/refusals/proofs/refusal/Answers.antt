@@ -1,6 +1,4 @@
-use mathlib.Core.Path.{◌≡◌, refl, ◌∙◌}
 use Rattle.refusals.proofs.Ways.{refusal_way, refusal_way_2, refusal_way_3, refusal_way_4, refusal_way_5, refusal_way_6, refusal_way_7, refusal_way_8, refusal_way_9, refusal_way_10}
-use borrow.Author.Rules.{rules}
 use Rattle.refusals.proofs.refusal.Goals as goal
 
 pub returns-then-bad_flags : goal.returns-then-bad_flags

@@ -1,4 +1,3 @@
-use Rattle.std.proofs.Common.{◌≡◌, refl, ◌∙◌, rules}
 use Rattle.steps.proofs.StepWays.{begin_address_way}
 use Rattle.steps.proofs.begin_address.Goals as goal
 

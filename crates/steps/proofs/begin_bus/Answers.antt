@@ -1,4 +1,3 @@
-use Rattle.std.proofs.Common.{◌≡◌, refl, ◌∙◌, rules}
 use Rattle.steps.proofs.StepWays.{begin_bus_way}
 use Rattle.steps.proofs.begin_bus.Goals as goal
 

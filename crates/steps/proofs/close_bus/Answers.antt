@@ -1,4 +1,3 @@
-use Rattle.std.proofs.Common.{◌≡◌, refl, ◌∙◌, rules}
 use Rattle.steps.proofs.StepWays.{close_bus_way}
 use Rattle.steps.proofs.close_bus.Goals as goal
 

@@ -1,4 +1,3 @@
-use Rattle.std.proofs.Common.{◌≡◌, refl, ◌∙◌, rules}
 use Rattle.steps.proofs.StepWays.{close_interrupt_way}
 use Rattle.steps.proofs.close_interrupt.Goals as goal
 

@@ -1,4 +1,3 @@
-use Rattle.std.proofs.Common.{◌≡◌, refl, ◌∙◌, rules}
 use Rattle.steps.proofs.StepWays.{enter_bus_error_way}
 use Rattle.steps.proofs.enter_bus_error.Goals as goal
 

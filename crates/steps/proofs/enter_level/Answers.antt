@@ -1,4 +1,3 @@
-use Rattle.std.proofs.Common.{◌≡◌, refl, ◌∙◌, rules}
 use Rattle.steps.proofs.StepWays.{enter_level_way}
 use Rattle.steps.proofs.enter_level.Goals as goal
 

@@ -1,4 +1,4 @@
-use Rattle.std.proofs.Common.{◌≡◌, sym, ◌∙◌, rules, eq-eqb, ne_eqb}
+use Rattle.std.proofs.Common.{eq-eqb, ne_eqb}
 use Rattle.steps.proofs.Odd.{refuses_odd_way, refuses_odd_way_2}
 use Rattle.steps.proofs.refuses_odd.Goals as goal
 

@@ -1,4 +1,3 @@
-use Rattle.std.proofs.Common.{◌≡◌, refl, ◌∙◌, rules}
 use Rattle.steps.proofs.StepWays.{stacked_address_way, stacked_address_way_2}
 use Rattle.steps.proofs.stacked_address.Goals as goal
 

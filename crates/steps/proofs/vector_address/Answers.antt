@@ -1,4 +1,3 @@
-use Rattle.std.proofs.Common.{◌≡◌, refl, ◌∙◌, rules}
 use Rattle.steps.proofs.StepWays.{vector_address_way}
 use Rattle.steps.proofs.vector_address.Goals as goal
 

@@ -1,4 +1,3 @@
-use Rattle.std.proofs.Common.{◌≡◌, refl, ◌∙◌, rules}
 use Rattle.unwind.proofs.UnwindWays.{hand_back_way}
 use Rattle.unwind.proofs.hand_back.Goals as goal
 

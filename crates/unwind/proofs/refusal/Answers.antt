@@ -1,4 +1,3 @@
-use Rattle.std.proofs.Common.{◌≡◌, refl, ◌∙◌, rules}
 use Rattle.unwind.proofs.UnwindWays.{refusal_way}
 use Rattle.unwind.proofs.refusal.Goals as goal
 

@@ -1,4 +1,3 @@
-use Rattle.std.proofs.Common.{◌≡◌, refl, ◌∙◌, rules}
 use Rattle.unwind.proofs.UnwindWays.{return_from_way, return_from_way_2}
 use Rattle.unwind.proofs.return_from.Goals as goal
 

@@ -1,4 +1,4 @@
-use Rattle.std.proofs.Common.{refl, rules}
+use Rattle.std.proofs.Common.{refl}
 use Rattle.unwind.specs.Unwind.{short_rows}
 use Rattle.unwind.proofs.short_rows.Goals as goal
 

@@ -1,5 +1,4 @@
 use Rattle.unwind.proofs.Walks.{rows_fit}
-use Rattle.std.proofs.Common.{◌≡◌, refl, ◌∙◌, rules}
 use Rattle.unwind.proofs.UnwindWays.{walk_way, walk_way_2, walk_way_3}
 use Rattle.unwind.proofs.walk.Goals as goal
 

@@ -1,4 +1,3 @@
-use Rattle.std.proofs.Common.{◌≡◌, ℕ, ◌+◌, ◌*◌, ◌<◌, refl, ◌∙◌, arith, rules}
 use Rattle.access.proofs.Ways.{exception_address_error_way, exception_bus_error_way, jump_vector_way, prefetch_first_way, prefetch_first_way_2, prefetch_first_way_3, prefetch_first_way_4, prefetch_read_way, prefetch_read_way_2, prefetch_second_way, prefetch_second_way_2, prefetch_second_way_3, prefetch_second_way_4, prefetch_second_way_5, prefetch_second_way_6, push_field_way, push_field_way_2, push_field_way_3, push_fields_way, push_fields_way_2, read_at_way, read_at_way_2, read_at_way_3, read_at_way_4, trigger_address_error_way, trigger_address_error_way_2, trigger_address_error_way_3, trigger_bus_error_way, trigger_bus_error_way_2, trigger_bus_error_way_3, trigger_bus_error_way_4, write_at_way, write_at_way_2, write_at_way_3, write_at_way_4}
 use Rattle.access.proofs.ring.+ring.Goals as goal
 

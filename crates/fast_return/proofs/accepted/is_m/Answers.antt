@@ -1,6 +1,4 @@
-use Rattle.std.proofs.Common.{◌≡◌, sym, refl, ◌∙◌, arith, length-set, rules, le-ltb, lt-ltb, eq-eqb, ne_eqb, le-leb}
-use borrow.Author.Tests.{lt-leb}
-use Rattle.types.specs.Kinds.{either}
+use Rattle.std.proofs.Common.{eq-eqb, ne_eqb}
 use Rattle.fast_return.proofs.accepted.is_m.Goals as goal
 
 pub returns-then-n-eq0 : goal.returns-then-n-eq0

@@ -1,4 +1,3 @@
-use Rattle.std.proofs.Common.{◌≡◌, refl, ◌∙◌, rules}
 use Rattle.fast_return.proofs.FindWays.{find_way, find_way_2, find_way_3, find_way_4, find_way_5}
 use Rattle.fast_return.proofs.SeenWays.{place_fits, head_fits, taken_fits}
 use Rattle.fast_return.proofs.quick.find.Goals as goal

@@ -1,4 +1,3 @@
-use Rattle.std.proofs.Common.{◌≡◌, refl, ◌∙◌, rules}
 use Rattle.fast_return.proofs.FindWays.{find_once_way, find_once_way_2, find_once_way_3, find_once_way_4, find_once_way_5}
 use Rattle.fast_return.proofs.SeenWays.{place_fits, head_fits, taken_fits}
 use Rattle.fast_return.proofs.quick.find_once.Goals as goal

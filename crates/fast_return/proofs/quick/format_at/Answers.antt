@@ -1,5 +1,4 @@
-use Rattle.std.proofs.Common.{◌≡◌, sym, refl, ◌∙◌, arith, length-set, rules, le-ltb, lt-ltb, eq-eqb, ne_eqb, le-leb}
-use borrow.Author.Tests.{lt-leb}
+use Rattle.std.proofs.Common.{arith, eq-eqb, ne_eqb}
 use Rattle.fast_return.specs.Quick.{format_at}
 use Rattle.fast_return.proofs.QuickLaws.{format_fits}
 use Rattle.fast_return.proofs.quick.format_at.Goals as goal

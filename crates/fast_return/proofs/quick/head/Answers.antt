@@ -1,5 +1,4 @@
-use Rattle.std.proofs.Common.{◌≡◌, sym, refl, ◌∙◌, arith, length-set, rules, le-ltb, lt-ltb, eq-eqb, ne_eqb, le-leb}
-use borrow.Author.Tests.{lt-leb}
+use Rattle.std.proofs.Common.{sym, ◌∙◌}
 use Rattle.unwind.specs.Frames.{head_of}
 use Rattle.fast_return.proofs.quick.head.Goals as goal
 

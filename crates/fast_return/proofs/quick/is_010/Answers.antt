@@ -1,5 +1,4 @@
-use Rattle.std.proofs.Common.{◌≡◌, sym, refl, ◌∙◌, rules, le-ltb, lt-ltb, eq-eqb, ne_eqb, le-leb}
-use borrow.Author.Tests.{lt-leb}
+use Rattle.std.proofs.Common.{eq-eqb, ne_eqb}
 use Rattle.fast_return.proofs.quick.is_010.Goals as goal
 
 pub returns-then-kind-eq2 : goal.returns-then-kind-eq2

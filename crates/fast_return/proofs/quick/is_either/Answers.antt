@@ -1,5 +1,4 @@
-use Rattle.std.proofs.Common.{◌≡◌, sym, refl, ◌∙◌, rules, le-ltb, lt-ltb, eq-eqb, ne_eqb, le-leb}
-use borrow.Author.Tests.{lt-leb}
+use Rattle.std.proofs.Common.{eq-eqb, ne_eqb}
 use Rattle.fast_return.proofs.quick.is_either.Goals as goal
 
 pub returns-then-n-a : goal.returns-then-n-a

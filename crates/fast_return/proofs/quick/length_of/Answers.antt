@@ -1,4 +1,3 @@
-use Rattle.std.proofs.Common.{◌≡◌, refl, ◌∙◌, rules}
 use Rattle.fast_return.proofs.FindWays.{length_of_way, length_of_way_2}
 use Rattle.fast_return.proofs.quick.length_of.Goals as goal
 

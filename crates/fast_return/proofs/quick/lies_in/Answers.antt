@@ -1,5 +1,4 @@
-use Rattle.std.proofs.Common.{◌≡◌, sym, refl, ◌∙◌, arith, length-set, rules, le-ltb, lt-ltb, eq-eqb, ne_eqb, le-leb}
-use borrow.Author.Tests.{lt-leb}
+use Rattle.std.proofs.Common.{le-ltb, lt-ltb}
 use Rattle.fast_return.specs.Quick.{lies}
 use Rattle.fast_return.proofs.QuickLaws.{lies_way, lies_way_2}
 use Rattle.fast_return.proofs.quick.lies_in.Goals as goal

@@ -1,4 +1,3 @@
-use Rattle.std.proofs.Common.{◌≡◌, refl, ◌∙◌, rules}
 use Rattle.fast_return.proofs.FindWays.{takes_way, takes_way_2, takes_way_3, takes_way_4, takes_way_5, takes_way_6}
 use Rattle.fast_return.proofs.quick.takes.Goals as goal
 

@@ -1,5 +1,4 @@
-use Rattle.std.proofs.Common.{◌≡◌, sym, refl, ◌∙◌, arith, length-set, rules, le-ltb, lt-ltb, eq-eqb, ne_eqb, le-leb}
-use borrow.Author.Tests.{lt-leb}
+use Rattle.std.proofs.Common.{arith}
 use Rattle.fast_return.specs.Quick.{word_at}
 use Rattle.fast_return.proofs.quick.word_at.Goals as goal
 

@@ -1,4 +1,3 @@
-use Rattle.std.proofs.Common.{◌≡◌, refl, ◌∙◌, rules}
 use Rattle.fast_return.proofs.RowWays.{done_way}
 use Rattle.fast_return.proofs.rows.done.Goals as goal
 

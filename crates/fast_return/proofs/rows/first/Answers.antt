@@ -1,4 +1,3 @@
-use Rattle.std.proofs.Common.{◌≡◌, refl, ◌∙◌, rules}
 use Rattle.fast_return.proofs.RowWays.{first_way, first_way_2, first_way_3}
 use Rattle.fast_return.proofs.rows.first.Goals as goal
 

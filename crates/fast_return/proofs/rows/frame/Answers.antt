@@ -1,5 +1,4 @@
 use Rattle.fast_return.proofs.SeenWays.{frame_way, frame_way_2}
-use Rattle.std.proofs.Common.{rules}
 use Rattle.fast_return.proofs.rows.frame.Goals as goal
 
 pub returns-then-q : goal.returns-then-q

@@ -1,4 +1,3 @@
-use Rattle.std.proofs.Common.{◌≡◌, refl, ◌∙◌, rules}
 use Rattle.fast_return.proofs.RowWays.{one_step_way, one_step_way_2}
 use Rattle.fast_return.proofs.rows.one_step.Goals as goal
 

@@ -1,8 +1,7 @@
-use Rattle.std.proofs.Common.{◌≡◌, ◌-◌, ◌≤◌, length, refl, ◌∙◌, arith, rules}
+use Rattle.std.proofs.Common.{◌≡◌, ◌-◌, ◌≤◌, length}
 use Rattle.unwind.specs.Frames.{sight}
 use Rattle.unwind.specs.Returns.{laid}
 use Rattle.fast_return.specs.Rows.{bare_bus, trail_seen}
-use Rattle.fast_return.proofs.StepWalks.{walk_starts, walk_stops, walk_goes, walk_ends, room}
 use Rattle.fast_return.proofs.rows.rows_of.Given as goal
 
 abbrev pub invariant-loop-k : goal.invariant-loop-k

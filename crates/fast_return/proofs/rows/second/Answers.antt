@@ -1,4 +1,3 @@
-use Rattle.std.proofs.Common.{◌≡◌, refl, ◌∙◌, rules}
 use Rattle.fast_return.proofs.RowWays.{second_way, second_way_2, second_way_3}
 use Rattle.fast_return.proofs.rows.second.Goals as goal
 

@@ -1,4 +1,4 @@
-use Rattle.std.proofs.Common.{refl, rules}
+use Rattle.std.proofs.Common.{refl}
 use Rattle.fast_return.specs.Seen.{seen}
 use Rattle.fast_return.proofs.seen.seen_of.Goals as goal
 

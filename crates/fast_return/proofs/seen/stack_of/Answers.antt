@@ -1,5 +1,4 @@
-use Rattle.std.proofs.Common.{◌≡◌, sym, refl, ◌∙◌, arith, length-set, rules, le-ltb, lt-ltb, eq-eqb, ne_eqb, le-leb}
-use borrow.Author.Tests.{lt-leb}
+use Rattle.std.proofs.Common.{eq-eqb, ne_eqb}
 use Rattle.types.specs.Kinds.{is060}
 use Rattle.fast_return.specs.Seen.{stack_of}
 use Rattle.fast_return.proofs.seen.stack_of.Goals as goal

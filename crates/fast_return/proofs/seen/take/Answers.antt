@@ -1,5 +1,4 @@
 use Rattle.fast_return.proofs.SeenWays.{take_way}
-use Rattle.std.proofs.Common.{rules}
 use Rattle.fast_return.proofs.seen.take.Goals as goal
 
 pub returns : goal.returns

@@ -1,9 +1,6 @@
-use mathlib.Core.Path.{◌≡◌, refl, sym, ◌∙◌}
+use mathlib.Core.Path.{sym, ◌∙◌}
 use native.Mathlib.Omega.{arith}
-use lib.ListN.{length-set}
-use borrow.Author.Tests.{lt-ltb, le-ltb, le-leb, lt-leb, eq-eqb, ne_eqb}
 use Rattle.frames.specs.Codes.{fault_code}
-use borrow.Author.Rules.{rules}
 use Rattle.frames.proofs.codes.fault_code.Goals as goal
 
 pub returns-then-has_fc_override : goal.returns-then-has_fc_override

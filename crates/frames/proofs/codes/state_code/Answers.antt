@@ -1,9 +1,5 @@
-use mathlib.Core.Path.{◌≡◌, refl, sym, ◌∙◌}
 use native.Mathlib.Omega.{arith}
-use lib.ListN.{length-set}
-use borrow.Author.Tests.{lt-ltb, le-ltb, le-leb, lt-leb, eq-eqb, ne_eqb}
 use Rattle.frames.specs.Codes.{state_code}
-use borrow.Author.Rules.{rules}
 use Rattle.frames.proofs.codes.state_code.Goals as goal
 
 pub returns : goal.returns

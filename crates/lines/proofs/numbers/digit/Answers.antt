@@ -1,9 +1,6 @@
-use mathlib.Core.Path.{◌≡◌, refl, sym, ◌∙◌}
 use native.Mathlib.Omega.{arith}
-use lib.ListN.{length-set}
-use borrow.Author.Tests.{lt-ltb, le-ltb, le-leb, lt-leb, eq-eqb, ne_eqb}
+use borrow.Author.Tests.{lt-ltb, le-ltb}
 use Rattle.lines.specs.Numbers.{digit_of}
-use borrow.Author.Rules.{rules}
 use Rattle.lines.proofs.numbers.digit.Goals as goal
 
 pub returns-then-b-lt48 : goal.returns-then-b-lt48

@@ -1,9 +1,4 @@
 use native.Mathlib.Omega.{arith}
-use mathlib.Core.Path.{◌≡◌, refl, sym, ◌∙◌}
-use Prim.Native.Nat.{ℕ, ◌+◌, ◌-◌, ◌*◌, ◌^◌, ◌<◌, ◌≤◌}
-use lib.ListN.{length, drop, get_or}
-use borrow.Author.Rules.{rules}
-use Rattle.lines.specs.Numbers.{reading, number_of}
 use Rattle.lines.proofs.Loops.{number_none, number_long, number_read, read_stops, read_goes, read_ends, below, fits}
 use Rattle.lines.proofs.numbers.read.Goals as goal
 

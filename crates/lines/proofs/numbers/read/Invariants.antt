@@ -1,10 +1,7 @@
-use native.Mathlib.Omega.{arith}
-use mathlib.Core.Path.{◌≡◌, refl, sym, ◌∙◌}
-use Prim.Native.Nat.{ℕ, ◌+◌, ◌-◌, ◌*◌, ◌^◌, ◌<◌, ◌≤◌}
-use lib.ListN.{length, drop, get_or}
-use borrow.Author.Rules.{rules}
+use mathlib.Core.Path.{◌≡◌}
+use Prim.Native.Nat.{◌-◌, ◌^◌, ◌<◌, ◌≤◌}
+use lib.ListN.{length, drop}
 use Rattle.lines.specs.Numbers.{reading, number_of}
-use Rattle.lines.proofs.Loops.{number_none, number_long, number_read, read_stops, read_goes, read_ends, below, fits}
 use Rattle.lines.proofs.numbers.read.Given as goal
 
 abbrev pub invariant-loop-i : goal.invariant-loop-i

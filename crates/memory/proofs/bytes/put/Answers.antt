@@ -1,5 +1,4 @@
 use Rattle.memory.proofs.Spans.{width_long, width_word, picked, left}
-use borrow.Author.Rules.{rules}
 use Rattle.memory.proofs.bytes.put.Goals as goal
 
 pub put_long-requires : goal.put_long-requires

@@ -1,9 +1,7 @@
-use mathlib.Core.Path.{◌≡◌, refl, sym, ◌∙◌}
+use mathlib.Core.Path.{refl}
 use native.Mathlib.Omega.{arith}
 use lib.ListN.{length-set}
-use borrow.Author.Tests.{lt-ltb, le-ltb, le-leb, lt-leb, eq-eqb, ne_eqb}
 use Rattle.memory.specs.Bytes.{put_word}
-use borrow.Author.Rules.{rules}
 use Rattle.memory.proofs.bytes.put_word.Goals as goal
 
 pub bounds-store-at-2 : goal.bounds-store-at-2

@@ -1,9 +1,7 @@
-use mathlib.Core.Path.{◌≡◌, refl, sym, ◌∙◌}
 use native.Mathlib.Omega.{arith}
 use lib.ListN.{length-set}
-use borrow.Author.Tests.{lt-ltb, le-ltb, le-leb, lt-leb, eq-eqb, ne_eqb}
+use borrow.Author.Tests.{lt-ltb, le-ltb}
 use Rattle.memory.specs.Log.{note_log}
-use borrow.Author.Rules.{rules}
 use Rattle.memory.proofs.log.put_event.Goals as goal
 
 pub bounds-log-at-then-at-log : goal.bounds-log-at-then-at-log

@@ -1,6 +1,4 @@
 use Rattle.memory.proofs.Clear.{clear_of_way, clear_of_way_2, clear_of_way_3}
-use Rattle.std.proofs.Common.{rules, ◌≡◌, ◌-◌, ◌<◌, ◌≤◌, ℕ, ◌+◌, ◌*◌, length, ◌/◌, ◌%◌, Bool, true, false, nat_eq, nat_lt, List, [], ◌∷◌, ◌++◌, slice_index_or, slice_set, bit_and, bit_or, Fits, w8, w32, w64, Bor, MutBor}
-use Rattle.memory.specs.Served.{meets, clear_of, in_store, served_of, place_of, windows_in_use}
 use Rattle.memory.proofs.windows.+clear_of.Goals as goal
 
 -- src/windows.rt:35:9

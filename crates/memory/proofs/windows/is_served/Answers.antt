@@ -1,6 +1,4 @@
-use mathlib.Core.Path.{◌≡◌, refl, ◌∙◌}
 use Rattle.memory.proofs.Ways.{is_served_way, is_served_way_2}
-use borrow.Author.Rules.{rules}
 use Rattle.memory.proofs.windows.is_served.Goals as goal
 
 pub returns-then-in_store : goal.returns-then-in_store

@@ -1,9 +1,5 @@
-use mathlib.Core.Path.{◌≡◌, refl, sym, ◌∙◌}
-use native.Mathlib.Omega.{arith}
-use lib.ListN.{length-set}
-use borrow.Author.Tests.{lt-ltb, le-ltb, le-leb, lt-leb, eq-eqb, ne_eqb}
+use borrow.Author.Tests.{lt-ltb, le-ltb}
 use Rattle.memory.specs.Served.{place_of}
-use borrow.Author.Rules.{rules}
 use Rattle.memory.proofs.windows.place.Goals as goal
 
 pub returns-then-a-b : goal.returns-then-a-b

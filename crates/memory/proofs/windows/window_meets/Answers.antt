@@ -1,10 +1,4 @@
 use Rattle.memory.proofs.Spans.{window_empty, window_meets, window_past}
-use mathlib.Core.Path.{◌≡◌, refl, sym, ◌∙◌}
-use native.Mathlib.Omega.{arith}
-use lib.ListN.{length-set}
-use borrow.Author.Tests.{lt-ltb, le-ltb, le-leb, lt-leb, eq-eqb, ne_eqb}
-use Rattle.memory.specs.Served.{meets}
-use borrow.Author.Rules.{rules}
 use Rattle.memory.proofs.windows.window_meets.Goals as goal
 
 pub returns-then-size-eq0 : goal.returns-then-size-eq0

@@ -1,13 +1,5 @@
 use mir.Syntax.{w32}
 use mir.Facts.{to_z-of_z}
-use mathlib.Core.Path.{ap}
-use lib.IntN.{ℤ}
-use mathlib.Core.Path.{◌≡◌, refl, sym, ◌∙◌}
-use native.Mathlib.Omega.{arith}
-use lib.ListN.{length-set}
-use borrow.Author.Tests.{lt-ltb, le-ltb, le-leb, lt-leb, eq-eqb, ne_eqb}
-use Rattle.pending.specs.Interrupts.{has_room}
-use borrow.Author.Rules.{rules}
 use Rattle.pending.proofs.interrupts.flow_has_room.Goals as goal
 
 pub returns : goal.returns

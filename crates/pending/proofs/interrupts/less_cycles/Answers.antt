@@ -1,7 +1,6 @@
-use mathlib.Core.Path.{◌≡◌, sym, ◌∙◌}
+use mathlib.Core.Path.{sym, ◌∙◌}
 use mir.Syntax.{w32}
 use mir.Facts.{to_z-of_z}
-use borrow.Author.Rules.{rules}
 use Rattle.pending.proofs.Ways.{less_44, less_46, cycles_44, cycles_46, cycles_kept}
 use Rattle.pending.proofs.interrupts.less_cycles.Goals as goal
 

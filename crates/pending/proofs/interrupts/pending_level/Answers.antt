@@ -1,7 +1,3 @@
-use mathlib.Core.Path.{◌≡◌, refl, sym, ◌∙◌}
-use native.Mathlib.Omega.{arith}
-use lib.ListN.{length-set}
-use borrow.Author.Tests.{lt-ltb, le-ltb, le-leb, lt-leb, eq-eqb, ne_eqb}
 use Rattle.pending.specs.Interrupts.{pending_level}
 use borrow.Author.Rules.{rules}
 use Rattle.pending.proofs.interrupts.pending_level.Goals as goal

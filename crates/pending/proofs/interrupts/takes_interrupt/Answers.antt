@@ -1,9 +1,6 @@
-use mathlib.Core.Path.{◌≡◌, refl, sym, ◌∙◌}
-use native.Mathlib.Omega.{arith}
-use lib.ListN.{length-set}
-use borrow.Author.Tests.{lt-ltb, le-ltb, le-leb, lt-leb, eq-eqb, ne_eqb}
+use mathlib.Core.Path.{sym, ◌∙◌}
+use borrow.Author.Tests.{eq-eqb, ne_eqb}
 use Rattle.pending.specs.Interrupts.{takes_interrupt}
-use borrow.Author.Rules.{rules}
 use Rattle.pending.proofs.interrupts.takes_interrupt.Goals as goal
 
 pub returns-then-level-eq7 : goal.returns-then-level-eq7

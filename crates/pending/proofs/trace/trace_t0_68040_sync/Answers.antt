@@ -1,10 +1,6 @@
 use Rattle.pending.proofs.Ways.{sync_traced}
-use mathlib.Core.Path.{◌≡◌, refl, sym, ◌∙◌}
-use native.Mathlib.Omega.{arith}
-use lib.ListN.{length-set}
-use borrow.Author.Tests.{lt-ltb, le-ltb, le-leb, lt-leb, eq-eqb, ne_eqb}
+use mathlib.Core.Path.{sym, ◌∙◌}
 use Rattle.pending.specs.Trace.{trace_t068040_sync}
-use borrow.Author.Rules.{rules}
 use Rattle.pending.proofs.trace.trace_t0_68040_sync.Goals as goal
 
 pub returns-then-is_040 : goal.returns-then-is_040

@@ -1,4 +1,3 @@
-use Rattle.std.proofs.Common.{ℕ, ◌<◌, arith, rules}
 use Rattle.unwind.proofs.ByteWays.{all_served_way, all_served_way_2, all_served_way_3}
 use Rattle.unwind.proofs.frames.+all_served.Goals as goal
 

@@ -1,4 +1,3 @@
-use Rattle.std.proofs.Common.{◌≡◌, refl, ◌∙◌, rules}
 use Rattle.unwind.proofs.FrameWays.{by_format_way}
 use Rattle.unwind.proofs.frames.by_format.Goals as goal
 

@@ -1,6 +1,4 @@
-use Rattle.unwind.specs.Frames.{byte_of}
 use Rattle.unwind.proofs.ByteWays.{byte_way}
-use Rattle.std.proofs.Common.{rules}
 use Rattle.unwind.proofs.frames.byte.Goals as goal
 
 pub returns : goal.returns

@@ -1,4 +1,3 @@
-use Rattle.std.proofs.Common.{◌≡◌, refl, ◌∙◌, rules}
 use Rattle.unwind.proofs.FrameWays.{byte_address_way}
 use Rattle.unwind.proofs.frames.byte_address.Goals as goal
 

@@ -1,4 +1,4 @@
-use Rattle.std.proofs.Common.{sym, arith, rules}
+use Rattle.std.proofs.Common.{sym, arith}
 use lib.ListN.{get_or-eq_default}
 use Rattle.unwind.proofs.frames.byte_in.Goals as goal
 

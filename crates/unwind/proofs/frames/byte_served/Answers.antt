@@ -1,4 +1,3 @@
-use Rattle.std.proofs.Common.{◌≡◌, refl, ◌∙◌, rules}
 use Rattle.unwind.proofs.FrameWays.{byte_served_way}
 use Rattle.unwind.proofs.frames.byte_served.Goals as goal
 

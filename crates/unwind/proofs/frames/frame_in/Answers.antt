@@ -1,4 +1,3 @@
-use Rattle.std.proofs.Common.{◌≡◌, refl, ◌∙◌, rules}
 use Rattle.unwind.proofs.FrameWays.{frame_in_way, frame_in_way_2, frame_in_way_3, frame_in_way_4}
 use Rattle.unwind.proofs.frames.frame_in.Goals as goal
 

@@ -1,4 +1,3 @@
-use Rattle.std.proofs.Common.{◌≡◌, refl, ◌∙◌, rules}
 use Rattle.unwind.proofs.FrameWays.{head_way, head_way_2}
 use Rattle.unwind.proofs.frames.head.Goals as goal
 

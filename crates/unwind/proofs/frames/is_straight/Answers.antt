@@ -1,5 +1,4 @@
 use Rattle.unwind.proofs.ByteWays.{straight_way, straight_way_2}
-use Rattle.std.proofs.Common.{rules}
 use Rattle.unwind.proofs.frames.is_straight.Goals as goal
 
 pub returns-then-kind-lt3 : goal.returns-then-kind-lt3

@@ -1,4 +1,3 @@
-use Rattle.std.proofs.Common.{◌≡◌, refl, ◌∙◌, rules}
 use Rattle.unwind.proofs.FrameWays.{long_way}
 use Rattle.unwind.proofs.frames.long.Goals as goal
 

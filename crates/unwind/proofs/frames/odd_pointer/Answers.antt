@@ -1,4 +1,3 @@
-use Rattle.std.proofs.Common.{◌≡◌, refl, ◌∙◌, rules}
 use Rattle.unwind.proofs.FrameWays.{odd_pointer_way, odd_pointer_way_2}
 use Rattle.unwind.proofs.frames.odd_pointer.Goals as goal
 

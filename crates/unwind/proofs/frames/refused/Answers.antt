@@ -1,4 +1,3 @@
-use Rattle.std.proofs.Common.{◌≡◌, refl, ◌∙◌}
 use Rattle.unwind.proofs.FrameWays.{refused_way}
 use Rattle.unwind.proofs.frames.refused.Goals as goal
 

@@ -1,5 +1,4 @@
 use Rattle.unwind.proofs.ByteWays.{run_way, run_way_2}
-use Rattle.std.proofs.Common.{rules}
 use Rattle.unwind.proofs.frames.run_served.Goals as goal
 
 pub returns-then-is_zero : goal.returns-then-is_zero

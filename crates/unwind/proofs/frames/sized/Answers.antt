@@ -1,4 +1,3 @@
-use Rattle.std.proofs.Common.{◌≡◌, refl, ◌∙◌, rules}
 use Rattle.unwind.proofs.FrameWays.{sized_way, sized_way_2, sized_way_3}
 use Rattle.unwind.proofs.frames.sized.Goals as goal
 

@@ -1,4 +1,4 @@
-use Rattle.std.proofs.Common.{arith, rules}
+use Rattle.std.proofs.Common.{arith}
 use Rattle.unwind.proofs.ByteWays.{word_way}
 use Rattle.unwind.proofs.frames.word.Goals as goal
 

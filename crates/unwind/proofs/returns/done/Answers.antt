@@ -1,4 +1,3 @@
-use Rattle.std.proofs.Common.{◌≡◌, refl, ◌∙◌, rules}
 use Rattle.unwind.proofs.ReturnWays.{done_way}
 use Rattle.unwind.proofs.returns.done.Goals as goal
 

@@ -1,4 +1,3 @@
-use Rattle.std.proofs.Common.{◌≡◌, refl, ◌∙◌, rules}
 use Rattle.unwind.proofs.ReturnWays.{first_way, first_way_2, first_way_3}
 use Rattle.unwind.proofs.returns.first.Goals as goal
 

@@ -1,4 +1,3 @@
-use Rattle.std.proofs.Common.{◌≡◌, refl, ◌∙◌, rules}
 use Rattle.unwind.proofs.ReturnWays.{one_return_way, one_return_way_2}
 use Rattle.unwind.proofs.returns.one_return.Goals as goal
 

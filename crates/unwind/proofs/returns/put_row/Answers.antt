@@ -1,4 +1,4 @@
-use Rattle.std.proofs.Common.{refl, arith, length-set, rules}
+use Rattle.std.proofs.Common.{refl, arith, length-set}
 use Rattle.unwind.specs.Returns.{put_row}
 use Rattle.unwind.proofs.returns.put_row.Goals as goal
 

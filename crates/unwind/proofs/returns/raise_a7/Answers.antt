@@ -1,4 +1,3 @@
-use Rattle.std.proofs.Common.{◌≡◌, refl, ◌∙◌, rules}
 use Rattle.unwind.proofs.ReturnWays.{raise_a7_way}
 use Rattle.unwind.proofs.returns.raise_a7.Goals as goal
 

@@ -1,4 +1,3 @@
-use Rattle.std.proofs.Common.{◌≡◌, refl, ◌∙◌}
 use Rattle.unwind.proofs.ReturnWays.{refused_way}
 use Rattle.unwind.proofs.returns.refused.Goals as goal
 

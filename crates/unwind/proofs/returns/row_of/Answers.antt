@@ -1,4 +1,4 @@
-use Rattle.std.proofs.Common.{refl, rules}
+use Rattle.std.proofs.Common.{refl}
 use Rattle.unwind.specs.Returns.{row_of}
 use Rattle.unwind.proofs.returns.row_of.Goals as goal
 

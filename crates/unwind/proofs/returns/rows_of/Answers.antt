@@ -1,6 +1,4 @@
-use Rattle.std.proofs.Common.{◌≡◌, ◌-◌, ◌≤◌, length, refl, ◌∙◌, arith, rules}
-use Rattle.unwind.specs.Frames.{sight}
-use Rattle.unwind.specs.Returns.{laid, trail_of}
+use Rattle.std.proofs.Common.{refl, ◌∙◌, arith}
 use Rattle.unwind.proofs.Walks.{walk_starts, walk_stops, walk_goes, walk_ends, room}
 use Rattle.unwind.proofs.returns.rows_of.Goals as goal
 

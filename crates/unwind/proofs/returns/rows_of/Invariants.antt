@@ -1,7 +1,6 @@
-use Rattle.std.proofs.Common.{◌≡◌, ◌-◌, ◌≤◌, length, refl, ◌∙◌, arith, rules}
+use Rattle.std.proofs.Common.{◌≡◌, ◌-◌, ◌≤◌, length}
 use Rattle.unwind.specs.Frames.{sight}
 use Rattle.unwind.specs.Returns.{laid, trail_of}
-use Rattle.unwind.proofs.Walks.{walk_starts, walk_stops, walk_goes, walk_ends, room}
 use Rattle.unwind.proofs.returns.rows_of.Given as goal
 
 abbrev pub invariant-loop-k : goal.invariant-loop-k

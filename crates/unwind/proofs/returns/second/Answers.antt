@@ -1,4 +1,3 @@
-use Rattle.std.proofs.Common.{◌≡◌, refl, ◌∙◌, rules}
 use Rattle.unwind.proofs.ReturnWays.{second_way, second_way_2, second_way_3}
 use Rattle.unwind.proofs.returns.second.Goals as goal
 

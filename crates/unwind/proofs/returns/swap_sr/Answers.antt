@@ -1,4 +1,3 @@
-use Rattle.std.proofs.Common.{◌≡◌, refl, ◌∙◌, rules}
 use Rattle.unwind.proofs.ReturnWays.{swap_sr_way}
 use Rattle.unwind.proofs.returns.swap_sr.Goals as goal
 

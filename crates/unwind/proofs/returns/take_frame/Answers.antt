@@ -1,4 +1,3 @@
-use Rattle.std.proofs.Common.{◌≡◌, refl, ◌∙◌, rules}
 use Rattle.unwind.proofs.ReturnWays.{take_frame_way}
 use Rattle.unwind.proofs.returns.take_frame.Goals as goal
 
