@@ -3,7 +3,7 @@
 
 A reference stands in backticks, in one of these forms; paths count from the root of the repository, but for `crates/` before a crate:
 
-    CRATE/specs/File: name, name       crates/CRATE/specs/File.antt declares each name `pub`
+    CRATE/specs/File: name, name       crates/CRATE/specs/File.antt declares each name `pub`; a law may stand in CRATE/proofs/File
     CRATE/src/file.rt: name            crates/CRATE/src/file.rt has the function
     CRATE/must-fail/name.edit          the edit is there; CRATE/must-fail-long/name.edit one that ./test leaves out
     path/file.rs: name                 the Rust file has the test `fn name`
@@ -35,27 +35,29 @@ UNEQUAL = {
 }
 
 NAME = r"[^\s,:`/()]+"
-SPEC = re.compile(rf"(\w+)/specs/(\w+): ({NAME}(?:, {NAME})*)")
+SPEC = re.compile(rf"(\w+)/(specs|proofs)/(\w+): ({NAME}(?:, {NAME})*)")
 SOURCE = re.compile(rf"(\w+)/src/([\w/]+\.rt): (\w+(?:, \w+)*)")
 EDIT = re.compile(r"(\w+)/must-fail(?:-long)?/(\w+)\.edit")
 TEST = re.compile(r"([\w/.-]+\.rs): (\w+(?:, \w+)*)")
 PATH = re.compile(r"[\w.-]*(?:/[\w.-]*)+")
-WORD = re.compile(r"[\w·′-]+")
+WORD = re.compile(r"[\w'-]+")
 BARE = re.compile(r"(?<![\w/.])(?:docs|tools|crates|host|oracle)/[\w./-]*\w")
 
 # What the papers number: the first cells of the tables.
 ROWS = ([f"D{n}" for n in (1, 2, 3)] + [f"P{n}" for n in range(1, 12)] + ["Also"] + [f"S{n}" for n in range(1, 7)]
         + [f"M{n}" for n in range(1, 5)] + [f"F{n}" for n in range(1, 10)] + [f"N{n}" for n in range(1, 15)])
 
-WRONG = ["types/specs/Tables: exceptionCycle", "types/specs/Tables: exceptionCycles, nothing", "types/specs/Table: exceptionCycles",
-         "typo/specs/Tables: exceptionCycles", "types/must-fail/none.edit", "types/must-fail-long/none.edit", "calls/src/lib.rt: performs", "host/tests/boundary.rs: calls",
+WRONG = ["types/specs/Tables: exception_cycle", "types/specs/Tables: exception_cycles, nothing", "types/specs/Table: exception_cycles",
+         "typo/specs/Tables: exception_cycles", "types/proofs/Tables: exception_cycles", "types/proofs/Laws: exception_cycles", "types/must-fail/none.edit", "types/must-fail-long/none.edit", "calls/src/lib.rt: performs", "host/tests/boundary.rs: calls",
          "host/tests/boundary.rs: no_such_test", "host/tests/none.rs: no_such_test", "docs/NONE.md", "noSuchWordAnywhere", "two words",
-         "types/specs/Tables:exceptionCycles", "Tables: exceptionCycles"]
-WRONG_LINES = ["see docs/NONE.md.", "see (docs/DECISIONS.md, 999)", "a `backtick", "`types/specs/Tables: exceptionCycles` and `docs/NONE.md`"]
-WRONG_SOURCES = ["fn f(a: u8) -> u8 {\n    a\n}\n", "pub fn f(\n    a: u8,\n) -> u8\n    ensures { λ r. ⌜ r < 9 ⌝ }\n{\n    a\n}\n",
-                 "fn f(a: u8) -> u8\n    ensures { λ r. ⌜ (r ≡ 1 → a ≡ 1) × (r < 9) ⌝ }\n{\n    a\n}\n",
-                 "fn f(a: u8) -> bool\n    ensures { λ r. ⌜ a < 256 ⌝ }\n{\n    false\n}\n",
-                 "pub fn f(a: u8) -> bool\n    ensures { λ r. ⌜ a < 256 ⌝ }\n{\n    true\n}\n"]
+         "types/specs/Tables:exception_cycles", "Tables: exception_cycles"]
+WRONG_LINES = ["see docs/NONE.md.", "see (docs/DECISIONS.md, 999)", "a `backtick", "`types/specs/Tables: exception_cycles` and `docs/NONE.md`"]
+WRONG_SOURCES = ["fn f(a: u8) -> u8 {\n    a\n}\n", "pub fn f(\n    a: u8,\n) -> u8\n    ensures { result < 9 }\n{\n    a\n}\n",
+                 "fn f(a: u8) -> u8\n    ensures { (result ≡ 1 → a ≡ 1) × (result < 9) }\n{\n    a\n}\n",
+                 "fn f(a: u8) -> u8\n    ensures one { result ≡ 1 → a ≡ 1 }\n    ensures low { result < 9 }\n{\n    a\n}\n",
+                 "fn f(a: u8) -> u8\n    requires { a ≡ 1 }\n    ensures { result < 9 }\n{\n    a\n}\n",
+                 "fn f(a: u8) -> bool\n    ensures { a < 256 }\n{\n    false\n}\n",
+                 "pub fn f(a: u8) -> bool\n    ensures { a < 256 }\n{\n    true\n}\n"]
 
 
 @functools.cache
@@ -87,8 +89,8 @@ def tests(path, name):
 def missing(reference):
     """What of a reference is not there, in words."""
     if found := SPEC.fullmatch(reference):
-        path = f"crates/{found[1]}/specs/{found[2]}.antt"
-        return [f"{path}: {name} is not declared" for name in found[3].split(", ") if not declares(path, name)]
+        path = f"crates/{found[1]}/{found[2]}/{found[3]}.antt"
+        return [f"{path}: {name} is not declared" for name in found[4].split(", ") if not declares(path, name)]
     if found := SOURCE.fullmatch(reference):
         path = f"crates/{found[1]}/src/{found[2]}"
         return [f"{path}: no function {name}" for name in found[3].split(", ") if not re.search(rf"\bfn {name}\b", text(path))]
@@ -115,8 +117,7 @@ def line_faults(line):
 
 def equal(head):
     """Whether one of the things that a function ensures is an equation under no condition."""
-    ensured = re.search(r"ensures (.*)", head)
-    return ensured is not None and any("≡" in part and "→" not in part for part in ensured[1].split("×"))
+    return any("≡" in part and "→" not in part for ensured in re.findall(r"\bensures\b(.*)", head) for part in ensured.split("×"))
 
 
 def bare(source):
