@@ -14,8 +14,9 @@ Anything else in backticks is an error, but for the commands of COMMANDS. Outsid
 must be there too, and `docs/DECISIONS.md, N` a decision. The rows of ROWS must each begin a line of a table. And what the document says of
 contracts is looked at: every function of a crate, but for those of PROGRAMS, has one that is an equation under no condition. But for those
 of UNEQUAL: these have none, and the document names each. And but for a function that is not public and whose body is
-`true`: it hands on what is true of its arguments by their types. Prints what is missing; exit status 1 if anything is. Before that it is
-tried on references, lines and functions that are wrong and on a document without rows: if one of these passes, the exit status is 1 too.
+`true`: it hands on what is true of its arguments by their types. And each edit of must-fail-long fits its file, which `rt ci` says of those of
+must-fail alone. Prints what is missing; exit status 1 if anything is. Before that it is tried on references, lines, functions and edits that
+are wrong and on a document without rows: if one of these passes, the exit status is 1 too.
 """
 import functools
 import glob
@@ -58,6 +59,8 @@ WRONG_SOURCES = ["fn f(a: u8) -> u8 {\n    a\n}\n", "pub fn f(\n    a: u8,\n) ->
                  "fn f(a: u8) -> u8\n    requires { a ≡ 1 }\n    ensures { result < 9 }\n{\n    a\n}\n",
                  "fn f(a: u8) -> bool\n    ensures { a < 256 }\n{\n    false\n}\n",
                  "pub fn f(a: u8) -> bool\n    ensures { a < 256 }\n{\n    true\n}\n"]
+WRONG_EDITS = ["file: src/lib.rt\nold: no such text\nnew: other\n", "file: src/none.rt\nold: a\nnew: b\n", "file: src/lib.rt\n",
+               "file: src/lib.rt\nold: fn \nnew: fm \n", "file: src/lib.rt\nold: fn kept(\nnew: fn held(\nold: fn kept(\nnew: fn kept(\n"]
 
 
 @functools.cache
@@ -134,6 +137,25 @@ def contracts():
             + [f"{name} is to have no equation and has one, or is not there" for name in sorted(UNEQUAL - found)])
 
 
+def unfit(crate, edit):
+    """Whether an edit fits no text: each `old:` must stand once in what the pairs before it made of its file."""
+    head, *pairs = re.split(r"^old: ", edit, flags=re.M)
+    name = re.search(r"^file: (.*)$", head, re.M)
+    body = text(f"crates/{crate}/{name[1]}") if name else ""
+    for pair in pairs:
+        old, _, new = pair.partition("\nnew: ")
+        if body.count(old) != 1 or "\n" in old:
+            return True
+        body = body.replace(old, new.split("\n")[0])
+    return not pairs
+
+
+def edits():
+    """The edits of must-fail-long that fit no text."""
+    files = sorted(glob.glob("crates/*/must-fail-long/*.edit", root_dir=ROOT))
+    return [f"{path}: fits no text" for path in files if unfit(path.split("/")[1], text(path))]
+
+
 def unnamed(document):
     """The functions of UNEQUAL that a document does not name."""
     named = {f"{crate}/src/{file}: {name}" for crate, file, names in SOURCE.findall(document) for name in names.split(", ")}
@@ -151,18 +173,18 @@ def main():
     if sys.argv[1:2] != ["--check"] or len(sys.argv) > 3:
         sys.exit(__doc__)
     passed = [wrong for wrong in WRONG if not missing(wrong)] + [wrong for wrong in WRONG_LINES if not line_faults(wrong)]
-    passed += [wrong for wrong in WRONG_SOURCES if bare(wrong) != ["f"]]
+    passed += [wrong for wrong in WRONG_SOURCES if bare(wrong) != ["f"]] + [wrong for wrong in WRONG_EDITS if not unfit("types", wrong)]
     if passed or len(faults("")) != len(ROWS):
         sys.exit(f"assurance.py does not find what is wrong: {passed}")
     path = sys.argv[2] if len(sys.argv) > 2 else os.path.join(ROOT, DOCUMENT)
     with open(path, encoding="utf-8") as file:
         document = file.read()
-    found = faults(document) + unnamed(document) + contracts()
+    found = faults(document) + unnamed(document) + contracts() + edits()
     for fault in found:
         print(f"{os.path.basename(path)}: {fault}")
     if found:
         sys.exit(1)
-    tried = len(WRONG) + len(WRONG_LINES) + len(WRONG_SOURCES)
+    tried = len(WRONG) + len(WRONG_LINES) + len(WRONG_SOURCES) + len(WRONG_EDITS)
     print(f"{os.path.basename(path)}: {document.count('`') // 2} references, all there; {tried} wrong ones are found")
 
 
