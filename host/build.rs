@@ -1,24 +1,24 @@
 //! Links the archive of the proved code: liblent.a in the folder M68K_LIB, or in
-//! target/staticlib of the repository; with the feature `ways` also libways.a there.
+//! crates/lent/out of the repository; with the feature `ways` also libways.a, there or
+//! in crates/ways/out.
 
 use std::path::PathBuf;
 
 fn main() {
     let here = PathBuf::from(std::env::var("CARGO_MANIFEST_DIR").unwrap());
-    let dir = match std::env::var_os("M68K_LIB") {
-        Some(dir) => PathBuf::from(dir),
-        None => here.join("../target/staticlib"),
-    };
     let mut names = vec!["lent"];
     if std::env::var_os("CARGO_FEATURE_WAYS").is_some() {
         names.push("ways");
     }
     println!("cargo::rerun-if-env-changed=M68K_LIB");
     for name in names {
-        let file = dir.join(format!("lib{name}.a"));
+        let dir = match std::env::var_os("M68K_LIB") {
+            Some(dir) => PathBuf::from(dir),
+            None => here.join("../crates").join(name).join("out"),
+        };
         assert!(
-            file.is_file(),
-            "lib{name}.a is not there: run `rt staticlib {name}`, or name its folder in M68K_LIB"
+            dir.join(format!("lib{name}.a")).is_file(),
+            "lib{name}.a is not there: run `rt lib` in crates/{name}, or name its folder in M68K_LIB"
         );
         let dir = dir.canonicalize().unwrap();
         println!("cargo::rustc-link-search=native={}", dir.display());

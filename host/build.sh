@@ -5,19 +5,20 @@
 # Exit status 3: left out, the archive or cargo is not there; another but 0: failed.
 here=$(cd "$(dirname "$0")" && pwd) || exit 1
 root=$(dirname "$here")
-lib=${M68K_LIB:-$root/target/staticlib}
+lent=${M68K_LIB:-$root/crates/lent/out}/liblent.a
+leaves=${M68K_LIB:-$root/crates/leaves/out}/libleaves.a
 
 if ! command -v cargo >/dev/null 2>&1; then
     echo "host: left out: cargo is not there"
     exit 3
 fi
-if [ ! -f "$lib/liblent.a" ]; then
-    echo "host: left out: liblent.a is not there: run rt staticlib lent"
+if [ ! -f "$lent" ]; then
+    echo "host: left out: liblent.a is not there: run rt lib in crates/lent"
     exit 3
 fi
 python3 "$here/mirror.py" --check || exit 1
 
-export M68K_LIB="$lib" CARGO_TARGET_DIR="$root/target/host"
+export CARGO_TARGET_DIR="$root/target/host"
 host="--release --offline --manifest-path $here/Cargo.toml --workspace"
 if ! cargo build -q $host; then
     echo "host: error: the build failed"
@@ -41,7 +42,7 @@ if command -v gcc >/dev/null 2>&1; then
     made=$root/target/host/c
     mkdir -p "$made"
     for name in examples/entry tests/lent; do
-        gcc -std=c11 -O1 -g -Wall -Wextra -Werror -I "$here/include" -o "$made/$(basename $name)" "$here/$name.c" "$lib/liblent.a" || exit 1
+        gcc -std=c11 -O1 -g -Wall -Wextra -Werror -I "$here/include" -o "$made/$(basename $name)" "$here/$name.c" "$lent" || exit 1
     done
     for language in '-x c -std=c99 -pedantic' '-x c -std=c17 -pedantic' '-x c++ -std=c++17 -pedantic'; do
         echo '#include "m68k.h"' | gcc $language -Wall -Wextra -Werror -fsyntax-only -I "$here/include" - || exit 1
@@ -61,8 +62,8 @@ else
     echo "host: left out: gcc is not there, so that nothing is tested from C"
 fi
 
-if [ ! -f "${ORACLE_LIFTED:-$root/target/oracle/lifted}/lifted.rs" ] || [ ! -f "$lib/libleaves.a" ]; then
-    echo "host: leaves left out: the oracle's lifted text or libleaves.a (rt staticlib leaves) is not there"
+if [ ! -f "${ORACLE_LIFTED:-$root/target/oracle/lifted}/lifted.rs" ] || [ ! -f "$leaves" ]; then
+    echo "host: leaves left out: the oracle's lifted text or libleaves.a (rt lib in crates/leaves) is not there"
     exit 0
 fi
 if ! cargo test -q --offline --manifest-path "$here/leaves/Cargo.toml"; then

@@ -21,8 +21,8 @@ HERE = pathlib.Path(__file__).resolve().parent
 LENT, LEAVES, NUMBERED, PERFORMED, ANSWERED = "lent", "leaves", "boundary", "calls", "answers"
 SCALARS = {"bool": 1, "u8": 1, "i8": 1, "u16": 2, "i16": 2, "u32": 4, "i32": 4, "u64": 8, "i64": 8, "usize": 8}
 
-STRUCT = re.compile(r"#\[repr\(C\)\]\s*pub struct (\w+)\s*\{([^}]*)\}")
-EXPORT = re.compile(r'#\[no_mangle\]\s*pub extern "C" fn (\w+)\s*\(([^)]*)\)\s*(?:->\s*([\w:]+))?\s*(requires)?')
+STRUCT = re.compile(r"#\[repr\(C\)\]\s*(?:#\[derive\([^)]*\)\]\s*)?pub struct (\w+)\s*\{([^}]*)\}")
+EXPORT = re.compile(r'#\[unsafe\(no_mangle\)\]\s*pub extern "C" fn (\w+)\s*\(([^)]*)\)\s*(?:->\s*([\w:]+))?\s*(requires)?')
 FUNCTION = re.compile(r"^(?:pub )?fn (\w+)\b.*?^\}", re.M | re.S)
 ARM = re.compile(r"^\s*(\d+) => (?:\{(.*?)^        \}|(.*?),$)", re.M | re.S)
 ARRAY = re.compile(r"\[\s*([\w:]+)\s*;\s*(\d+)\s*\]$")
@@ -34,7 +34,7 @@ STRUCTS_HEAD = "#![allow(dead_code)]\n\nuse std::mem::{align_of, offset_of, size
 C_HEAD = """\
 /* Written by mirror.py from the Rattle sources: do not edit.
  *
- * Exception, fault, trace and interrupt entry of the M68000 family: the functions of liblent.a (`rt staticlib lent`).
+ * Exception, fault, trace and interrupt entry of the M68000 family: the functions of liblent.a (`rt lib` in crates/lent).
  * docs/HOST.md has what is proved and what is assumed; docs/REFERENCE.md the kinds, refusals and events.
  *
  * Every value of every field has a meaning; the bytes between fields have none. A byte that is a flag (exception_processing,
@@ -96,7 +96,7 @@ def used(crates, top):
     for line in (crates.parent / "crates.txt").read_text().splitlines():
         name, _, rest = line.split("#")[0].partition(":")
         if name.strip():
-            deps[name.strip()] = rest.split()
+            deps[name.split()[0]] = rest.split()
     if top not in deps:
         raise Bad(f"crates.txt has no crate {top}")
     return [name for name in reversed(deps[top]) if name in deps] + [top]

@@ -3,7 +3,7 @@
 
 A reference stands in backticks, in one of these forms; paths count from the root of the repository, but for `crates/` before a crate:
 
-    CRATE/specs/File: name, name       crates/CRATE/specs/File.antt declares each name `pub`
+    CRATE/specs/File: name, name       crates/CRATE/specs/File.antt declares each name `pub`; a law may stand in CRATE/proofs/File
     CRATE/src/file.rt: name            crates/CRATE/src/file.rt has the function
     CRATE/must-fail/name.edit          the edit is there; CRATE/must-fail-long/name.edit one that ./test leaves out
     path/file.rs: name                 the Rust file has the test `fn name`
@@ -14,8 +14,9 @@ Anything else in backticks is an error, but for the commands of COMMANDS. Outsid
 must be there too, and `docs/DECISIONS.md, N` a decision. The rows of ROWS must each begin a line of a table. And what the document says of
 contracts is looked at: every function of a crate, but for those of PROGRAMS, has one that is an equation under no condition. But for those
 of UNEQUAL: these have none, and the document names each. And but for a function that is not public and whose body is
-`true`: it hands on what is true of its arguments by their types. Prints what is missing; exit status 1 if anything is. Before that it is
-tried on references, lines and functions that are wrong and on a document without rows: if one of these passes, the exit status is 1 too.
+`true`: it hands on what is true of its arguments by their types. And each edit of must-fail-long fits its file, which `rt ci` says of those of
+must-fail alone. Prints what is missing; exit status 1 if anything is. Before that it is tried on references, lines, functions and edits that
+are wrong and on a document without rows: if one of these passes, the exit status is 1 too.
 """
 import functools
 import glob
@@ -35,27 +36,31 @@ UNEQUAL = {
 }
 
 NAME = r"[^\s,:`/()]+"
-SPEC = re.compile(rf"(\w+)/specs/(\w+): ({NAME}(?:, {NAME})*)")
+SPEC = re.compile(rf"(\w+)/(specs|proofs)/(\w+): ({NAME}(?:, {NAME})*)")
 SOURCE = re.compile(rf"(\w+)/src/([\w/]+\.rt): (\w+(?:, \w+)*)")
 EDIT = re.compile(r"(\w+)/must-fail(?:-long)?/(\w+)\.edit")
 TEST = re.compile(r"([\w/.-]+\.rs): (\w+(?:, \w+)*)")
 PATH = re.compile(r"[\w.-]*(?:/[\w.-]*)+")
-WORD = re.compile(r"[\w·′-]+")
+WORD = re.compile(r"[\w'-]+")
 BARE = re.compile(r"(?<![\w/.])(?:docs|tools|crates|host|oracle)/[\w./-]*\w")
 
 # What the papers number: the first cells of the tables.
 ROWS = ([f"D{n}" for n in (1, 2, 3)] + [f"P{n}" for n in range(1, 12)] + ["Also"] + [f"S{n}" for n in range(1, 7)]
         + [f"M{n}" for n in range(1, 5)] + [f"F{n}" for n in range(1, 10)] + [f"N{n}" for n in range(1, 15)])
 
-WRONG = ["types/specs/Tables: exceptionCycle", "types/specs/Tables: exceptionCycles, nothing", "types/specs/Table: exceptionCycles",
-         "typo/specs/Tables: exceptionCycles", "types/must-fail/none.edit", "types/must-fail-long/none.edit", "calls/src/lib.rt: performs", "host/tests/boundary.rs: calls",
+WRONG = ["types/specs/Tables: exception_cycle", "types/specs/Tables: exception_cycles, nothing", "types/specs/Table: exception_cycles",
+         "typo/specs/Tables: exception_cycles", "types/proofs/Tables: exception_cycles", "types/proofs/Laws: exception_cycles", "types/must-fail/none.edit", "types/must-fail-long/none.edit", "calls/src/lib.rt: performs", "host/tests/boundary.rs: calls",
          "host/tests/boundary.rs: no_such_test", "host/tests/none.rs: no_such_test", "docs/NONE.md", "noSuchWordAnywhere", "two words",
-         "types/specs/Tables:exceptionCycles", "Tables: exceptionCycles"]
-WRONG_LINES = ["see docs/NONE.md.", "see (docs/DECISIONS.md, 999)", "a `backtick", "`types/specs/Tables: exceptionCycles` and `docs/NONE.md`"]
-WRONG_SOURCES = ["fn f(a: u8) -> u8 {\n    a\n}\n", "pub fn f(\n    a: u8,\n) -> u8\n    ensures { λ r. ⌜ r < 9 ⌝ }\n{\n    a\n}\n",
-                 "fn f(a: u8) -> u8\n    ensures { λ r. ⌜ (r ≡ 1 → a ≡ 1) × (r < 9) ⌝ }\n{\n    a\n}\n",
-                 "fn f(a: u8) -> bool\n    ensures { λ r. ⌜ a < 256 ⌝ }\n{\n    false\n}\n",
-                 "pub fn f(a: u8) -> bool\n    ensures { λ r. ⌜ a < 256 ⌝ }\n{\n    true\n}\n"]
+         "types/specs/Tables:exception_cycles", "Tables: exception_cycles"]
+WRONG_LINES = ["see docs/NONE.md.", "see (docs/DECISIONS.md, 999)", "a `backtick", "`types/specs/Tables: exception_cycles` and `docs/NONE.md`"]
+WRONG_SOURCES = ["fn f(a: u8) -> u8 {\n    a\n}\n", "pub fn f(\n    a: u8,\n) -> u8\n    ensures { result < 9 }\n{\n    a\n}\n",
+                 "fn f(a: u8) -> u8\n    ensures { (result ≡ 1 → a ≡ 1) × (result < 9) }\n{\n    a\n}\n",
+                 "fn f(a: u8) -> u8\n    ensures one { result ≡ 1 → a ≡ 1 }\n    ensures low { result < 9 }\n{\n    a\n}\n",
+                 "fn f(a: u8) -> u8\n    requires { a ≡ 1 }\n    ensures { result < 9 }\n{\n    a\n}\n",
+                 "fn f(a: u8) -> bool\n    ensures { a < 256 }\n{\n    false\n}\n",
+                 "pub fn f(a: u8) -> bool\n    ensures { a < 256 }\n{\n    true\n}\n"]
+WRONG_EDITS = ["file: src/lib.rt\nold: no such text\nnew: other\n", "file: src/none.rt\nold: a\nnew: b\n", "file: src/lib.rt\n",
+               "file: src/lib.rt\nold: fn \nnew: fm \n", "file: src/lib.rt\nold: fn kept(\nnew: fn held(\nold: fn kept(\nnew: fn kept(\n"]
 
 
 @functools.cache
@@ -87,8 +92,8 @@ def tests(path, name):
 def missing(reference):
     """What of a reference is not there, in words."""
     if found := SPEC.fullmatch(reference):
-        path = f"crates/{found[1]}/specs/{found[2]}.antt"
-        return [f"{path}: {name} is not declared" for name in found[3].split(", ") if not declares(path, name)]
+        path = f"crates/{found[1]}/{found[2]}/{found[3]}.antt"
+        return [f"{path}: {name} is not declared" for name in found[4].split(", ") if not declares(path, name)]
     if found := SOURCE.fullmatch(reference):
         path = f"crates/{found[1]}/src/{found[2]}"
         return [f"{path}: no function {name}" for name in found[3].split(", ") if not re.search(rf"\bfn {name}\b", text(path))]
@@ -115,8 +120,7 @@ def line_faults(line):
 
 def equal(head):
     """Whether one of the things that a function ensures is an equation under no condition."""
-    ensured = re.search(r"ensures (.*)", head)
-    return ensured is not None and any("≡" in part and "→" not in part for part in ensured[1].split("×"))
+    return any("≡" in part and "→" not in part for ensured in re.findall(r"\bensures\b(.*)", head) for part in ensured.split("×"))
 
 
 def bare(source):
@@ -131,6 +135,25 @@ def contracts():
     found = {f"{path.partition('/')[2]}: {name}" for path in files for name in bare(text(path))}
     return ([f"{name} has no equation" for name in sorted(found - UNEQUAL)]
             + [f"{name} is to have no equation and has one, or is not there" for name in sorted(UNEQUAL - found)])
+
+
+def unfit(crate, edit):
+    """Whether an edit fits no text: each `old:` must stand once in what the pairs before it made of its file."""
+    head, *pairs = re.split(r"^old: ", edit, flags=re.M)
+    name = re.search(r"^file: (.*)$", head, re.M)
+    body = text(f"crates/{crate}/{name[1]}") if name else ""
+    for pair in pairs:
+        old, _, new = pair.partition("\nnew: ")
+        if body.count(old) != 1 or "\n" in old:
+            return True
+        body = body.replace(old, new.split("\n")[0])
+    return not pairs
+
+
+def edits():
+    """The edits of must-fail-long that fit no text."""
+    files = sorted(glob.glob("crates/*/must-fail-long/*.edit", root_dir=ROOT))
+    return [f"{path}: fits no text" for path in files if unfit(path.split("/")[1], text(path))]
 
 
 def unnamed(document):
@@ -150,18 +173,18 @@ def main():
     if sys.argv[1:2] != ["--check"] or len(sys.argv) > 3:
         sys.exit(__doc__)
     passed = [wrong for wrong in WRONG if not missing(wrong)] + [wrong for wrong in WRONG_LINES if not line_faults(wrong)]
-    passed += [wrong for wrong in WRONG_SOURCES if bare(wrong) != ["f"]]
+    passed += [wrong for wrong in WRONG_SOURCES if bare(wrong) != ["f"]] + [wrong for wrong in WRONG_EDITS if not unfit("types", wrong)]
     if passed or len(faults("")) != len(ROWS):
         sys.exit(f"assurance.py does not find what is wrong: {passed}")
     path = sys.argv[2] if len(sys.argv) > 2 else os.path.join(ROOT, DOCUMENT)
     with open(path, encoding="utf-8") as file:
         document = file.read()
-    found = faults(document) + unnamed(document) + contracts()
+    found = faults(document) + unnamed(document) + contracts() + edits()
     for fault in found:
         print(f"{os.path.basename(path)}: {fault}")
     if found:
         sys.exit(1)
-    tried = len(WRONG) + len(WRONG_LINES) + len(WRONG_SOURCES)
+    tried = len(WRONG) + len(WRONG_LINES) + len(WRONG_SOURCES) + len(WRONG_EDITS)
     print(f"{os.path.basename(path)}: {document.count('`') // 2} references, all there; {tried} wrong ones are found")
 
 

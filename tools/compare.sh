@@ -7,17 +7,14 @@ set -euo pipefail
 cd "$(dirname "${BASH_SOURCE[0]}")/.."
 source_of_rust=$(cd "$1" && pwd); seed=$2; count=$3; lists=${4:-0}
 unset M68K_DIAG_ADDRESS_ERROR || true
-rt check lent leaves ways
-# The archives are made one beside the other and beside the oracle: each takes one processor.
-rt staticlib lent & lent=$!
-{ rt staticlib leaves && rt staticlib ways; } & others=$!
+# The archives are made beside the oracle.
+tools/built.sh lent ways leaves & archives=$!
 oracle/build.sh test "$source_of_rust"
-wait $lent
-wait $others
+wait $archives
 python3 host/mirror.py --check
 host/build.sh test
 # Once more with the archive that says which way a call goes.
-CARGO_TARGET_DIR=$PWD/target/host M68K_LIB=$PWD/target/staticlib cargo build -q --release --offline --manifest-path host/programs/Cargo.toml --features ways --bin compare
+CARGO_TARGET_DIR=$PWD/target/host cargo build -q --release --offline --manifest-path host/programs/Cargo.toml --features ways --bin compare
 target/host/release/compare --file oracle/examples.txt
 target/host/release/compare --seed "$seed" --count "$count"
 if [ "$lists" -gt 0 ]; then

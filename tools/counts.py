@@ -29,7 +29,7 @@ def crates():
     for line in text_of(os.path.join(ROOT, "crates.txt")).split("\n"):
         name, colon, _ = line.split("#")[0].partition(":")
         if colon:
-            yield name.strip()
+            yield name.split()[0]
 
 
 def row(crate):

@@ -22,7 +22,7 @@ def graph():
         for line in lines:
             name, colon, rest = line.split("#")[0].partition(":")
             if colon:
-                found[name.strip()] = rest.split()
+                found[name.split()[0]] = rest.split()
     return found
 
 

@@ -1,28 +1,29 @@
 #!/usr/bin/env python3
-"""generate.py [--check | --proofs] [CRATE ..]: writes the files of tools/manifest.txt again, of all crates or of the named ones.
+"""generate.py [--check] [CRATE ..]: writes the files of tools/manifest.txt again, of all crates or of the named ones.
 
-Each is made from the code and the definitions alone, in seconds and without the prover.
+Each is made from the code and the definitions alone, in seconds and without the prover. The imports of a file of proofs/ are the tools' only
+where it is new or its laws change: after that rt keeps them (`rt check --fix-imports`, `rt tidy`), and they name no definition of the
+repository by another path than the tools do.
 --check    writes nothing: says which file is not what the tools give, which is not there, and which has the first line of a
            written file and no line in the manifest; exit status 1 where one is
---proofs   then runs the tools whose proof files need the prover's list of what is to be proved (`rt dev CRATE`): ways.py, rows.py and
-           arms.py. These files are ordinary ones: look at the difference before you keep it
 """
 import argparse
 import importlib
 import os
+import re
 import shlex
-import subprocess
 import sys
 
 sys.dont_write_bytecode = True
 HERE = os.path.dirname(os.path.abspath(__file__))
 ROOT = os.path.dirname(HERE)
 sys.path.insert(0, HERE)
+OWN = r"Rattle\.(?!std\.)"  # a module of the repository
 FIRST = "-- Written by tools/generate.py from tools/manifest.txt: not edited by hand.\n"
 
 
 def runs(crates):
-    """(crate, tool, file or `-`, words) of each line of the manifest."""
+    """(crate, tool, file, words) of each line of the manifest."""
     with open(os.path.join(HERE, "manifest.txt"), encoding="utf-8") as lines:
         for line in lines:
             words = shlex.split(line, comments=True)
@@ -34,15 +35,30 @@ def made(crates):
     """The files that the tools give, path -> text; and how many runs failed, each with its reason printed."""
     files, failed = {}, 0
     for crate, tool, name, words in runs(crates):
-        if name != "-":
-            try:
-                for path, text in importlib.import_module(tool).texts(crate, name, words).items():
-                    assert path not in files, "another line of the manifest writes it"
-                    files[path] = FIRST + text
-            except (AssertionError, KeyError, OSError) as error:
-                failed += 1
-                print(f"{crate} {tool} {name}: cannot be made: {error or type(error).__name__}")
+        try:
+            for path, text in importlib.import_module(tool).texts(crate, name, words).items():
+                assert path not in files, "another line of the manifest writes it"
+                files[path] = FIRST + text
+        except (AssertionError, KeyError, OSError) as error:
+            failed += 1
+            print(f"{crate} {tool} {name}: cannot be made: {error or type(error).__name__}")
     return files, failed
+
+
+def parted(text):
+    """The lines of a text without its imports, and the names that it imports, each with its module."""
+    use = r"^use (\S+)\.\{([^{}]*)\}\n"
+    names = {(module, name.strip()) for module, listed in re.findall(use, text, re.M) for name in listed.split(",") if name.strip()}
+    return re.sub(use, "", text, flags=re.M).split("\n"), names
+
+
+def same(path, old, new):
+    """Whether a file is what the tools give: a law file may lack imports, and has those of the library from where rt found them."""
+    if old is None or old == new or "/proofs/" not in path:
+        return old == new
+    (lines, names), (wanted, given) = parted(old), parted(new)
+    library = {name for module, name in given if module.startswith("Rattle.std.")}
+    return lines == wanted and all((module, name) in given or name in library and not re.match(OWN, module) for module, name in names)
 
 
 def read(path):
@@ -67,14 +83,14 @@ def write(path, text):
     put(path, FIRST + text)
     folder, name = os.path.split(path)
     module, lib = f"pub mod {name.removesuffix('.antt')}\n", os.path.join(folder, "Lib.antt")
-    if name != "Proof.antt" and module not in (read(lib) or ""):
+    if module not in (read(lib) or ""):
         put(lib, (read(lib) or "") + module)
 
 
 def written(crates):
     """The files that have the first line of a written file."""
     for base, folders, names in os.walk(os.path.join(ROOT, "crates")):
-        folders.sort()
+        folders[:] = sorted(f for f in folders if f != "out")
         path = os.path.relpath(base, ROOT)
         if len(path.split(os.sep)) > 1 and crates and path.split(os.sep)[1] not in crates:
             continue
@@ -87,7 +103,7 @@ def check(crates):
     files, bad = made(crates)
     for path, text in files.items():
         old = read(path)
-        if old != text:
+        if not same(path, old, text):
             bad += 1
             print(f"{path}: " + ("is not there" if old is None else "is not what the tools give; run tools/generate.py"))
     for path in written(crates):
@@ -98,29 +114,18 @@ def check(crates):
     return 1 if bad else 0
 
 
-def prove(crates):
-    for crate, tool, name, words in runs(crates):
-        laws = ["--laws", name] if name != "-" else []
-        if tool in ("ways", "rows", "arms"):
-            print(f"{crate} {tool} {name}", flush=True)
-            subprocess.run([sys.executable, os.path.join(HERE, tool + ".py"), crate, *words, *laws], cwd=ROOT, check=True)
-
-
 def main():
     p = argparse.ArgumentParser(description=__doc__, formatter_class=argparse.RawDescriptionHelpFormatter)
     p.add_argument("--check", action="store_true")
-    p.add_argument("--proofs", action="store_true")
     p.add_argument("crates", nargs="*")
     a = p.parse_args()
     if a.check:
         return check(a.crates)
     files, failed = made(a.crates)
     for path, text in files.items():
-        if read(path) != text:
+        if not same(path, read(path), text):
             write(path, text.removeprefix(FIRST))
             print(f"{path}: written")
-    if a.proofs and not failed:
-        prove(a.crates)
     return 1 if failed else 0
 
 

@@ -4,10 +4,9 @@
 Builds the oracle, the archive of the proved code and `compare`, then compares CASES generated cases (100,000,000) and NESTS nests
 (2,000,000), spread over eight seeds, in steps. After each step it says how far it is, adds a line to DIR/steps.txt
 and writes DIR/summary.txt: cases by call and by kind, refusals by number, nests, seeds, differences. Stopped at any time and started
-again it goes on with the first step that is not in steps.txt. DIR is target/long; `rt ci` and ./test remove target/, so a run beside
-them needs another. The programs are copied to DIR and run from there; if they are built otherwise when it is started again, it says so
-and stops: --anew removes what DIR says of earlier steps and begins again. J is how many parts are compared at a time (default: the processors).
-It runs at low priority. Exit status: 0 all agreed; 1 there was a difference, in DIR/differences.txt; 2 it could not go on; 130 it was
+again it goes on with the first step that is not in steps.txt. DIR is target/long. The programs are copied to DIR and run from there; if they
+are built otherwise when it is started again, it says so and stops: --anew removes what DIR says of earlier steps and begins again. J is how
+many parts are compared at a time (default: the processors). It runs at low priority. Exit status: 0 all agreed; 1 there was a difference, in DIR/differences.txt; 2 it could not go on; 130 it was
 stopped.
 """
 import argparse
@@ -74,7 +73,7 @@ def digest(path):
 
 
 def build(source):
-    for command in [["oracle/build.sh", source], ["rt", "staticlib", "lent"], ["host/build.sh"]]:
+    for command in [["oracle/build.sh", source], ["tools/built.sh", "lent"], ["host/build.sh"]]:
         print("long:", " ".join(command), flush=True)
         done = subprocess.run(command, cwd=ROOT, stdout=subprocess.PIPE, stderr=subprocess.STDOUT, text=True)
         if done.returncode != 0:

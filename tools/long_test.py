@@ -36,11 +36,10 @@ class Long(unittest.TestCase):
         self.addCleanup(shutil.rmtree, self.folder)
         self.calls = os.path.join(self.folder, "calls")
         self.write("calls", "")
-        for name in "tree/oracle/build.sh", "tree/host/build.sh", "bin/rt":
+        for name in "tree/oracle/build.sh", "tree/host/build.sh", "tree/tools/built.sh":
             self.write(name, BUILD, 0o755)
         self.write("tree/target/host/release/compare", COMPARE, 0o755)
         self.write("tree/target/oracle/release/oracle", "", 0o755)
-        os.mkdir(os.path.join(self.folder, "tree/tools"))
         shutil.copy(os.path.join(TOOLS, "long.py"), os.path.join(self.folder, "tree/tools"))
 
     def write(self, name, text, mode=0o644):

@@ -16,34 +16,34 @@ import reference
 ROOT = reference.ROOT
 SPECS = "crates/manual/specs/"
 START, END = "<!-- manuals: written by tools/manuals.py -->", "<!-- end of manuals -->"
-CALLS = {"busError": "`exception_bus_error`", "addressError": "`exception_address_error`", "fpDisabled": "`take_fp_disabled_060`",
+CALLS = {"bus_error": "`exception_bus_error`", "address_error": "`exception_address_error`", "fp_disabled": "`take_fp_disabled_060`",
          "group2": "group 2", "protocol": "coprocessor protocol violation", "configuration": "MMU configuration error", "interrupt": "an interrupt's vector"}
-WHENS = {"always": "", "nonzero": "where the manual's value is not 0", "chk": "vector 6", "vectored": "vectors 15 and 64 to 255", "inMaster": "in the master state",
-         "based": "where `vbr` is not 0", "ofTheBus": "where the bus failed, not the translation", "past24": "an address from 0x1000000 on, kind 3"}
-WHATS = {"fields": "every field", "atTop": "every field of the frame at A7", "format": "the format, with it every field from +6 on and the length", "length": "the length, so A7", "status": "the status left",
+WHENS = {"always": "", "nonzero": "where the manual's value is not 0", "chk": "vector 6", "vectored": "vectors 15 and 64 to 255", "in_master": "in the master state",
+         "based": "where `vbr` is not 0", "of_the_bus": "where the bus failed, not the translation", "past24": "an address from 0x1000000 on, kind 3"}
+WHATS = {"fields": "every field", "at_top": "every field of the frame at A7", "format": "the format, with it every field from +6 on and the length", "length": "the length, so A7", "status": "the status left",
          "pc": "PC", "pins": "the address on the pins"}
 # the frames that are drawn: our definition, and the manual's table of the same exception; the file's name says format and parts
-DRAWN = [("68000-6-bytes", "68000: all but errors", "short68000", "shortFrame", 6), ("68000-14-bytes", "68000: bus and address error", "error68000", "frame68000", 14),
-         ("format-0", "68010 on: format 0, and format 1 of an interrupt in the master state", "format0", "shortFrame", 8),
-         ("format-2", "68020 on: format 2, group 2 and trace; 68060: floating point not implemented", "format2", "longFrame", 12),
+DRAWN = [("68000-6-bytes", "68000: all but errors", "short68000", "short_frame", 6), ("68000-14-bytes", "68000: bus and address error", "error68000", "frame68000", 14),
+         ("format-0", "68010 on: format 0, and format 1 of an interrupt in the master state", "format0", "short_frame", 8),
+         ("format-2", "68020 on: format 2, group 2 and trace; 68060: floating point not implemented", "format2", "long_frame", 12),
          ("format-2-address-error", "68040: address error, format 2", "format2", "frame2", 12),
          ("format-2-68060", "68060: address error, format 2; ours is format 0", "format2", "frame0", 12),
-         ("format-4-access", "68060: access error, format 4", "format4Access", "frame4", 16),
-         ("format-4-disabled", "68060: floating-point unit disabled, format 4", "format4Disabled", "disabledFrame", 16),
+         ("format-4-access", "68060: access error, format 4", "format4_access", "frame4", 16),
+         ("format-4-disabled", "68060: floating-point unit disabled, format 4", "format4_disabled", "disabled_frame", 16),
          ("format-7", "68040: access error, format 7", "format7", "frame7", 60), ("format-8", "68010: bus and address error, format 8", "format8", "frame8", 58),
-         ("format-9", "68020, 68030: coprocessor protocol violation, format 9; ours is format 0", "format9", "shortFrame", 20),
-         ("format-A", "68020, 68030: bus error at an instruction's boundary, format A; never made here", "formatA", "", 32),
-         ("format-B", "68020, 68030: bus error, format B", "formatB", "frame11", 92),
-         ("format-B-address-error", "68020, 68030: address error, format B; ours is format 0", "formatB", "frame0", 92)]
+         ("format-9", "68020, 68030: coprocessor protocol violation, format 9; ours is format 0", "format9", "short_frame", 20),
+         ("format-A", "68020, 68030: bus error at an instruction's boundary, format A; never made here", "format_a", "", 32),
+         ("format-B", "68020, 68030: bus error, format B", "format_b", "frame11", 92),
+         ("format-B-address-error", "68020, 68030: address error, format B; ours is format 0", "format_b", "frame0", 92)]
 # which rows of the table of differences a drawing marks: parts, exception, way
-MARKS = {"68000-14-bytes": ("mc68000", "busError", "own"), "format-8": ("mc68010", "busError", "own"), "format-2-68060": ("mc68060", "addressError", "own"),
-         "format-4-access": ("mc68060", "busError", "own"), "format-4-disabled": ("mc68060", "fpDisabled", "own"), "format-7": ("mc68040", "busError", "own"),
-         "format-9": ("mc68020", "protocol", "byVector"), "format-B-address-error": ("mc68020", "addressError", "own")}
+MARKS = {"68000-14-bytes": ("mc68000", "bus_error", "own"), "format-8": ("mc68010", "bus_error", "own"), "format-2-68060": ("mc68060", "address_error", "own"),
+         "format-4-access": ("mc68060", "bus_error", "own"), "format-4-disabled": ("mc68060", "fp_disabled", "own"), "format-7": ("mc68040", "bus_error", "own"),
+         "format-9": ("mc68020", "protocol", "by_vector"), "format-B-address-error": ("mc68020", "address_error", "own")}
 
 
 # Changes of the tables that must be noticed.
-WRONG = [("Formats", "long 0x14 faultAddress", "long 0x20 faultAddress"), ("Formats", "inWord 0x0C 10 1 translation", "inWord 0x0C 11 1 translation"),
-         ("Differences", "(field 0x0C 10) ofTheBus", "(field 0x0C 10) always"), ("Differences", "row from68020 (byVector ∷ []) (group2", "row every (byVector ∷ []) (group2"),
+WRONG = [("Formats", "long 0x14 fault_address", "long 0x20 fault_address"), ("Formats", "in_word 0x0C 10 1 translation", "in_word 0x0C 11 1 translation"),
+         ("Differences", "(field 0x0C 10) of_the_bus", "(field 0x0C 10) always"), ("Differences", "row from68020 (by_vector ∷ []) (group2", "row every (by_vector ∷ []) (group2"),
          ("Shown", "0x0C 21 0 1", "0x0C 21 0 2"), ("Parts", "∷ some mc68020 ∷ some mc68030", "∷ some mc68030 ∷ some mc68030"), ("Returns", "untaken mc68040 3 ∷ ", "")]
 changed = {}
 
@@ -53,8 +53,8 @@ def text(name):
 
 
 def words(name):
-    """A name of the tables in words: `dataOutput` is `data output`."""
-    return re.sub(r"(?<=[a-z0-9])([A-Z])", lambda m: " " + m[1].lower(), name).replace("back3", "back 3").replace("back2", "back 2").replace("back1", "back 1")
+    """A name of the tables in words: `data_output` is `data output`."""
+    return re.sub(r"back(?=\d)", "back ", name.replace("_", " ")).replace("stage baddress", "stage B address")
 
 
 def listed(name, source):
@@ -66,7 +66,7 @@ def listed(name, source):
 
 def kinds():
     """The kinds of each part."""
-    names = re.findall(r"\bnone\b|some (\w+)", re.search(r"^familyOf k =(.*?)^    k none", text("Parts"), re.M | re.S)[1])
+    names = re.findall(r"\bnone\b|some (\w+)", re.search(r"^family_of k =(.*?)^    k none", text("Parts"), re.M | re.S)[1])
     found = {}
     for k, name in enumerate(names):
         if name:
@@ -98,7 +98,7 @@ def inputs():
                 continue
             rest, row, ks, call = m[5].split(), int(m[2]), m[3], m[4]
             manual, ours = rest[-2], rest[-1]
-            more = [f"level {rest[0]}"] if m[1] == "asked" else [f"mmu_fc_override {rest[0]}"] if m[1] == "overridden" else ["status 0x3700, interrupt stack 0x140"] if m[1] == "inMaster" else []
+            more = [f"level {rest[0]}"] if m[1] == "asked" else [f"mmu_fc_override {rest[0]}"] if m[1] == "overridden" else ["status 0x3700, interrupt stack 0x140"] if m[1] == "in_master" else []
         if re.fullmatch(r"[a-z]\w*", call):
             call = re.search(rf"^{call} = (.*)$", source, re.M)[1]
         numbers = [int(n) for n in (re.findall(r"\d+", ks) if ks.startswith("(") else re.findall(r"\d+", re.search(rf"^{ks} = (.*)$", source, re.M)[1]))]
@@ -112,7 +112,7 @@ def fields(name):
     body = re.search(rf"^{name} [^=]*=(.*?)∷ \[\]", source, re.M | re.S)[1]
     found = []
     for part in re.split(r"∷", body):
-        m = re.match(r"\s*(word|long|inWord|inLong) (0x\w+)(?: (\d+) (\d+))? (\w+) (.*?)\s*$", part, re.S)
+        m = re.match(r"\s*(word|long|in_word|in_long) (0x\w+)(?: (\d+) (\d+))? (\w+) (.*?)\s*$", part, re.S)
         if m:
             span = (int(m[3]), int(m[4])) if m[3] else None
             found.append((int(m[2], 16), 4 if "ong" in m[1] else 2, span, m[5], m[6] not in ("none", "unsaid")))
@@ -122,10 +122,10 @@ def fields(name):
 def format_of(family, cls):
     """The manual's table for an exception of a part."""
     source = text("Exceptions")
-    fmt = re.search(rf"^formatOf f {cls} = (\S+)(?: f)?$", source, re.M)[1]
+    fmt = re.search(rf"^format_of f {cls} = (\S+)(?: f)?$", source, re.M)[1]
     if m := re.search(rf"^{fmt} {family} = (\w+)$", source, re.M):
         fmt = m[1]
-    return re.search(rf"^fieldsBy {fmt} s c v = (\w+)", source, re.M)[1]
+    return re.search(rf"^fields_by {fmt} s c v = (\w+)", source, re.M)[1]
 
 
 def what_of(row):
@@ -145,7 +145,7 @@ def call_of(row):
     if len(classes) > 5:
         return "any"
     names = [CALLS[c] for c in classes]
-    return "`take_exception`: " + ", ".join(n.replace("`", "").replace("exception_", "").replace("_", " ") for n in names) if ways == ["byVector"] else ", ".join(names)
+    return "`take_exception`: " + ", ".join(n.replace("`", "").replace("exception_", "").replace("_", " ") for n in names) if ways == ["by_vector"] else ", ".join(names)
 
 
 def section():
@@ -162,7 +162,7 @@ def section():
         ours = "; ".join(dict.fromkeys(u for _, _, u in values))
         smallest = shown[n][0][1] + "".join(f", {m}" for m in shown[n][0][2])
         lines.append(f"| {n} | {reference.listed(ks)} | {call_of(row)} | {what_of(row)} | {WHENS[row[4]]} | {manual} | {ours} | `{smallest}` | {row[5]} |")
-    lines += ["", "The return refuses these frames by 13, which RTE takes (`formats-are`, `return-rows-shown`):", "", "| Kinds | Format | Bytes by the manual |", "|---|---|---|"]
+    lines += ["", "The return refuses these frames by 13, which RTE takes (`formats_are`, `return_rows_shown`):", "", "| Kinds | Format | Bytes by the manual |", "|---|---|---|"]
     source = text("Returns")
     for family, number in re.findall(r"untaken (mc\w+) (\d+)", source):
         length = re.findall(r"\d+", re.search(rf"^formats {family} = (.*)$", source, re.M)[1])[int(number)]

@@ -143,7 +143,7 @@ def without(all_of, empty):
 def sorts(at):
     """The instructions of the archive's functions by what they do, from the disassembly of the program."""
     with open(os.path.join(ROOT, 'crates.txt')) as file:
-        crates = {line.split(':')[0] for line in file if ':' in line and not line.startswith('#')}
+        crates = {line.split(':')[0].split()[0] for line in file if ':' in line and not line.startswith('#')}
     text = {}
     dump = ['objdump', '-d', '--no-show-raw-insn', os.path.join(ROOT, SIDES['proved'])]
     for line in subprocess.run(dump, capture_output=True, text=True, check=True).stdout.splitlines():
@@ -199,7 +199,7 @@ def main():
     what, kind, by = split
     print('Of the %d instructions of the compiled functions themselves, proved, %s, kind %d, %d move 16 bytes, %d move less, %d save or\n'
           'restore registers, %d are the rest.\n' % (sum(by.values()), what, kind, by['wide'], by['moves'], by['saves'], by['rest']))
-    print('; '.join([version('rustc', '--version'), version('valgrind', '--version'), 'rt ' + version('rt', '--version'),
+    print('; '.join([version('rustc', '--version'), version('valgrind', '--version'), version('rt', 'version'),
                      version('ldd', '--version')]))
 
 

@@ -17,9 +17,9 @@ REFERENCE, CASES = "docs/REFERENCE.md", "docs/CASES.md"
 FILES = ["types/specs/Kinds", "types/specs/Tables", "frames/specs/Frames", "formats/specs/Formats"]
 KINDS, FORMATS, VECTORS = range(12), range(16), range(256)
 COMPARES = {"eqb": int.__eq__, "ltb": int.__lt__, "leb": int.__le__}
-FIELD = {"word": 2, "rawWord": 2, "gapWord": 2, "long": 4, "rawLong": 4, "gapLong": 4}
-DRAWINGS = ["frame68000", "shortFrame", "frame0", "longFrame", "frame2", "frame4", "disabledFrame", "frame7", "frame8", "frame11"]
-# `frame0` is drawn together with `shortFrame`, under the names of that one.
+FIELD = {"word": 2, "raw_word": 2, "gap_word": 2, "long": 4, "raw_long": 4, "gap_long": 4}
+DRAWINGS = ["frame68000", "short_frame", "frame0", "long_frame", "frame2", "frame4", "disabled_frame", "frame7", "frame8", "frame11"]
+# `frame0` is drawn together with `short_frame`, under the names of that one.
 SHARED = {("frame0", "ppc"): "pc", ("frame0", "0x000C"): "format"}
 
 # Changes of the two documents that must be noticed.
@@ -73,7 +73,7 @@ def value(term, known):
         return value(head, known)
     if not arguments:
         return value(head, known)
-    if head == "kindOf":
+    if head == "kind_of":
         return known["k"]
     if head == "pick":
         return value(arguments[1] if value(arguments[0], known) else arguments[2], known)
@@ -126,27 +126,27 @@ def row(*cells):
 def kinds():
     names = dict(re.findall(r"^pub const (\w+): u8 = (\d+);", read("crates/types/src/lib.rt"), re.M))
     names = {int(number): name for name, number in names.items()}
-    tests = ["hasT0", "hasM", "isPre68020", "isPrefetchKind", "isEc020Plus"]
-    return [row(k, names[k], call("addressBits", k), f"0x{call('statusMask', k):04X}", *("x" if call(t, k) else "" for t in tests),
-                ", ".join(str(f) for f in FORMATS if call("takesFormat", k, f))) for k in KINDS]
+    tests = ["has_t0", "has_m", "is_pre68020", "is_prefetch_kind", "is_ec020_plus"]
+    return [row(k, names[k], call("address_bits", k), f"0x{call('status_mask', k):04X}", *("x" if call(t, k) else "" for t in tests),
+                ", ".join(str(f) for f in FORMATS if call("takes_format", k, f))) for k in KINDS]
 
 
 def cycles():
     by = {}
     for v in VECTORS:
-        by.setdefault(call("exceptionCycles", v), []).append(v)
+        by.setdefault(call("exception_cycles", v), []).append(v)
     return {row(n, listed(vs)) for n, vs in by.items()}
 
 
 def formats():
-    taken = {f: [k for k in KINDS if call("takesFormat", k, f)] for f in FORMATS}
-    return [row(f, call("formatLength", f), listed(ks)) for f, ks in taken.items() if ks]
+    taken = {f: [k for k in KINDS if call("takes_format", k, f)] for f in FORMATS}
+    return [row(f, call("format_length", f), listed(ks)) for f, ks in taken.items() if ks]
 
 
 def errors():
     by = {}
     for k in KINDS:
-        by.setdefault((*framed("busFrame", k), *framed("addressFrame", k)), []).append(k)
+        by.setdefault((*framed("bus_frame", k), *framed("address_frame", k)), []).append(k)
     return [row(listed(ks), *frames) for frames, ks in by.items()]
 
 

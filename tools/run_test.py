@@ -11,24 +11,28 @@ import unittest
 ROOT = os.path.dirname(os.path.dirname(os.path.abspath(__file__)))
 
 RT = """#!/bin/sh
-echo "rt $*" >>"$CALLS"
+[ $1 = version ] || in=" in $(basename "$PWD")"
+echo "rt $*$in" >>"$CALLS"
 [ $1 = version ] || cat >/dev/null
 case $1 in
 version) cat "$KIT" ;;
-check)
-    [ ! -f "$CALLS.fail" ] || { echo "rt: session NOT PROVED (exit 1, 2 s)"; exit 1; }
-    echo "library types: loaded"
-    echo "rt: types proved (1 s)"
-    echo "rt: session proved (2 s)"
-    [ ! -f "$CALLS.edit" ] || { sleep 0.05; echo more >>crates/session/src/main.rt; }
-    mkdir -p target/bin
-    printf '#!/bin/sh\\necho printed\\ncat\\n' >target/bin/session
-    chmod +x target/bin/session ;;
-staticlib)
-    echo "rt: types proved (unchanged since it was last proved)"
-    mkdir -p target/staticlib
-    echo "archive" >target/staticlib/liblent.a
-    echo "rt: target/staticlib/liblent.a has the functions of lent" ;;
+run)
+    [ ! -f "$CALLS.fail" ] || { echo "rt: the library types did not build, so nothing above it was checked"; exit 1; }
+    echo "fn types::kept: proved" >&2
+    echo "library cpu: modules loaded=175 checked=0" >&2
+    echo "crate types: modules loaded=2 checked=4" >&2
+    echo "logic=proved functions=13" >&2
+    echo "crate session: modules loaded=2 checked=4" >&2
+    echo "logic=proved functions=3" >&2
+    [ ! -f "$CALLS.edit" ] || { sleep 0.05; echo more >>src/main.rt; }
+    mkdir -p out ../types/out/rlib
+    printf '#!/bin/sh\\necho printed\\ncat\\n' >out/session
+    chmod +x out/session ;;
+lib)
+    mkdir -p out
+    echo "archive" >out/liblent.a
+    echo "crate lent: modules loaded=2 checked=4"
+    echo "logic=proved functions=9" ;;
 esac
 """
 
@@ -50,7 +54,8 @@ class Run(unittest.TestCase):
         self.kit = self.write("kit", "kit 1\n")
         self.write("tree/crates/session/src/main.rt", "main\n")
         self.write("tree/crates/types/src/lib.rt", "lib\n")
-        self.write("tree/crates.txt", "# crates\ntypes:\nlent: types\nsession: types io libc os\n")
+        self.write("tree/crates/lent/src/lib.rt", "lib\n")
+        self.write("tree/crates.txt", "# crates: three\ntypes:\nlent staticlib: types\nsession: types anyhow\n")
         self.write("tree/host/build.sh", BUILD.replace("mkdir", 'cd "$(dirname "$0")/.." || exit 1\nmkdir'), 0o755)
         self.write("tree/host/afternoon/session.txt", "kind 2\n")
         self.write("tree/host/afternoon/words.txt", "a kind\n")
@@ -80,20 +85,20 @@ class Run(unittest.TestCase):
             calls = [line.strip() for line in file if line != "rt version\n"]
         return done.returncode, done.stdout, done.stderr, calls
 
-    ALL = ["rt check session", "rt staticlib lent", "build"]
+    ALL = ["rt run in session", "rt lib in lent", "build"]
 
     def test_first_run_builds_and_says_so(self):
         code, out, err, calls = self.run_it()
         self.assertEqual((code, calls), (0, self.ALL))
         afternoon = os.path.join(self.root, "host/afternoon/")
-        program = os.path.join(self.root, "target/bin/session")
+        program = os.path.join(self.root, "crates/session/out/session")
         self.assertTrue(out.startswith(f"show --program {program} --words {afternoon}words.txt {afternoon}session.txt\n"), out)
         self.assertIn("docs/SESSION.md", out)
-        for said in ["first run", "minutes for the session program and", "for what shows it", "1 of 2: types proved", "2 of 2: session proved", "2 of 2: lent proved",
+        for said in ["first run", "minutes for the session program and", "for what shows it", "types proved, of 2 crates", "session proved, of 2 crates", "lent proved, of 2 crates",
                      "stage 1 of 3", "stage 2 of 3", "stage 3 of 3"]:
             self.assertIn(said, err)
         self.assertNotIn("library", err)
-        self.assertNotIn("unchanged", err)
+        self.assertNotIn("cpu", err)
 
     def test_later_runs_build_nothing(self):
         self.run_it()
@@ -112,7 +117,7 @@ class Run(unittest.TestCase):
         self.write("tree/crates/types/src/lib.rt", "changed\n")
         self.assertEqual(self.run_it()[3], self.ALL)
         time.sleep(0.05)
-        self.write("tree/crates.txt", "types:\nlent: types\nsession: types\n")
+        self.write("tree/crates.txt", "types:\nlent staticlib: types\nsession: types\n")
         self.assertEqual(self.run_it()[3], self.ALL)
         self.assertEqual(self.run_it()[3], [])
 
@@ -127,11 +132,11 @@ class Run(unittest.TestCase):
         time.sleep(0.05)
         os.remove(os.path.join(self.root, "crates/types/src/lib.rt"))
         self.assertEqual(self.run_it()[3], self.ALL)
-        os.remove(os.path.join(self.root, "target/bin/session"))
+        os.remove(os.path.join(self.root, "crates/session/out/session"))
         self.assertEqual(self.run_it()[3], self.ALL[:1])
         os.remove(os.path.join(self.root, "target/host/release/show"))
         self.assertEqual(self.run_it()[3], self.ALL[2:])
-        os.remove(os.path.join(self.root, "target/staticlib/liblent.a"))
+        os.remove(os.path.join(self.root, "crates/lent/out/liblent.a"))
         self.assertEqual(self.run_it()[3], self.ALL[1:])
 
     def test_another_toolchain_builds_anew(self):
@@ -159,7 +164,7 @@ class Run(unittest.TestCase):
         fail = self.write("calls.fail", "")
         code, out, err, calls = self.run_it()
         self.assertEqual((code, out, calls), (1, "", self.ALL[:1]))
-        self.assertIn("NOT PROVED", err)
+        self.assertIn("run:   the library types did not build", err)
         os.remove(fail)
         self.assertEqual(self.run_it()[3], self.ALL)
 

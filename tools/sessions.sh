@@ -23,8 +23,8 @@ oracle/build.sh "$source_of_rust"
 
 if [ $# = 3 ]; then
   if [ -z "${SESSION:-}" ]; then
-    rt check session
-    SESSION=target/bin/session
+    tools/built.sh session
+    SESSION=crates/session/out/session
   fi
   exec "$oracle" against "$SESSION" "$2" "$3"
 fi

@@ -1,7 +1,7 @@
 #!/usr/bin/env python3
 """The setters of the record, for generate.py: crates/cpu/specs/Setters.antt from the structs of crates/cpu/src/lib.rt.
 
-`withPc c x` is the record c with the field `pc` replaced; `flowWithPc f x` is the same of the group alone. There is one for each field that
+`with_pc c x` is the record c with the field `pc` replaced; `flow_with_pc f x` is the same of the group alone. There is one for each field that
 some definition of any crate replaces by that name. It is an `abbrev`, which unfolds everywhere: no proof sees it.
 """
 import os
@@ -12,15 +12,12 @@ TYPES = {"bool": "Bool", "i32": "ℤ", "u8": "ℕ", "u16": "ℕ", "u32": "ℕ"}
 HEAD = """-- The record with one field replaced, by tools/setters.py from the structs: a setter for each field that a definition replaces. No other
 -- file of specs/ lists the fields of a group to change one.
 """
-LIBRARY = {"ℕ": "Prim.Native.Nat", "Bool": "mathlib.Core.Bool", "List": "mathlib.Core.List", "ℤ": "lib.IntN"}
+LIBRARY = "ℕ", "Bool", "List", "ℤ"
 
 
-def quote(name):
-    return f"«{name}»" if "_" in name else name
-
-
-def camel(name):
-    return "".join(word.capitalize() for word in name.split("_"))
+def word(field):
+    """A field's name in that of its setter: a single letter has no line behind it, as in `with_sflag`."""
+    return re.sub(r"(?<![a-z0-9])([a-z])_", r"\1", field)
 
 
 def antt(kind):
@@ -47,10 +44,10 @@ def words(but):
 
 def setter(name, whole, kind, fields, field, group):
     """One setter, on the record through its group, or on the group itself."""
-    given = f"{'c .' + quote(group) if group else 'c'} ."
-    lines = [f"{quote(f)} = {'x' if f == field else given + quote(f)};" for f, _ in fields]
+    given = f"c.{group}." if group else "c."
+    lines = [f"{f} = {'x' if f == field else given + f};" for f, _ in fields]
     made = "".join(f"      {x}\n" for x in lines)
-    value = f"    with{camel(group)} c\n    (record {{\n{made}    }})\n" if group else f"    record {{\n{made}    }}\n"
+    value = f"    with_{group} c\n    (record {{\n{made}    }})\n" if group else f"    record {{\n{made}    }}\n"
     return f"abbrev pub {name} : {whole} → {kind} → {whole}\n{name} c x =\n{value}"
 
 
@@ -59,13 +56,13 @@ def texts(crate, name, _):
     groups, used, laws, names = structs(crate), words(os.path.join(ROOT, path)), [], set()
     for group, struct in groups["Cpu"]:
         for field, kind in groups[struct]:
-            for own, whole, through in ((f"with{camel(field)}", "Cpu", group), (f"{group}With{camel(field)}", struct, "")):
+            for own, whole, through in ((f"with_{word(field)}", "Cpu", group), (f"{group}_with_{word(field)}", struct, "")):
                 if own in used and own not in names:
                     names.add(own)
                     laws.append(setter(own, whole, antt(kind), groups[struct], field, through))
     body = "\n".join(laws)
     seen = set(re.findall(r"[\wℕℤ]+", body))
-    head = "".join(f"use {LIBRARY[t]}.{{{t}}}\n" for t in LIBRARY if t in seen)
-    head += "".join(f"use Rattle·{crate}·specs.specs.declared.{s}.{{{s}}}\n" for s in sorted(groups) if re.search(rf"→ {s}\b|: {s}\b", body))
-    through = sorted({f"with{camel(g)}" for g, _ in groups["Cpu"]} & seen)
-    return {path: HEAD + head + f"use Rattle·{crate}·specs.specs.Groups.{{{', '.join(through)}}}\n\n" + body}
+    head = f"use Rattle.std.specs.Prelude.{{{', '.join(t for t in LIBRARY if t in seen)}}}\n"
+    head += "".join(f"use Rattle.{crate}.specs.declared.{s}.{{{s}}}\n" for s in sorted(groups) if re.search(rf"→ {s}\b|: {s}\b", body))
+    through = sorted({f"with_{g}" for g, _ in groups["Cpu"]} & seen)
+    return {path: HEAD + head + f"use Rattle.{crate}.specs.Groups.{{{', '.join(through)}}}\n\n" + body}

@@ -11,25 +11,27 @@ ROOT = os.path.dirname(os.path.dirname(os.path.abspath(__file__)))
 
 # Says how it was called; fails if the file CALLS.fail names it.
 TOOL = """#!/bin/sh
-call="$(basename "$0")${1:+ $*}"
+call="$(basename "$0")${1:+ $*}${SESSION:+ with $SESSION}"
 echo "$call" >>"$CALLS"
 [ ! -f "$CALLS.fail" ] || [ "$(cat "$CALLS.fail")" != "$call" ] || { echo "it failed"; exit 7; }
 """
 RT = TOOL + """case $1 in
 version) cat "$KIT" ;;
 ci) echo "rt: types proved (1 s)"; cat "$CI" ;;
-check) echo "rt: types proved (unchanged since it was last proved)" ;;
+all) echo "1 of 1 crates ok" ;;
 esac
 """
-TOOLS = ["generate.py", "drawing.py", "crossings.py", "assurance.py", "reference.py", "manuals.py", "run_test.py", "test_test.py", "long_test.py", "sample.sh",
-         "sessions.sh", "compare.sh"]
+TOOLS = ["generate.py", "drawing.py", "crossings.py", "assurance.py", "reference.py", "manuals.py", "run_test.py", "test_test.py", "long_test.py", "programs.sh",
+         "sample.sh", "sessions.sh", "compare.sh"]
 FIRST = ["generate.py --check", "drawing.py --check", "crossings.py --most 85", "assurance.py --check",
          "reference.py --check", "manuals.py --check", "run_test.py", "test_test.py", "long_test.py"]
+
+OK = "rt: ok; handles allowed: none; must-fail edits: 9 refused, 1 of them only by a limit; every proof and must-fail edit was done in this run\n"
 
 
 def compared(sessions, count, lists):
     source = "../rust"
-    return [f"sample.sh {source} --check", f"sessions.sh {source} --check", f"sessions.sh {source} 5 {sessions}",
+    return [f"sample.sh {source} --check", f"sessions.sh {source} --check", f"sessions.sh {source} 5 {sessions} with crates/session/out/session",
             f"compare.sh {source} 5 {count} {lists}"]
 
 
@@ -39,7 +41,7 @@ class Test(unittest.TestCase):
         self.addCleanup(shutil.rmtree, self.folder)
         self.calls = os.path.join(self.folder, "calls")
         self.kit = self.write("kit", "kit 1\n")
-        self.ci = self.write("ci", "12 passed, 0 failed\n")
+        self.ci = self.write("ci", OK + "12 passed, 0 failed\n")
         self.write("tree/toolchain", "kit 1\n")
         self.write("rust/lib.rs", "")
         for name in TOOLS:
@@ -75,7 +77,7 @@ class Test(unittest.TestCase):
     def test_the_whole_test(self):
         code, out, err, calls = self.call()
         self.assertEqual((code, err, calls), (0, "", FIRST + ["rt ci"] + compared(20000, 1000000, 200000)))
-        self.assertRegex(out[0], r"^test: on two processors this takes about \d+ minutes; 11 stages, seed 5$")
+        self.assertRegex(out[0], r"^test: on four processors this takes about (\d+|NN) minutes.*; 11 stages, seed 5$")
         stages = [line for line in out if line.startswith("test: stage ")]
         for number, line in enumerate(stages):
             self.assertRegex(line, rf"^test: stage {number + 1} of 11: .+ \({number} passed, 0 min \d+ s\)$")
@@ -87,8 +89,8 @@ class Test(unittest.TestCase):
 
     def test_quick(self):
         code, out, err, calls = self.call("--quick")
-        self.assertEqual((code, err, calls), (0, "", FIRST + ["rt check"] + compared(2000, 100000, 10000)))
-        self.assertRegex(out[0], r"^test: on two processors this takes about \d+ minutes, .*; 11 stages, seed 5$")
+        self.assertEqual((code, err, calls), (0, "", FIRST + ["rt all check", "programs.sh"] + compared(2000, 100000, 10000)))
+        self.assertRegex(out[0], r"^test: on four processors this takes about (\d+|NN) minutes, .*; 11 stages, seed 5$")
         self.assertIn("edits that must fail were left out", out[-1])
         self.assertNotIn(" 0 failed", out[-1])
 
@@ -110,9 +112,17 @@ class Test(unittest.TestCase):
 
     def test_rt_ci_ends_with_its_count(self):
         for last in "", "11 passed, 1 failed\n", "rt: done\n":
-            self.write("ci", last)
+            self.write("ci", OK + last)
             code, _, err, calls = self.call()
             self.assertEqual((code, calls[-1]), (1, "rt ci"), last)
+            self.assertIn("FAILED in stage 7 of 11", err)
+
+    def test_rt_ci_refuses_every_edit(self):
+        for told in "", "rt: ok; handles allowed: none; every proof was done in this run\n", OK.replace("limit", "limit, 2 bad"), OK.replace("9 ", "0 "), \
+                OK.replace(", 1 of them only by a limit", ", 1 bad"):
+            self.write("ci", told + "12 passed, 0 failed\n")
+            code, _, err, calls = self.call()
+            self.assertEqual((code, calls[-1]), (1, "rt ci"), told)
             self.assertIn("FAILED in stage 7 of 11", err)
 
     def test_what_is_left_out_is_told(self):
@@ -130,7 +140,7 @@ class Test(unittest.TestCase):
         self.write("kit", "kit 2\n")
         for arguments in [], ["--quick"]:
             code, out, _, calls = self.call(*arguments)
-            self.assertEqual((code, len(calls)), (0, 14))
+            self.assertEqual((code, len(calls)), (0, 15 if arguments else 14))
             said = [at for at, line in enumerate(out) if "warning" in line and "kit 1" in line and "kit 2" in line]
             self.assertEqual(said, [1, len(out) - 2])
 

@@ -1,6 +1,6 @@
 /* TRAP #15 on a 68010 from C, what it did on the bus, a walk, and the return.
  *
- *     gcc -Wall -Wextra -Werror -I host/include -o entry host/examples/entry.c target/staticlib/liblent.a */
+ *     gcc -Wall -Wextra -Werror -I host/include -o entry host/examples/entry.c crates/lent/out/liblent.a */
 #include "m68k.h"
 
 #include <stdio.h>

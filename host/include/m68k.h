@@ -1,6 +1,6 @@
 /* Written by mirror.py from the Rattle sources: do not edit.
  *
- * Exception, fault, trace and interrupt entry of the M68000 family: the functions of liblent.a (`rt staticlib lent`).
+ * Exception, fault, trace and interrupt entry of the M68000 family: the functions of liblent.a (`rt lib` in crates/lent).
  * docs/HOST.md has what is proved and what is assumed; docs/REFERENCE.md the kinds, refusals and events.
  *
  * Every value of every field has a meaning; the bytes between fields have none. A byte that is a flag (exception_processing,

@@ -1,4 +1,4 @@
-//! Links the archive of the leaf functions: libleaves.a in the folder M68K_LIB, or in target/staticlib of the repository.
+//! Links the archive of the leaf functions: libleaves.a in the folder M68K_LIB, or in crates/leaves/out of the repository.
 
 use std::path::PathBuf;
 
@@ -6,12 +6,12 @@ fn main() {
     let here = PathBuf::from(std::env::var("CARGO_MANIFEST_DIR").unwrap());
     let dir = match std::env::var_os("M68K_LIB") {
         Some(dir) => PathBuf::from(dir),
-        None => here.join("../../target/staticlib"),
+        None => here.join("../../crates/leaves/out"),
     };
     let file = dir.join("libleaves.a");
     assert!(
         file.is_file(),
-        "libleaves.a is not there: run `rt staticlib leaves`, or name its folder in M68K_LIB"
+        "libleaves.a is not there: run `rt lib` in crates/leaves, or name its folder in M68K_LIB"
     );
     let dir = dir.canonicalize().unwrap();
     println!("cargo::rustc-link-search=native={}", dir.display());

@@ -194,7 +194,7 @@ impl Whole {
         Whole { span: base..base + memory.len() as u64, windows: core.windows().collect() }
     }
 
-    /// Whether all bytes are in the memory and none in a window: `servedOf` of crates/memory.
+    /// Whether all bytes are in the memory and none in a window: `served_of` of crates/memory.
     fn serves(&self, access: &Span) -> bool {
         let faults = |window: &Window| {
             let start = u64::from(window.start);
