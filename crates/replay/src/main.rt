@@ -1,12 +1,17 @@
 // Replays recorded answers of the oracle (tools/sample.sh makes data/sample.bin): each case is a call, a return or a walk on the proved
 // code, and its answer, the number of events, each event word, each word of a row, the whole record and the whole store must be those
-// that the oracle gave, and log and rows behind them as they were. It uses `boundary`, `unwind` and, for the verdict, `same`; nothing uses
-// it.
+// that the oracle gave, and log and rows behind them as they were. It uses `boundary`, `unwind`, for the verdict `same`, and for the files
+// and what it prints std; nothing uses it.
 #![tactic(auto)]
+
+ghost use Rattle.std.specs.Prelude.{◌≤◌, length, IfOk};
 
 use boundary::RawAnswer;
 use memory::Core;
 use numbers::RawCall;
+use std::fs::File;
+use std::io;
+use std::io::Read;
 use unwind::returns::Row;
 
 mod list; // numbers and lists of a case
@@ -181,12 +186,28 @@ fn ended(t: Tally) -> Tally {
     r
 }
 
-// The bytes of a case, if all are there.
-fn read_part(fd: i32, buffer: &mut [u8], n: usize) -> bool {
-    if n <= buffer.len() {
-        return io::read_full(fd, &mut buffer[0..n]) == n;
+// Reads until the buffer is full or the file ends, and says how many bytes came.
+fn read_full(file: &mut File, buffer: &mut [u8]) -> io::Result<usize>
+    ensures { IfOk result (λ n. n ≤ length buffer.new) }
+{
+    let mut done = 0;
+    while done < buffer.len() {
+        let n = file.read(&mut buffer[done..])?;
+        if n == 0 {
+            break;
+        }
+        done += n;
     }
-    false
+    Ok(done)
+}
+
+// The bytes of a case, if all are there.
+fn read_part(file: &mut File, buffer: &mut [u8], n: usize) -> io::Result<bool> {
+    if n <= buffer.len() {
+        let got = read_full(file, &mut buffer[0..n])?;
+        return Ok(got == n);
+    }
+    Ok(false)
 }
 
 fn is_part_same(buffer: &[u8], n: usize) -> bool {
@@ -197,24 +218,24 @@ fn is_part_same(buffer: &[u8], n: usize) -> bool {
 }
 
 // One case: two bytes of length, and so many bytes. A case that is cut off counts as one that differs, and is the last.
-fn step(fd: i32, t: Tally) -> Tally {
+fn step(file: &mut File, t: Tally) -> io::Result<Tally> {
     let mut head = [0u8; 2];
-    let got = io::read_full(fd, &mut head);
+    let got = read_full(file, &mut head)?;
     if got == 0 {
-        return ended(t);
+        return Ok(ended(t));
     }
     let n = list::word(&head, 0) as usize;
     let mut buffer = [0u8; 0x1000];
-    if !read_part(fd, &mut buffer, n) {
+    if !read_part(file, &mut buffer, n)? {
         let r = counted(t, false);
-        return ended(r);
+        return Ok(ended(r));
     }
     let same = is_part_same(&buffer, n);
-    counted(t, same)
+    Ok(counted(t, same))
 }
 
 // The turns fall, from a number that no file uses up.
-fn replay(fd: i32) -> Tally {
+fn replay(file: &mut File) -> io::Result<Tally> {
     let mut t = Tally {
         cases: 0,
         differ: 0,
@@ -223,46 +244,33 @@ fn replay(fd: i32) -> Tally {
     };
     let mut turns = 4294967295u32;
     while turns > 0 && t.more {
-        t = step(fd, t);
+        t = step(file, t)?;
         turns -= 1;
     }
-    t
+    Ok(t)
 }
 
-fn report(t: Tally) {
-    io::write_all(1, b"replayed ");
-    io::print_decimal(1, t.cases);
-    io::write_all(1, b" cases, ");
-    io::print_decimal(1, t.differ);
-    io::write_all(1, b" differences\n");
-    if t.differ != 0 {
-        io::write_all(1, b"the first: case ");
-        io::print_decimal(1, t.first);
-        io::write_all(1, b"\n");
+fn report(rt: &impl Print, t: Tally) -> io::Result<()> {
+    let cases = t.cases;
+    let differ = t.differ;
+    println!(rt; "replayed {cases} cases, {differ} differences")?;
+    if differ != 0 {
+        let first = t.first;
+        println!(rt; "the first: case {first}")?;
     }
+    Ok(())
 }
 
-fn replay_all(fd: i32) {
-    let t = replay(fd);
-    libc::close(fd);
-    report(t);
+fn replay_all(rt: &impl Print, mut file: File) -> io::Result<()> {
+    let t = replay(&mut file)?;
+    report(rt, t)
 }
 
 // The recorded answers, and then spoiled ones, on each of which it must find a difference.
-fn main() {
-    let path = b"sample.bin";
-    let fd = os::open_read(path);
-    if fd < 0 {
-        os::fail(path);
-        return;
-    }
-    replay_all(fd);
-    let spoiled = b"spoiled.bin";
-    let other = os::open_read(spoiled);
-    if other < 0 {
-        os::fail(spoiled);
-        return;
-    }
-    io::write_all(1, b"spoiled answers: ");
-    replay_all(other);
+fn main(rt: HostRuntime) -> io::Result<()> {
+    let file = File::open(&rt, "sample.bin")?;
+    replay_all(&rt, file)?;
+    let other = File::open(&rt, "spoiled.bin")?;
+    print!(rt; "spoiled answers: ")?;
+    replay_all(&rt, other)
 }

@@ -43,7 +43,6 @@ loop-i-preserved c = (
   (λ e. run_first _ _ _ _ _ c.loop-i-test.true c.keep_run-k.ensures.1 refl c.past-i.ensures.0 e),
   run_ends _ _ _ _ _ _ _ _ _ _ c.keep_run-k.ensures.5 c.keep_run-k.ensures.4 refl c.loop-i.invariant.9 c.feed-r.ensures.2 c.past-i.ensures.0,
   c.loop-i.invariant.10,
-
 )
 
 pub returns : goal.returns
