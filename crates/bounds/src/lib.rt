@@ -1,4 +1,3 @@
 // Bounds of the functions that call each other in `access`: mathematics only, in `specs`. It uses `access` and everything below; `promises`,
 // `forms`, `manual` and `claims` use it.
 #![tactic(auto)]
-

@@ -1,3 +1,2 @@
 // The instances of paper 01: mathematics only, in `specs`. It uses `calls` and `images`; `rule3`, `manual` and `claims` use it.
 #![tactic(auto)]
-

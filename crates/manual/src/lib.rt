@@ -2,4 +2,3 @@
 // that a direct entry that starts sound and whose accesses are served differs nowhere else; the triggers and the return likewise. Mathematics only, in
 // specs/. It uses `rule3`, `entered`, `forms` and `instances`; `claims` uses it.
 #![tactic(auto)]
-

@@ -1,3 +1,2 @@
 // What a person would ask of the public calls: mathematics only, in `specs`. It uses `calls` and `bounds`; `claims` uses it.
 #![tactic(auto)]
-
