@@ -16,7 +16,8 @@ use Rattle.fast_laws.specs.Patched.{patch_cpu, patch_of, calm_of, Words, Fetched
 use Rattle.fast_plans.specs.Views.{view_of}
 use Rattle.fast.specs.Patches.{Ended, go_of}
 use Rattle.fast_plans.specs.Quiet.{no_patch}
-use Rattle.fast_laws.specs.Matched.{kept, entry_same, calm_same, idle_same}
+use Rattle.fast_laws.specs.Matched.{kept}
+use Rattle.fast_laws.proofs.Matched.{entry_same, calm_same, idle_same}
 use Rattle.attempts.specs.declared.Attempted.{Attempted}
 use Rattle.attempts.specs.Lent.{Left, left, says, record_after, left_by, lent_call}
 use Rattle.attempts.specs.Attempts.{is_tidy, attempted_by, charged_by, patched_regs, patched_flow, patched_flags, patched_queue, patched_fault, patched_cpu, patched_by, calmed_flow, calmed_flags, calmed_cpu, calmed_by, Tried}

@@ -2,7 +2,6 @@ pub mod Skeleton
 pub mod Faulted
 pub mod ErrorFrames
 pub mod Levels
-pub mod Unique
 pub mod OnlyBus
 pub mod Ledger
 pub mod Events

@@ -13,7 +13,8 @@ use Rattle.frames.specs.declared.Frame.{Frame}
 use Rattle.frames.specs.Frames.{field_at, is_counted}
 use Rattle.access.specs.Access.{raised, push_frame}
 use Rattle.images.specs.Pushes.{calm, served_same}
-use Rattle.images.specs.Images.{Shape, Ready, Image, frame_bytes, new_a7, bottom, at_offset, stacked_image}
+use Rattle.images.specs.Images.{Shape, Ready, Image, frame_bytes, new_a7, bottom}
+use Rattle.images.proofs.Images.{at_offset, stacked_image}
 use Rattle.forms.specs.Gist.{gist, gist_cpu, a7_gist, framed_by, stacked_form, minus_below}
 use Rattle.forms.specs.Jumps.{value_gist}
 use Rattle.nest.specs.View.{Frame as NestFrame}

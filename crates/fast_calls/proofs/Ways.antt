@@ -22,7 +22,8 @@ use Rattle.fast_plans.specs.declared.Patch.{Patch}
 use Rattle.fast_plans.specs.Views.{view_of}
 use Rattle.fast_laws.specs.Patched.{patch_cpu, patch_of, calm_of, Fetched}
 use Rattle.fast.specs.Patches.{Ended, ended, go_of}
-use Rattle.fast_laws.specs.Matched.{kept, entry_same, calm_same, idle_same}
+use Rattle.fast_laws.specs.Matched.{kept}
+use Rattle.fast_laws.proofs.Matched.{entry_same, calm_same, idle_same}
 
 -- the queue with two words, or as it was
 queue_words : (b : Bool) (q : List ℕ) (x y : ℕ) → set (set q 0 (pick b x (get_or q 0 0))) 1 (pick b y (get_or q 1 0)) ≡ pick b (set (set q 0 x) 1 y) q

@@ -21,9 +21,11 @@ use Rattle.numbers.specs.declared.RawCall.{RawCall}
 use Rattle.boundary.specs.Calls.{Outcome, outcome, of_performed, raw_call}
 use Rattle.unfaulted.specs.Closed.{closed, told, Piece, laid, last_value, clock_events, Entering, jumped, entry_events, arrived}
 use Rattle.unfaulted.specs.Pushes.{offset_of, pieces_of, length_pieces}
-use Rattle.unfaulted.specs.Written.{clocks_count_lem, entry_log, entry_count}
+use Rattle.unfaulted.specs.Written.{clocks_count_lem}
+use Rattle.unfaulted.proofs.Written.{entry_log, entry_count}
 use Rattle.unfaulted.specs.Entries.{supervisor_clocks, supervisor_fetches}
-use Rattle.unfaulted.specs.Errors.{all_guarded, guarded_if, frame_arrived}
+use Rattle.unfaulted.specs.Errors.{all_guarded, guarded_if}
+use Rattle.unfaulted.proofs.Errors.{frame_arrived}
 use Rattle.fast_plans.specs.declared.View.{View}
 use Rattle.fast_plans.specs.declared.Patch.{Patch}
 use Rattle.fast_plans.specs.declared.places.Spot.{Spot}
@@ -36,7 +38,8 @@ use Rattle.fast_plans.specs.Quiet.{no_patch}
 use Rattle.fast.specs.Patches.{Ended, ended}
 use Rattle.fast_laws.specs.Patched.{patch_cpu, Words, Fetched}
 use Rattle.fast_laws.specs.Accepts.{Accepted}
-use Rattle.fast_laws.specs.Supervised.{top_at, user_at, Fitting, Plain, plain_patched}
+use Rattle.fast_laws.specs.Supervised.{top_at, user_at, Fitting, Plain}
+use Rattle.fast_laws.proofs.Supervised.{plain_patched}
 use Rattle.fast_laws.specs.Placed.{Spotted, spotted, Landed, landed_by, enters}
 use Rattle.fast_laws.specs.Tapes.{clocks_told, clocks_counted, jump_told, jump_counted}
 use Rattle.fast_laws.specs.Ways.{ended_step, same_world, Says, clear_of_lem}

@@ -7,6 +7,5 @@ pub mod Ways
 pub mod Taken
 pub mod Grouped
 pub mod Interrupted
-pub mod Unimplemented
 pub mod Matched
 pub mod Met

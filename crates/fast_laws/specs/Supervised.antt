@@ -109,50 +109,13 @@ pub record Plain (c : Cpu) (p : Patch) : Type 0 where
   pub fpiar : fpiar_after c p ≡ c.flow.fpiar
 
 -- the words as they are queued
-queued : (f : Bool) (c : Cpu) (v to x y : ℕ) → x < 0x10000 → y < 0x10000
+pub queued : (f : Bool) (c : Cpu) (v to x y : ℕ) → x < 0x10000 → y < 0x10000
     → jumped f c v to x y ≡ pick f (second_word (first_word (set_pc (start_vector c v) to) x) y) (set_pc (start_vector c v) to)
 unfolding jumped
 queued f c v to x y g h =
     let a : x % 0x10000 ≡ x = omega arith in
     let b : y % 0x10000 ≡ y = omega arith in
     rw (a, b)
-
-module _ (c : Cpu) (p : Patch) (h : Clear c) (g : Fitting c p) where
-  abbrev framed : Cpu → Cpu
-  framed d = jumped p.fetches (set_wdata (set_a7 (set_clocks d 0) p.a7) p.last) p.vector p.pc p.first p.second
-
-  supervised_plain : (f : Bool) → p.fetches ≡ f → Plain c p → framed (supervised c) ≡ patch_cpu c p
-  unfolding patch_cpu set_wdata set_a7 set_clocks start_vector set_pc first_word second_word
-  supervised_plain true e k =
-      queued p.fetches (set_wdata (set_a7 (set_clocks (supervised c) 0) p.a7) p.last) p.vector p.pc p.first p.second g.first g.second
-      ∙ rw (e, k.stopped, k.mask, k.level, k.cycles, k.fpiar, g.user, g.top, set-set c.regs.dar 15 (top_at c) p.a7)
-  supervised_plain false e k =
-      queued p.fetches (set_wdata (set_a7 (set_clocks (supervised c) 0) p.a7) p.last) p.vector p.pc p.first p.second g.first g.second
-      ∙ rw (e, k.stopped, k.mask, k.level, k.cycles, k.fpiar, g.user, g.top, set-set c.regs.dar 15 (top_at c) p.a7)
-
-  pub plain_patched : Plain c p → framed (enter_supervisor c) ≡ patch_cpu c p
-  plain_patched k = rw (supervised_law c h) (supervised_plain p.fetches refl k)
-
-  -- an interrupt of a level
-  pub record Interrupting (i : ℕ) : Type 0 where
-    pub stopped : p.stopped ≡ 0
-    pub mask : p.mask ≡ i % 8 * 256
-    pub level : p.level ≡ 0
-    pub cycles : p.serviced ≡ true
-    pub fpiar : fpiar_after c p ≡ c.flow.fpiar
-
-  supervised_interrupt : (f : Bool) → p.fetches ≡ f → (level : ℕ) → Interrupting level → clear_level (close_interrupt (framed (set_int_mask (supervised c) level))) ≡ patch_cpu c p
-  unfolding patch_cpu set_wdata set_a7 set_clocks start_vector set_pc first_word second_word clear_level close_interrupt charge_interrupt charged clear_stopped set_int_mask
-  supervised_interrupt true e level k =
-      ap (λ (d : Cpu). clear_level (close_interrupt d)) (queued p.fetches (set_wdata (set_a7 (set_clocks (set_int_mask (supervised c) level) 0) p.a7) p.last) p.vector p.pc p.first p.second g.first g.second)
-      ∙ rw (e, k.stopped, k.mask, k.level, k.cycles, k.fpiar, g.user, g.top, set-set c.regs.dar 15 (top_at c) p.a7)
-  supervised_interrupt false e level k =
-      ap (λ (d : Cpu). clear_level (close_interrupt d)) (queued p.fetches (set_wdata (set_a7 (set_clocks (set_int_mask (supervised c) level) 0) p.a7) p.last) p.vector p.pc p.first p.second g.first g.second)
-      ∙ rw (e, k.stopped, k.mask, k.level, k.cycles, k.fpiar, g.user, g.top, set-set c.regs.dar 15 (top_at c) p.a7)
-
-  pub interrupt_patched : (level : ℕ) → Interrupting level → clear_level (close_interrupt (framed (enter_level c level))) ≡ patch_cpu c p
-  unfolding enter_level
-  interrupt_patched level k = rw (supervised_law c h) (supervised_interrupt p.fetches refl level k)
 
 -- a trace ends a STOP before
 pub stop_clear : (c : Cpu) → Clear c → Clear (leave_stop c)

@@ -21,7 +21,7 @@ use Rattle.answers.specs.Answers.{cycles, of_entry}
 use Rattle.numbers.specs.declared.RawCall.{RawCall}
 use Rattle.boundary.specs.Calls.{of_performed, raw_call}
 use Rattle.unfaulted.specs.Closed.{closed, Piece, last_value, short_pieces, three_pieces, Entering, jumped, arrived, clocks_after, short_bytes, short_of}
-use Rattle.unfaulted.specs.Entries.{take_closed, rewound_closed}
+use Rattle.unfaulted.proofs.Entries.{take_closed, rewound_closed}
 use Rattle.fast_plans.specs.declared.View.{View}
 use Rattle.fast.specs.declared.landings.Landing.{Landing}
 use Rattle.fast_plans.specs.declared.plans.Plan.{Plan}
@@ -33,7 +33,7 @@ use Rattle.fast.specs.Patches.{patch_by, enter_of, go_of}
 use Rattle.fast_plans.specs.Laws.{compose_fits}
 use Rattle.fast_laws.specs.Patched.{patch_cpu, Words, Fetched}
 use Rattle.fast_laws.specs.Accepts.{Accepted}
-use Rattle.fast_laws.specs.Supervised.{Plain, plain_patched}
+use Rattle.fast_laws.specs.Supervised.{Plain}
 use Rattle.fast_laws.specs.Tapes.{Framed, framed_short, framed_three}
 use Rattle.fast_laws.specs.Ways.{fetched_in, spot_for, landing_for, Entered, entered_by_lem, Says, said, clear_of_lem, entering_of, fitting_of}
 
@@ -60,7 +60,7 @@ module _ (m : Core) (t : Tape) (v : ℕ) (b : Bool) (w : Words m) (h : v < 256) 
       go false true = w.pc
       go false false = w.ppc
 
-  take_bytes : taking.bytes ≡ short_bytes (kind_of m.cpu)
+  pub take_bytes : taking.bytes ≡ short_bytes (kind_of m.cpu)
   unfolding entry_plan is_long short_bytes view_of kind_of
   take_bytes = refl
 
@@ -72,7 +72,7 @@ module _ (m : Core) (t : Tape) (v : ℕ) (b : Bool) (w : Words m) (h : v < 256) 
   unfolding entry_plan view_of is_long
   take_two q = rw q
 
-  take_framed : Framed (view_of m) (spot_for (view_of m) taking) taking t (short_of (kind_of m.cpu) (get_sr m.cpu) taken_at (offset_word v))
+  pub take_framed : Framed (view_of m) (spot_for (view_of m) taking) taking t (short_of (kind_of m.cpu) (get_sr m.cpu) taken_at (offset_word v))
   unfolding short_of kind_of entry_plan is_long get_sr view_of
   take_framed = rw (offset_plain v h) (go (eqb m.cpu.flow.cpu_type 1) refl)
     where
@@ -83,88 +83,10 @@ module _ (m : Core) (t : Tape) (v : ℕ) (b : Bool) (w : Words m) (h : v < 256) 
       go true e = framed_three x (spot_for x taking) taking t (take_one e) (compose_fits x.flags) address_small
       go false e = framed_short x (spot_for x taking) taking t (take_two e) (compose_fits x.flags) (omega arith)
 
-  take_last : last_value (short_of (kind_of m.cpu) (get_sr m.cpu) taken_at (offset_word v)) ≡ taking.last
+  pub take_last : last_value (short_of (kind_of m.cpu) (get_sr m.cpu) taken_at (offset_word v)) ≡ taking.last
   unfolding entry_plan short_of kind_of view_of last_value three_pieces short_pieces get_sr
   take_last = go (eqb m.cpu.flow.cpu_type 1)
     where
       go : (i : Bool) → last_value (pick i (three_pieces (compose m.cpu.flags) taken_at) (short_pieces (compose m.cpu.flags) taken_at (offset_word v))) ≡ pick i (taken_at / 0x10000) (compose m.cpu.flags)
       go true = refl
       go false = refl
-
--- ---- `take_exception`
-
-module _ (m : Core) (s l : List ℕ) (w : Words m) (a : Accepted m (length s) (length l)) where
-  abbrev way1 : ℕ → Bool → Plan
-  way1 v b = entry_plan (view_of m) (row 1 v b)
-
-  take_plain : (v : ℕ) (b : Bool) (e : ℕ) → Plain m.cpu (patch_by (view_of m) (way1 v b) (spot_for (view_of m) (way1 v b)) (landing_for (view_of m) (way1 v b) s) e)
-  unfolding patch_by entry_plan view_of
-  take_plain v b e = record { stopped = refl; mask = refl; level = refl; cycles = refl; fpiar = refl }
-
-  take_cpu : (v : ℕ) (b : Bool) → v < 256 → (g : Entered (view_of m) (way1 v b) s l)
-      → (let x : View = view_of m in let p : Plan = way1 v b in let j : Landing = landing_for x p s in
-      jumped (prefetch_enabled m.cpu) (set_wdata (set_a7 (set_clocks (enter_supervisor m.cpu) 0) (top_of x - p.bytes)) (last_value (short_of (kind_of m.cpu) (get_sr m.cpu) (address_of x (row 1 v b)) (offset_word v)))) v j.pc j.first j.second
-      ≡ patch_cpu m.cpu (patch_by x p (spot_for x p) j (jump_count (lay_count x p) (fetches_of x))))
-  unfolding fetches_of view_of prefetch_enabled patch_by entry_plan
-  take_cpu v b h g =
-      let x : View = view_of m in
-      let p : Plan = way1 v b in
-      let e : ℕ = jump_count (lay_count x p) (fetches_of x) in
-      rw (take_last m (tape s l) v b w h)
-      (plain_patched m.cpu (patch_by x p (spot_for x p) (landing_for x p s) e) (clear_of_lem m s l w a) (fitting_of m s l w a p e g) (take_plain v b e))
-
-  some_bytes : (k : ℕ) → 0 < short_bytes k
-  unfolding short_bytes
-  some_bytes k = go (eqb k 1)
-    where
-      go : (i : Bool) → 0 < pick i 6 8
-      go true = omega arith
-      go false = omega arith
-
-  -- the address that is stacked by a plain take
-  take_address : (v : ℕ) → address_of (view_of m) (row 1 v false) ≡ stacked_address m.cpu v
-  unfolding address_of stacked_address view_of pc_of ppc_of
-  take_address v = refl
-
-  rewound_address : (v : ℕ) → address_of (view_of m) (row 1 v true) ≡ ppc_of m.cpu
-  unfolding address_of view_of ppc_of
-  rewound_address v = refl
-
-  short_entering : (v : ℕ) (b : Bool) → v < 256 → Entered (view_of m) (way1 v b) s l
-      → (let x : View = view_of m in let p : Plan = way1 v b in let j : Landing = landing_for x p s in Entering m.bus (enter_supervisor m.cpu) s (short_bytes (kind_of m.cpu)) v (top_of x - p.bytes) j.from j.pc j.pc j.first j.second)
-  unfolding entry_plan
-  short_entering v b h g = entering_of m s l w a (way1 v b) (short_bytes (kind_of m.cpu)) v (take_bytes m (tape s l) v b w h) refl h (some_bytes (kind_of m.cpu)) g
-
-  short_same : (c : RawCall) (v : ℕ) (b : Bool) → v < 256 → go_of (view_of m) c s l ≡ enter_of (view_of m) (way1 v b) s l → Entered (view_of m) (way1 v b) s l
-      → (let x : View = view_of m in let p : Plan = way1 v b in let j : Landing = landing_for x p s in
-      raw_call (world m s l) c ≡ of_performed (of_entry (entry (arrived m.bus (enter_supervisor m.cpu) (clocks_after m.cpu 4) 0 s l (top_of x - p.bytes) (short_of (kind_of m.cpu) (get_sr m.cpu) (address_of x (row 1 v b)) (offset_word v)) (prefetch_enabled m.cpu) v j.from j.pc j.pc j.first j.second) (exception_cycles v))))
-      → Says m c s l (go_of (view_of m) c s l)
-  unfolding arrived entry_plan view_of waiting_of clocks_after fetches_of prefetch_enabled clocks_of
-  short_same c v b h e g r =
-      let x : View = view_of m in
-      let p : Plan = way1 v b in
-      let j : Landing = landing_for x p s in
-      let ps : List Piece = short_of (kind_of m.cpu) (get_sr m.cpu) (address_of x (row 1 v b)) (offset_word v) in
-      said m c s l p (go_of x c s l) ps
-      (jumped (prefetch_enabled m.cpu) (set_wdata (set_a7 (set_clocks (enter_supervisor m.cpu) 0) (top_of x - p.bytes)) (last_value ps)) v j.pc j.first j.second) (exception_cycles v)
-      (e ∙ g.same) (take_framed m (tape s l) v b w h) (take_cpu v b h g) refl r
-
-  pub taken_same : (c : RawCall) (v : ℕ) → Fetched (go_of (view_of m) c s l).patch → v < 256 → in_exception m.cpu ≡ false → go_of (view_of m) c s l ≡ enter_of (view_of m) (way1 v false) s l
-      → (enter_of (view_of m) (way1 v false) s l).patch.fast ≡ true → raw_call (world m s l) c ≡ of_performed (of_entry (take_exception (closed m.bus m.cpu 0 s l) v)) → Says m c s l (go_of (view_of m) c s l)
-  taken_same c v bs h i e f r =
-      let x : View = view_of m in
-      let p : Plan = way1 v false in
-      let j : Landing = landing_for x p s in
-      let g : Entered x p s l = entered_by_lem x p s l (fetched_in (go_of x c s l) (enter_of x p s l) e bs) f in
-      let t = take_closed m.bus m.cpu 0 s l v (top_of x - p.bytes) j.from j.pc j.pc j.first j.second i (short_entering v false h g) (lit< tt) in
-      short_same c v false h e g (rw (take_address v) (r ∙ ap (λ (z : Entry). of_performed (of_entry z)) t))
-
-  pub rewound_same : (c : RawCall) (v : ℕ) → Fetched (go_of (view_of m) c s l).patch → v < 256 → in_exception m.cpu ≡ false → go_of (view_of m) c s l ≡ enter_of (view_of m) (way1 v true) s l
-      → (enter_of (view_of m) (way1 v true) s l).patch.fast ≡ true → raw_call (world m s l) c ≡ of_performed (of_entry (take_rewound (closed m.bus m.cpu 0 s l) v)) → Says m c s l (go_of (view_of m) c s l)
-  rewound_same c v bs h i e f r =
-      let x : View = view_of m in
-      let p : Plan = way1 v true in
-      let j : Landing = landing_for x p s in
-      let g : Entered x p s l = entered_by_lem x p s l (fetched_in (go_of x c s l) (enter_of x p s l) e bs) f in
-      let t = rewound_closed m.bus m.cpu 0 s l v (top_of x - p.bytes) j.from j.pc j.pc j.first j.second i (short_entering v true h g) (lit< tt) in
-      short_same c v true h e g (rw (rewound_address v) (r ∙ ap (λ (z : Entry). of_performed (of_entry z)) t))

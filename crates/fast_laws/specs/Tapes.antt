@@ -6,7 +6,8 @@ use Rattle.types.specs.Kinds.{pick}
 use Rattle.memory.specs.Log.{note_log}
 use Rattle.memory.specs.Bytes.{put_long}
 use Rattle.unfaulted.specs.Closed.{told, Piece, laid, writes_of, clock_events, short_pieces, long_pieces, three_pieces, jump_events, entry_events}
-use Rattle.unfaulted.specs.Written.{short_store, three_store, long_store, short_log_lem, three_log, long_log, clocks_log, clocks_count_lem, jump_log_off, jump_log_on, entry_log, entry_count}
+use Rattle.unfaulted.specs.Written.{short_store, three_store, long_store, short_log_lem, three_log, long_log, clocks_log, clocks_count_lem, jump_log_off, jump_log_on}
+use Rattle.unfaulted.proofs.Written.{entry_log, entry_count}
 use Rattle.fast_plans.specs.declared.View.{View}
 use Rattle.fast_plans.specs.declared.places.Spot.{Spot}
 use Rattle.fast.specs.declared.landings.Landing.{Landing}

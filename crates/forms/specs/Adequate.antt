@@ -22,52 +22,18 @@ use Rattle.forms.specs.Tests.{Whole, clean_test}
 use Rattle.forms.specs.Accepted.{accepted_store, accepted_log}
 use Rattle.forms.specs.Forms.{plan_of, is_some, no_plan_lem, unless, only_if, begun_gist, plan_lent, gist_whole, gist_length}
 use Rattle.forms.specs.Quiet.{Booked, Loud, Quiet}
-use Rattle.forms.specs.QuietEntries.{Placed, exc_book, rewound_book, group2_book, trace_book, fp_unimp_book, fp_disabled_book, address_book, bus_error_book}
-use Rattle.forms.specs.QuietInterrupts.{interrupt_book}
+use Rattle.forms.specs.QuietEntries.{Placed}
 
 -- ---- every call
 
 -- what a plan says, by another name of it
-named : (w z : World) (p q : Plan) → q ≡ p → Booked 0 (clean_test (gist w) q) z → Booked 0 (clean_test (gist w) p) z
+pub named : (w z : World) (p q : Plan) → q ≡ p → Booked 0 (clean_test (gist w) q) z → Booked 0 (clean_test (gist w) p) z
 named w z p q e b = subst (λ (r : Plan). Booked 0 (clean_test (gist w) r) z) e b
-
-run_book : (w : World) (c : Call) (q : Plan) → plan_of w c ≡ some q → Placed (gist w) → Booked 60 true w → Booked 0 (clean_test (gist w) q) (run w c).after
-unfolding plan_of run of_entry of_service cycles flag trap
-run_book w (TakeException v) q e h p = let u = unless _ q _ e in named w (run w (TakeException v)).after q _ u.1 (exc_book w (gist w) refl h p v u.0)
-run_book w (Trap n) q e h p = let u = unless _ q _ e in named w (run w (Trap n)).after q _ u.1 (exc_book w (gist w) refl h p (32 + n % 16) u.0)
-run_book w (TakeGroup2Exception v) q e h p = named w (run w (TakeGroup2Exception v)).after q _ (is_some _ q e) (group2_book w (gist w) refl h p v)
-run_book w ExceptionChk q e h p = named w (run w ExceptionChk).after q _ (is_some _ q e) (group2_book w (gist w) refl h p 6)
-run_book w ExceptionZeroDivide q e h p = named w (run w ExceptionZeroDivide).after q _ (is_some _ q e) (group2_book w (gist w) refl h p 5)
-run_book w ExceptionPrivilege q e h p = let u = unless _ q _ e in named w (run w ExceptionPrivilege).after q _ u.1 (exc_book w (gist w) refl h p 8 u.0)
-run_book w ExceptionTrace q e h p = named w (run w ExceptionTrace).after q _ (is_some _ q e) (trace_book w (gist w) refl h p)
-run_book w (ExceptionAddressError a write instruction) q e h p = named w (run w (ExceptionAddressError a write instruction)).after q _ (is_some _ q e) (address_book w (gist w) refl h p a write instruction)
-run_book w (ExceptionBusError a write instruction z cause) q e h p = named w (run w (ExceptionBusError a write instruction z cause)).after q _ (is_some _ q e) (bus_error_book w (gist w) refl h p a write instruction z (cause_number cause))
-run_book w (TakeFpUnimp060 ea) q e h p = named w (run w (TakeFpUnimp060 ea)).after q _ (is_some _ q e) (fp_unimp_book w (gist w) refl h p ea)
-run_book w TakeFpDisabled060 q e h p = named w (run w TakeFpDisabled060).after q _ (is_some _ q e) (fp_disabled_book w (gist w) refl h p)
-run_book w TakeAlineException q e h p = let u = unless _ q _ e in named w (run w TakeAlineException).after q _ u.1 (rewound_book w (gist w) refl h p 10 u.0)
-run_book w TakeFlineException q e h p = let u = unless _ q _ e in named w (run w TakeFlineException).after q _ u.1 (rewound_book w (gist w) refl h p 11 u.0)
-run_book w (TakeTrapException n) q e h p = let u = unless _ q _ e in named w (run w (TakeTrapException n)).after q _ u.1 (exc_book w (gist w) refl h p (32 + n % 16) u.0)
-run_book w TakeBkptException q e h p = let u = unless _ q _ e in named w (run w TakeBkptException).after q _ u.1 (rewound_book w (gist w) refl h p 4 u.0)
-run_book w TakeIllegalException q e h p = let u = unless _ q _ e in named w (run w TakeIllegalException).after q _ u.1 (rewound_book w (gist w) refl h p 4 u.0)
-run_book w CheckAndServiceInterrupts q e h p = let u = only_if _ q _ e in named w (run w CheckAndServiceInterrupts).after q _ u.1 (interrupt_book w (gist w) refl u.0 h p)
-run_book w (TriggerAddressError a write instruction) q e h p = no_plan_lem q e
-run_book w (TriggerBusError a write instruction z) q e h p = no_plan_lem q e
-run_book w CheckTrace q e h p = no_plan_lem q e
-run_book w (SetIrq n) q e h p = no_plan_lem q e
-run_book w CheckInterrupts q e h p = no_plan_lem q e
-run_book w (Read16 a) q e h p = no_plan_lem q e
-run_book w (Read32 a) q e h p = no_plan_lem q e
-run_book w (Write16 a v) q e h p = no_plan_lem q e
-run_book w (Write32 a v) q e h p = no_plan_lem q e
-run_book w (Push16 v) q e h p = no_plan_lem q e
-run_book w (Push32 v) q e h p = no_plan_lem q e
-run_book w PrefetchFirst q e h p = no_plan_lem q e
-run_book w PrefetchSecond q e h p = no_plan_lem q e
 
 -- ---- the start of a call
 
 -- who is lent a store is lent a log
-log_lent : (c : Call) → (matter_of c).log ≡ (matter_of c).store
+pub log_lent : (c : Call) → (matter_of c).log ≡ (matter_of c).store
 unfolding matter_of
 log_lent (TakeException v) = refl
 log_lent (Trap n) = refl
@@ -101,7 +67,7 @@ log_lent PrefetchFirst = refl
 log_lent PrefetchSecond = refl
 
 -- no event, at most one sync waits, and 60 more have room
-start_book : (w : World) → is_faulted (cpu_of w) ≡ false → 192 ≤ length w.log → Booked 60 true (begun w)
+pub start_book : (w : World) → is_faulted (cpu_of w) ≡ false → 192 ≤ length w.log → Booked 60 true (begun w)
 unfolding begun restarted
 start_book w h l =
     record { runs = λ e. h; good = λ e i n. absurd (omega arith); bad = λ e. clash {b = true} refl e; room = λ f. most (has_clocks (cpu_of w)); long = λ f. l }
@@ -110,36 +76,18 @@ start_book w h l =
     most true = omega arith
     most false = omega arith
 
-placed_of : (w : World) → Whole (cpu_of w) → length w.store ≤ most_store → Placed (gist w)
+pub placed_of : (w : World) → Whole (cpu_of w) → length w.store ≤ most_store → Placed (gist w)
 placed_of w h l = record { whole = gist_whole w h; small = rw (gist_length w) l }
 
-accepted_runs : (w : World) (c : Call) → refusal w c ≡ 0 → perform w c ≡ run (begun w) c
+pub accepted_runs : (w : World) (c : Call) → refusal w c ≡ 0 → perform w c ≡ run (begun w) c
 unfolding perform
 accepted_runs w c r = rw r
 
-booked : (w : World) (c : Call) (p : Plan) → refusal w c ≡ 0 → plan_of (begun w) c ≡ some p → Whole (cpu_of w) → Booked 0 (clean_test (gist w) p) (perform w c).after
-booked w c p r e h =
-    let s : (matter_of c).store ≡ true = plan_lent (begun w) c p e in
-    let l : 192 ≤ length w.log = accepted_log w c r (log_lent c ∙ s) in
-    let g : Placed (gist (begun w)) = subst Placed (sym (begun_gist w)) (placed_of w h (accepted_store w c r s)) in
-    subst (λ (x : Performed). Booked 0 (clean_test (gist w) p) x.after) (sym (accepted_runs w c r))
-    (subst (λ (x : World). Booked 0 (clean_test x p) (run (begun w) c).after) (begun_gist w) (run_book (begun w) c p e g (start_book w h.running l)))
-
 -- ---- adequacy
 
-verdict : (d : Bool) (z : World) → Booked 0 d z → (d ≡ true) ↔ (Quiet z × (is_faulted (cpu_of z) ≡ false))
+pub verdict : (d : Bool) (z : World) → Booked 0 d z → (d ≡ true) ↔ (Quiet z × (is_faulted (cpu_of z) ≡ false))
 verdict true z b = (λ t. (b.good refl, b.runs refl), λ q. refl)
 verdict false z b = (λ t. clash {b = false} t refl, λ q. absurd (never (b.bad refl q.1) q.0))
   where
     never : Loud z.core.bus.events z.log → Quiet z → ⊥
     never l q = let a = q l.at l.below in let c = l.code in omega arith
-
--- the test holds exactly if no event of the call has a code of 16 or more and the record comes out not faulted
-pub adequate : (w : World) (c : Call) (p : Plan) → refusal w c ≡ 0 → plan_of (begun w) c ≡ some p → Whole (cpu_of w)
-    → (clean_test (gist w) p ≡ true) ↔ (Quiet (perform w c).after × (is_faulted (cpu_of (perform w c).after) ≡ false))
-adequate w c p r e h = verdict (clean_test (gist w) p) (perform w c).after (booked w c p r e h)
-
--- and where the record is not faulted, the log holds every event whole
-pub adequate_room : (w : World) (c : Call) (p : Plan) → refusal w c ≡ 0 → plan_of (begun w) c ≡ some p → Whole (cpu_of w) → is_faulted (cpu_of (perform w c).after) ≡ false
-    → (perform w c).after.core.bus.events * 3 ≤ length (perform w c).after.log
-adequate_room w c p r e h f = let b = booked w c p r e h in let m = b.room f in let l = b.long f in omega arith

@@ -20,11 +20,10 @@ use Rattle.images.specs.Pushes.{calm}
 use Rattle.forms.specs.Gist.{gist, gist_cpu, framed_by}
 use Rattle.forms.specs.Jumps.{jumped}
 use Rattle.forms.specs.Kept.{Good, Steady, AllSteady, planned_good, steady_gist, steady_enter, steady_leave, steady_same, steady_exception, steady_rewound, steady_traced, steady_fpiar, steady_bus, steady_level, steady_clear, steady_end, steady_close}
-use Rattle.forms.specs.Tests.{framed_length, framed_bus, Whole, Safe, AllSafe, clean_test, clean_tested, safe_same, safe_enter, safe_exception, safe_rewound, safe_traced, safe_fpiar, safe_bus, safe_level, safe_leave, safe_clear}
+use Rattle.forms.specs.Tests.{framed_length, framed_bus, Whole, Safe, AllSafe, clean_test, safe_same, safe_enter, safe_exception, safe_rewound, safe_traced, safe_fpiar, safe_bus, safe_level, safe_leave, safe_clear}
 use Rattle.forms.specs.Accepted.{accepted_store}
 use Rattle.forms.specs.Plans.{Push, Plan, turned, stack_all, planned, Clean, throwaways, settles, interrupt_by, exc_plan, rewound_plan, group2_plan, trace_plan, fp_unimp_plan, fp_disabled_plan, address_plan, bus_plan, interrupt_plan}
 use Rattle.forms.specs.Entries.{exc_form, rewound_form, group2_form, trace_form, fp_unimp_form, fp_disabled_form, address_form, bus_form}
-use Rattle.forms.specs.Interrupts.{interrupt_form}
 
 -- `take_exception` is not taken inside an entry, an interrupt not unless its level is above the mask; the triggers and what is no
 -- entry have no plan
@@ -76,91 +75,52 @@ only_if true p q e = (refl, is_some q p e)
 only_if false p q e = no_plan_lem p e
 
 -- what a plan says, by another name of it
-by_name : (w z : World) (p q : Plan) → q ≡ p → (Clean (gist w) q → gist z ≡ planned (gist w) q) → Clean (gist w) p → gist z ≡ planned (gist w) p
+pub by_name : (w z : World) (p q : Plan) → q ≡ p → (Clean (gist w) q → gist z ≡ planned (gist w) q) → Clean (gist w) p → gist z ≡ planned (gist w) p
 by_name w z p q e f = subst (λ (r : Plan). Clean (gist w) r → gist z ≡ planned (gist w) r) e f
-
-run_form : (w : World) (c : Call) (p : Plan) → plan_of w c ≡ some p → Clean (gist w) p → gist (run w c).after ≡ planned (gist w) p
-unfolding plan_of run of_entry of_service cycles flag trap
-run_form w (TakeException v) p e = let u = unless _ p _ e in by_name w _ p _ u.1 (exc_form w (gist w) v refl u.0)
-run_form w (Trap n) p e = let u = unless _ p _ e in by_name w _ p _ u.1 (exc_form w (gist w) (32 + n % 16) refl u.0)
-run_form w (TakeGroup2Exception v) p e = by_name w _ p _ (is_some _ p e) (group2_form w (gist w) v refl)
-run_form w ExceptionChk p e = by_name w _ p _ (is_some _ p e) (group2_form w (gist w) 6 refl)
-run_form w ExceptionZeroDivide p e = by_name w _ p _ (is_some _ p e) (group2_form w (gist w) 5 refl)
-run_form w ExceptionPrivilege p e = let u = unless _ p _ e in by_name w _ p _ u.1 (exc_form w (gist w) 8 refl u.0)
-run_form w ExceptionTrace p e = by_name w _ p _ (is_some _ p e) (trace_form w (gist w) refl)
-run_form w (ExceptionAddressError a write instruction) p e = by_name w _ p _ (is_some _ p e) (address_form w (gist w) a write instruction refl)
-run_form w (ExceptionBusError a write instruction z cause) p e = by_name w _ p _ (is_some _ p e) (bus_form w (gist w) a write instruction z (cause_number cause) refl)
-run_form w (TakeFpUnimp060 ea) p e = by_name w _ p _ (is_some _ p e) (fp_unimp_form w (gist w) ea refl)
-run_form w TakeFpDisabled060 p e = by_name w _ p _ (is_some _ p e) (fp_disabled_form w (gist w) refl)
-run_form w TakeAlineException p e = let u = unless _ p _ e in by_name w _ p _ u.1 (rewound_form w (gist w) 10 refl u.0)
-run_form w TakeFlineException p e = let u = unless _ p _ e in by_name w _ p _ u.1 (rewound_form w (gist w) 11 refl u.0)
-run_form w (TakeTrapException n) p e = let u = unless _ p _ e in by_name w _ p _ u.1 (exc_form w (gist w) (32 + n % 16) refl u.0)
-run_form w TakeBkptException p e = let u = unless _ p _ e in by_name w _ p _ u.1 (rewound_form w (gist w) 4 refl u.0)
-run_form w TakeIllegalException p e = let u = unless _ p _ e in by_name w _ p _ u.1 (rewound_form w (gist w) 4 refl u.0)
-run_form w CheckAndServiceInterrupts p e = let u = only_if _ p _ e in by_name w _ p _ u.1 (interrupt_form w (gist w) refl u.0)
-run_form w (TriggerAddressError a write instruction) p e = no_plan_lem p e
-run_form w (TriggerBusError a write instruction z) p e = no_plan_lem p e
-run_form w CheckTrace p e = no_plan_lem p e
-run_form w (SetIrq n) p e = no_plan_lem p e
-run_form w CheckInterrupts p e = no_plan_lem p e
-run_form w (Read16 a) p e = no_plan_lem p e
-run_form w (Read32 a) p e = no_plan_lem p e
-run_form w (Write16 a v) p e = no_plan_lem p e
-run_form w (Write32 a v) p e = no_plan_lem p e
-run_form w (Push16 v) p e = no_plan_lem p e
-run_form w (Push32 v) p e = no_plan_lem p e
-run_form w PrefetchFirst p e = no_plan_lem p e
-run_form w PrefetchSecond p e = no_plan_lem p e
 
 pub begun_gist : (w : World) → gist (begun w) ≡ gist w
 unfolding begun restarted gist gist_cpu calm
 begun_gist w = refl
 
--- THE FORM: a direct entry that is accepted and taken, and whose accesses are all served and raise no address error, leaves what its
--- plan says
-pub entry_form : (w : World) (c : Call) (p : Plan) → refusal w c ≡ 0 → plan_of (begun w) c ≡ some p → Clean (gist w) p → gist (perform w c).after ≡ planned (gist w) p
-unfolding perform
-entry_form w c p r e h = rw r (run_form (begun w) c p e (rw (begun_gist w) h) ∙ ap (λ (x : World). planned x p) (begun_gist w))
-
 -- ---- by the closed test
 
 -- every step of a plan keeps a record of the domain inside it
-abbrev SafePlan : Plan → Type 0
+abbrev pub SafePlan : Plan → Type 0
 SafePlan p = AllSafe p.pushes × Safe p.settle
 
-exc_safe : (c : Cpu) (v : ℕ) → SafePlan (exc_plan c v)
+pub exc_safe : (c : Cpu) (v : ℕ) → SafePlan (exc_plan c v)
 unfolding AllSafe exc_plan
 exc_safe c v = ((safe_exception, tt), safe_same)
 
-rewound_safe : (c : Cpu) (v : ℕ) → SafePlan (rewound_plan c v)
+pub rewound_safe : (c : Cpu) (v : ℕ) → SafePlan (rewound_plan c v)
 unfolding AllSafe rewound_plan
 rewound_safe c v = ((safe_rewound, tt), safe_same)
 
-group_safe : (c : Cpu) (v : ℕ) → SafePlan (group2_plan c v)
+pub group_safe : (c : Cpu) (v : ℕ) → SafePlan (group2_plan c v)
 unfolding AllSafe group2_plan
 group_safe c v = ((safe_enter, tt), safe_same)
 
-trace_safe : (c : Cpu) → SafePlan (trace_plan c)
+pub trace_safe : (c : Cpu) → SafePlan (trace_plan c)
 unfolding AllSafe trace_plan
 trace_safe c = ((safe_traced, tt), safe_same)
 
-unimp_safe : (c : Cpu) (ea : ℕ) → SafePlan (fp_unimp_plan c ea)
+pub unimp_safe : (c : Cpu) (ea : ℕ) → SafePlan (fp_unimp_plan c ea)
 unfolding AllSafe fp_unimp_plan
 unimp_safe c ea = ((safe_fpiar, tt), safe_same)
 
-disabled_safe : (c : Cpu) → SafePlan (fp_disabled_plan c)
+pub disabled_safe : (c : Cpu) → SafePlan (fp_disabled_plan c)
 unfolding AllSafe fp_disabled_plan
 disabled_safe c = ((safe_enter, tt), safe_same)
 
-address_safe : (c : Cpu) (a : ℕ) (write instruction : Bool) → SafePlan (address_plan c a write instruction)
+pub address_safe : (c : Cpu) (a : ℕ) (write instruction : Bool) → SafePlan (address_plan c a write instruction)
 unfolding AllSafe address_plan
 address_safe c a write instruction = ((safe_enter, tt), safe_same)
 
-bus_safe : (c : Cpu) (a : ℕ) (write instruction : Bool) (z cause : ℕ) → SafePlan (bus_plan c a write instruction z cause)
+pub bus_safe : (c : Cpu) (a : ℕ) (write instruction : Bool) (z cause : ℕ) → SafePlan (bus_plan c a write instruction z cause)
 unfolding AllSafe bus_plan
 bus_safe c a write instruction z cause = ((safe_bus, tt), safe_same)
 
-interrupt_safe : (c : Cpu) (level v : ℕ) (m master six : Bool) → SafePlan (interrupt_by c level v m master six)
+pub interrupt_safe : (c : Cpu) (level v : ℕ) (m master six : Bool) → SafePlan (interrupt_by c level v m master six)
 unfolding AllSafe interrupt_by throwaways settles
 interrupt_safe c level v true true six = ((safe_level level, (safe_leave, tt)), safe_same)
 interrupt_safe c level v true false true = ((safe_level level, tt), safe_clear)
@@ -168,41 +128,8 @@ interrupt_safe c level v true false false = ((safe_level level, tt), safe_same)
 interrupt_safe c level v false true six = ((safe_level level, tt), safe_same)
 interrupt_safe c level v false false six = ((safe_level level, tt), safe_same)
 
-named_safe : (p q : Plan) → q ≡ p → SafePlan q → SafePlan p
+pub named_safe : (p q : Plan) → q ≡ p → SafePlan q → SafePlan p
 named_safe p q e s = subst SafePlan e s
-
-plan_safe : (w : World) (c : Call) (p : Plan) → plan_of w c ≡ some p → SafePlan p
-unfolding plan_of interrupt_plan
-plan_safe w (TakeException v) p e = named_safe p _ (unless (in_exception (cpu_of w)) p (exc_plan (cpu_of w) v) e).1 (exc_safe (cpu_of w) v)
-plan_safe w (Trap n) p e = named_safe p _ (unless (in_exception (cpu_of w)) p (exc_plan (cpu_of w) (32 + n % 16)) e).1 (exc_safe (cpu_of w) (32 + n % 16))
-plan_safe w ExceptionPrivilege p e = named_safe p _ (unless (in_exception (cpu_of w)) p (exc_plan (cpu_of w) 8) e).1 (exc_safe (cpu_of w) 8)
-plan_safe w (TakeTrapException n) p e = named_safe p _ (unless (in_exception (cpu_of w)) p (exc_plan (cpu_of w) (32 + n % 16)) e).1 (exc_safe (cpu_of w) (32 + n % 16))
-plan_safe w TakeAlineException p e = named_safe p _ (unless (in_exception (cpu_of w)) p (rewound_plan (cpu_of w) 10) e).1 (rewound_safe (cpu_of w) 10)
-plan_safe w TakeFlineException p e = named_safe p _ (unless (in_exception (cpu_of w)) p (rewound_plan (cpu_of w) 11) e).1 (rewound_safe (cpu_of w) 11)
-plan_safe w TakeBkptException p e = named_safe p _ (unless (in_exception (cpu_of w)) p (rewound_plan (cpu_of w) 4) e).1 (rewound_safe (cpu_of w) 4)
-plan_safe w TakeIllegalException p e = named_safe p _ (unless (in_exception (cpu_of w)) p (rewound_plan (cpu_of w) 4) e).1 (rewound_safe (cpu_of w) 4)
-plan_safe w (TakeGroup2Exception v) p e = named_safe p _ (is_some (group2_plan (cpu_of w) v) p e) (group_safe (cpu_of w) v)
-plan_safe w ExceptionChk p e = named_safe p _ (is_some (group2_plan (cpu_of w) 6) p e) (group_safe (cpu_of w) 6)
-plan_safe w ExceptionZeroDivide p e = named_safe p _ (is_some (group2_plan (cpu_of w) 5) p e) (group_safe (cpu_of w) 5)
-plan_safe w ExceptionTrace p e = named_safe p _ (is_some (trace_plan (cpu_of w)) p e) (trace_safe (cpu_of w))
-plan_safe w (ExceptionAddressError a write instruction) p e = named_safe p _ (is_some (address_plan (cpu_of w) a write instruction) p e) (address_safe (cpu_of w) a write instruction)
-plan_safe w (ExceptionBusError a write instruction z cause) p e = named_safe p _ (is_some (bus_plan (cpu_of w) a write instruction z (cause_number cause)) p e) (bus_safe (cpu_of w) a write instruction z (cause_number cause))
-plan_safe w (TakeFpUnimp060 ea) p e = named_safe p _ (is_some (fp_unimp_plan (cpu_of w) ea) p e) (unimp_safe (cpu_of w) ea)
-plan_safe w TakeFpDisabled060 p e = named_safe p _ (is_some (fp_disabled_plan (cpu_of w)) p e) (disabled_safe (cpu_of w))
-plan_safe w CheckAndServiceInterrupts p e = named_safe p _ (only_if (takes_interrupt (cpu_of w)) p (interrupt_plan (cpu_of w) w.core.bus) e).1 (interrupt_safe _ _ _ _ _ _)
-plan_safe w (TriggerAddressError a write instruction) p e = no_plan_lem p e
-plan_safe w (TriggerBusError a write instruction z) p e = no_plan_lem p e
-plan_safe w CheckTrace p e = no_plan_lem p e
-plan_safe w (SetIrq n) p e = no_plan_lem p e
-plan_safe w CheckInterrupts p e = no_plan_lem p e
-plan_safe w (Read16 a) p e = no_plan_lem p e
-plan_safe w (Read32 a) p e = no_plan_lem p e
-plan_safe w (Write16 a v) p e = no_plan_lem p e
-plan_safe w (Write32 a v) p e = no_plan_lem p e
-plan_safe w (Push16 v) p e = no_plan_lem p e
-plan_safe w (Push32 v) p e = no_plan_lem p e
-plan_safe w PrefetchFirst p e = no_plan_lem p e
-plan_safe w PrefetchSecond p e = no_plan_lem p e
 
 -- a direct entry is lent a store
 pub plan_lent : (w : World) (c : Call) (p : Plan) → plan_of w c ≡ some p → (matter_of c).store ≡ true
@@ -246,16 +173,6 @@ pub gist_length : (w : World) → length (gist w).store ≡ length w.store
 unfolding gist
 gist_length w = refl
 
--- an accepted entry taken, from a record of the domain: the closed test gives the premise
-pub entry_clean : (w : World) (c : Call) (p : Plan) → refusal w c ≡ 0 → plan_of (begun w) c ≡ some p → Whole (cpu_of w) → clean_test (gist w) p ≡ true → Clean (gist w) p
-entry_clean w c p r e h t =
-    let s = plan_safe (begun w) c p e in
-    clean_tested (gist w) p (gist_whole w h) (rw (gist_length w) (accepted_store w c r (plan_lent (begun w) c p e))) s.0 s.1 t
-
--- THE FORM, by the closed test
-pub entry_tested : (w : World) (c : Call) (p : Plan) → refusal w c ≡ 0 → plan_of (begun w) c ≡ some p → Whole (cpu_of w) → clean_test (gist w) p ≡ true → gist (perform w c).after ≡ planned (gist w) p
-entry_tested w c p r e h t = entry_form w c p r e (entry_clean w c p r e h t)
-
 -- ---- what an entry leaves is accepted and inside the domain
 
 pub record SteadyPlan (p : Plan) : Type 0 where
@@ -263,39 +180,39 @@ pub record SteadyPlan (p : Plan) : Type 0 where
   pub settle : Steady p.settle
   pub close : Steady p.close
 
-exc_steady : (c : Cpu) (v : ℕ) → SteadyPlan (exc_plan c v)
+pub exc_steady : (c : Cpu) (v : ℕ) → SteadyPlan (exc_plan c v)
 unfolding AllSteady exc_plan
 exc_steady c v = record { pushes = (steady_exception, tt); settle = steady_same; close = steady_end }
 
-rewound_steady : (c : Cpu) (v : ℕ) → SteadyPlan (rewound_plan c v)
+pub rewound_steady : (c : Cpu) (v : ℕ) → SteadyPlan (rewound_plan c v)
 unfolding AllSteady rewound_plan
 rewound_steady c v = record { pushes = (steady_rewound, tt); settle = steady_same; close = steady_end }
 
-group_steady : (c : Cpu) (v : ℕ) → SteadyPlan (group2_plan c v)
+pub group_steady : (c : Cpu) (v : ℕ) → SteadyPlan (group2_plan c v)
 unfolding AllSteady group2_plan
 group_steady c v = record { pushes = (steady_enter, tt); settle = steady_same; close = steady_same }
 
-trace_steady : (c : Cpu) → SteadyPlan (trace_plan c)
+pub trace_steady : (c : Cpu) → SteadyPlan (trace_plan c)
 unfolding AllSteady trace_plan
 trace_steady c = record { pushes = (steady_traced, tt); settle = steady_same; close = steady_same }
 
-unimp_steady : (c : Cpu) (ea : ℕ) → SteadyPlan (fp_unimp_plan c ea)
+pub unimp_steady : (c : Cpu) (ea : ℕ) → SteadyPlan (fp_unimp_plan c ea)
 unfolding AllSteady fp_unimp_plan
 unimp_steady c ea = record { pushes = (steady_fpiar, tt); settle = steady_same; close = steady_same }
 
-disabled_steady : (c : Cpu) → SteadyPlan (fp_disabled_plan c)
+pub disabled_steady : (c : Cpu) → SteadyPlan (fp_disabled_plan c)
 unfolding AllSteady fp_disabled_plan
 disabled_steady c = record { pushes = (steady_enter, tt); settle = steady_same; close = steady_same }
 
-address_steady : (c : Cpu) (a : ℕ) (write instruction : Bool) → SteadyPlan (address_plan c a write instruction)
+pub address_steady : (c : Cpu) (a : ℕ) (write instruction : Bool) → SteadyPlan (address_plan c a write instruction)
 unfolding AllSteady address_plan
 address_steady c a write instruction = record { pushes = (steady_enter, tt); settle = steady_same; close = steady_same }
 
-bus_steady : (c : Cpu) (a : ℕ) (write instruction : Bool) (z cause : ℕ) → SteadyPlan (bus_plan c a write instruction z cause)
+pub bus_steady : (c : Cpu) (a : ℕ) (write instruction : Bool) (z cause : ℕ) → SteadyPlan (bus_plan c a write instruction z cause)
 unfolding AllSteady bus_plan
 bus_steady c a write instruction z cause = record { pushes = (steady_bus, tt); settle = steady_same; close = steady_same }
 
-interrupt_steady : (c : Cpu) (level v : ℕ) (m master six : Bool) → SteadyPlan (interrupt_by c level v m master six)
+pub interrupt_steady : (c : Cpu) (level v : ℕ) (m master six : Bool) → SteadyPlan (interrupt_by c level v m master six)
 unfolding AllSteady interrupt_by throwaways settles
 interrupt_steady c level v true true six = record { pushes = (steady_level level, (steady_leave, tt)); settle = steady_same; close = steady_close }
 interrupt_steady c level v true false true = record { pushes = (steady_level level, tt); settle = steady_clear; close = steady_close }
@@ -303,56 +220,17 @@ interrupt_steady c level v true false false = record { pushes = (steady_level le
 interrupt_steady c level v false true six = record { pushes = (steady_level level, tt); settle = steady_same; close = steady_close }
 interrupt_steady c level v false false six = record { pushes = (steady_level level, tt); settle = steady_same; close = steady_close }
 
-named_steady : (p q : Plan) → q ≡ p → SteadyPlan q → SteadyPlan p
+pub named_steady : (p q : Plan) → q ≡ p → SteadyPlan q → SteadyPlan p
 named_steady p q e s = subst SteadyPlan e s
 
-plan_steady : (w : World) (c : Call) (p : Plan) → plan_of w c ≡ some p → SteadyPlan p
-unfolding plan_of interrupt_plan
-plan_steady w (TakeException v) p e = named_steady p _ (unless (in_exception (cpu_of w)) p (exc_plan (cpu_of w) v) e).1 (exc_steady (cpu_of w) v)
-plan_steady w (Trap n) p e = named_steady p _ (unless (in_exception (cpu_of w)) p (exc_plan (cpu_of w) (32 + n % 16)) e).1 (exc_steady (cpu_of w) (32 + n % 16))
-plan_steady w ExceptionPrivilege p e = named_steady p _ (unless (in_exception (cpu_of w)) p (exc_plan (cpu_of w) 8) e).1 (exc_steady (cpu_of w) 8)
-plan_steady w (TakeTrapException n) p e = named_steady p _ (unless (in_exception (cpu_of w)) p (exc_plan (cpu_of w) (32 + n % 16)) e).1 (exc_steady (cpu_of w) (32 + n % 16))
-plan_steady w TakeAlineException p e = named_steady p _ (unless (in_exception (cpu_of w)) p (rewound_plan (cpu_of w) 10) e).1 (rewound_steady (cpu_of w) 10)
-plan_steady w TakeFlineException p e = named_steady p _ (unless (in_exception (cpu_of w)) p (rewound_plan (cpu_of w) 11) e).1 (rewound_steady (cpu_of w) 11)
-plan_steady w TakeBkptException p e = named_steady p _ (unless (in_exception (cpu_of w)) p (rewound_plan (cpu_of w) 4) e).1 (rewound_steady (cpu_of w) 4)
-plan_steady w TakeIllegalException p e = named_steady p _ (unless (in_exception (cpu_of w)) p (rewound_plan (cpu_of w) 4) e).1 (rewound_steady (cpu_of w) 4)
-plan_steady w (TakeGroup2Exception v) p e = named_steady p _ (is_some (group2_plan (cpu_of w) v) p e) (group_steady (cpu_of w) v)
-plan_steady w ExceptionChk p e = named_steady p _ (is_some (group2_plan (cpu_of w) 6) p e) (group_steady (cpu_of w) 6)
-plan_steady w ExceptionZeroDivide p e = named_steady p _ (is_some (group2_plan (cpu_of w) 5) p e) (group_steady (cpu_of w) 5)
-plan_steady w ExceptionTrace p e = named_steady p _ (is_some (trace_plan (cpu_of w)) p e) (trace_steady (cpu_of w))
-plan_steady w (ExceptionAddressError a write instruction) p e = named_steady p _ (is_some (address_plan (cpu_of w) a write instruction) p e) (address_steady (cpu_of w) a write instruction)
-plan_steady w (ExceptionBusError a write instruction z cause) p e = named_steady p _ (is_some (bus_plan (cpu_of w) a write instruction z (cause_number cause)) p e) (bus_steady (cpu_of w) a write instruction z (cause_number cause))
-plan_steady w (TakeFpUnimp060 ea) p e = named_steady p _ (is_some (fp_unimp_plan (cpu_of w) ea) p e) (unimp_steady (cpu_of w) ea)
-plan_steady w TakeFpDisabled060 p e = named_steady p _ (is_some (fp_disabled_plan (cpu_of w)) p e) (disabled_steady (cpu_of w))
-plan_steady w CheckAndServiceInterrupts p e = named_steady p _ (only_if (takes_interrupt (cpu_of w)) p (interrupt_plan (cpu_of w) w.core.bus) e).1 (interrupt_steady _ _ _ _ _ _)
-plan_steady w (TriggerAddressError a write instruction) p e = no_plan_lem p e
-plan_steady w (TriggerBusError a write instruction z) p e = no_plan_lem p e
-plan_steady w CheckTrace p e = no_plan_lem p e
-plan_steady w (SetIrq n) p e = no_plan_lem p e
-plan_steady w CheckInterrupts p e = no_plan_lem p e
-plan_steady w (Read16 a) p e = no_plan_lem p e
-plan_steady w (Read32 a) p e = no_plan_lem p e
-plan_steady w (Write16 a v) p e = no_plan_lem p e
-plan_steady w (Write32 a v) p e = no_plan_lem p e
-plan_steady w (Push16 v) p e = no_plan_lem p e
-plan_steady w (Push32 v) p e = no_plan_lem p e
-plan_steady w PrefetchFirst p e = no_plan_lem p e
-plan_steady w PrefetchSecond p e = no_plan_lem p e
-
-good_gist : (w : World) → Good (cpu_of w) → Good (cpu_of (gist w))
+pub good_gist : (w : World) → Good (cpu_of w) → Good (cpu_of (gist w))
 unfolding gist
 good_gist w h = steady_gist (cpu_of w) h
 
-gist_good : (w : World) → Good (cpu_of (gist w)) → Good (cpu_of w)
+pub gist_good : (w : World) → Good (cpu_of (gist w)) → Good (cpu_of w)
 unfolding gist gist_cpu a7_of kind_of odd_base checks_alignment vbr_of bad_code has_fc_override fc_override_of ppc_of
 gist_good w h =
     record { registers = h.registers; pointers = h.pointers; a7 = h.a7; saved = h.saved; s_is_lem = h.s_is_lem; m_is_lem = h.m_is_lem; kind = h.kind; base = h.base; code = h.code; ppc = h.ppc }
-
--- numbers 1, 2, 4 and 9 accept the record that an entry leaves, and its lengths and ranges are those of the domain
-pub entry_good : (w : World) (c : Call) (p : Plan) → refusal w c ≡ 0 → plan_of (begun w) c ≡ some p → Clean (gist w) p → Good (cpu_of w) → Good (cpu_of (perform w c).after)
-entry_good w c p r e cl h =
-    let s = plan_steady (begun w) c p e in
-    gist_good (perform w c).after (subst (λ (z : World). Good (cpu_of z)) (sym (entry_form w c p r e cl)) (planned_good (gist w) p s.pushes s.settle s.close (good_gist w h)))
 
 -- base, windows and length of the store stay: numbers 5 and 6
 pub record SameRoom (w z : World) : Type 0 where
@@ -370,7 +248,7 @@ jumped_room x v = record { bus = refl; size = refl }
 framed_room : (y : World) (f : Frame) → SameRoom y (framed_by y f)
 framed_room y f = record { bus = framed_bus y f; size = framed_length y f }
 
-room_trans : {x y z : World} → SameRoom x y → SameRoom y z → SameRoom x z
+pub room_trans : {x y z : World} → SameRoom x y → SameRoom y z → SameRoom x z
 room_trans a b = record { bus = b.bus ∙ a.bus; size = b.size ∙ a.size }
 
 stack_room : (x : World) (ps : List Push) → SameRoom x (stack_all x ps)
@@ -378,18 +256,12 @@ unfolding stack_all
 stack_room x [] = record { bus = refl; size = refl }
 stack_room x (p ∷ ps) = room_trans (room_trans (turned_room x p.turn) (framed_room (turned x p.turn) p.frame)) (stack_room (framed_by (turned x p.turn) p.frame) ps)
 
-planned_room : (x : World) (p : Plan) → SameRoom x (planned x p)
+pub planned_room : (x : World) (p : Plan) → SameRoom x (planned x p)
 unfolding planned
 planned_room x p =
     room_trans (stack_room x p.pushes) (room_trans (turned_room (stack_all x p.pushes) p.settle)
     (room_trans (jumped_room (turned (stack_all x p.pushes) p.settle) p.vector) (turned_room (jumped (turned (stack_all x p.pushes) p.settle) p.vector) p.close)))
 
-gist_room : (w : World) → SameRoom w (gist w)
+pub gist_room : (w : World) → SameRoom w (gist w)
 unfolding gist calm
 gist_room w = record { bus = refl; size = refl }
-
-pub entry_room : (w : World) (c : Call) (p : Plan) → refusal w c ≡ 0 → plan_of (begun w) c ≡ some p → Clean (gist w) p → SameRoom w (perform w c).after
-entry_room w c p r e cl =
-    let q = room_trans (gist_room w) (subst (λ (z : World). SameRoom (gist w) z) (sym (entry_form w c p r e cl)) (planned_room (gist w) p)) in
-    let g = gist_room (perform w c).after in
-    record { bus = sym g.bus ∙ q.bus; size = sym g.size ∙ q.size }

@@ -113,31 +113,14 @@ kinds P p0 p1 p2 p3 p4 p5 p6 p7 p8 p9 p10 p11 (suc (suc (suc (suc (suc (suc (suc
 kinds P p0 p1 p2 p3 p4 p5 p6 p7 p8 p9 p10 p11 (suc (suc (suc (suc (suc (suc (suc (suc (suc (suc (suc zero))))))))))) h = p11
 kinds P p0 p1 p2 p3 p4 p5 p6 p7 p8 p9 p10 p11 (suc (suc (suc (suc (suc (suc (suc (suc (suc (suc (suc (suc k)))))))))))) h = absurd (omega arith)
 
-bus_table : (k : ℕ) → k < 12 → pick (eqb k 1) 14 (pick (is_pre68020 k) 58 (pick (is060 k) 16 (pick (is040 k) 60 92))) ≡ error_length k (bus_format k)
+pub bus_table : (k : ℕ) → k < 12 → pick (eqb k 1) 14 (pick (is_pre68020 k) 58 (pick (is060 k) 16 (pick (is040 k) 60 92))) ≡ error_length k (bus_format k)
 unfolding error_length bus_format frame_length takes_format format_length is_pre68020 is040 is060
 bus_table = kinds (λ k. pick (eqb k 1) 14 (pick (is_pre68020 k) 58 (pick (is060 k) 16 (pick (is040 k) 60 92))) ≡ error_length k (bus_format k)) refl refl refl refl refl refl refl refl refl refl refl refl
 
-address_table : (k : ℕ) → k < 12 → pick (eqb k 1) 14 (pick (is_pre68020 k) 58 (pick (is040 k) 12 8)) ≡ error_length k (address_format k)
+pub address_table : (k : ℕ) → k < 12 → pick (eqb k 1) 14 (pick (is_pre68020 k) 58 (pick (is040 k) 12 8)) ≡ error_length k (address_format k)
 unfolding error_length address_format frame_length takes_format format_length is_pre68020 is040 is060
 address_table = kinds (λ k. pick (eqb k 1) 14 (pick (is_pre68020 k) 58 (pick (is040 k) 12 8)) ≡ error_length k (address_format k)) refl refl refl refl refl refl refl refl refl refl refl refl
 
-either_length : (t : Bool) (x y : Frame) (a b : ℕ) → length_of x ≡ a → length_of y ≡ b → length_of (pick t x y) ≡ pick t a b
+pub either_length : (t : Bool) (x y : Frame) (a b : ℕ) → length_of x ≡ a → length_of y ≡ b → length_of (pick t x y) ≡ pick t a b
 either_length true x y a b p q = p
 either_length false x y a b p q = q
-
--- the frame of a bus error has the length of the table, 14 on kind 1
-pub bus_length : (c : Cpu) (a : ℕ) (write instruction : Bool) (z cause : ℕ) → kind_of c < 12 → length_of (bus_frame c a write instruction z cause) ≡ error_length (kind_of c) (bus_format (kind_of c))
-unfolding bus_frame
-bus_length c a write instruction z cause h =
-    either_length (eqb (kind_of c) 1) _ _ 14 _ (length_68000 _ _ _ _ _)
-    (either_length (is_pre68020 (kind_of c)) _ _ 58 _ (length_8 _ _ _)
-    (either_length (is060 (kind_of c)) _ _ 16 _ (length_4 _ _ _ _) (either_length (is040 (kind_of c)) _ _ 60 92 (length_7 _ _ _ _ _ _ _) (length_11 _ _ _ _ _ _))))
-    ∙ bus_table (kind_of c) h
-
--- the frame of an address error has the length of the table, 14 on kind 1
-pub address_length : (c : Cpu) (a : ℕ) (write instruction : Bool) → kind_of c < 12 → length_of (address_frame c a write instruction) ≡ error_length (kind_of c) (address_format (kind_of c))
-unfolding address_frame
-address_length c a write instruction h =
-    either_length (eqb (kind_of c) 1) _ _ 14 _ (length_68000 _ _ _ _ _)
-    (either_length (is_pre68020 (kind_of c)) _ _ 58 _ (length_8 _ _ _) (either_length (is040 (kind_of c)) _ _ 12 8 (length_2 _ _ _) (length_0 _ _)))
-    ∙ address_table (kind_of c) h

@@ -18,55 +18,36 @@ use Rattle.images.specs.Images.{field_address, new_a7, most_store, Sound, Shape,
 use Rattle.images.specs.Lengths.{length_of, length_68000, length_8, length_2, length_0, length_4, length_7, length_11}
 
 -- each error frame has the shape
-short_enough : (f : Frame) (n : ℕ) → 0 < f.count → is_counted (field_at f 0) ≡ false → length_of f ≡ n → n ≤ 92 → Shape f
+pub short_enough : (f : Frame) (n : ℕ) → 0 < f.count → is_counted (field_at f 0) ≡ false → length_of f ≡ n → n ≤ 92 → Shape f
 short_enough f n s c e h = record { some = s; first = c; short = rw e h }
 
-shape_68000 : (sr ppc ir a st : ℕ) → Shape (frame68000 sr ppc ir a st)
+pub shape_68000 : (sr ppc ir a st : ℕ) → Shape (frame68000 sr ppc ir a st)
 unfolding field_at is_counted frame68000
 shape_68000 sr ppc ir a st = short_enough _ 14 (omega arith) refl (length_68000 sr ppc ir a st) (omega arith)
 
-shape_8 : (sr ppc v : ℕ) → Shape (frame8 sr ppc v)
-unfolding field_at is_counted frame8
-shape_8 sr ppc v = short_enough _ 58 (omega arith) refl (length_8 sr ppc v) (omega arith)
-
-shape_2 : (sr ppc a : ℕ) → Shape (frame2 sr ppc a)
+pub shape_2 : (sr ppc a : ℕ) → Shape (frame2 sr ppc a)
 unfolding field_at is_counted frame2
 shape_2 sr ppc a = short_enough _ 12 (omega arith) refl (length_2 sr ppc a) (omega arith)
 
-shape_0 : (sr ppc : ℕ) → Shape (frame0 sr ppc)
+pub shape_0 : (sr ppc : ℕ) → Shape (frame0 sr ppc)
 unfolding field_at is_counted frame0
 shape_0 sr ppc = short_enough _ 8 (omega arith) refl (length_0 sr ppc) (omega arith)
 
-shape_4 : (sr ppc a s : ℕ) → Shape (frame4 sr ppc a s)
+pub shape_4 : (sr ppc a s : ℕ) → Shape (frame4 sr ppc a s)
 unfolding field_at is_counted frame4
 shape_4 sr ppc a s = short_enough _ 16 (omega arith) refl (length_4 sr ppc a s) (omega arith)
 
-shape_7 : (sr ppc a s wb wba wbd : ℕ) → Shape (frame7 sr ppc a s wb wba wbd)
+pub shape_7 : (sr ppc a s wb wba wbd : ℕ) → Shape (frame7 sr ppc a s wb wba wbd)
 unfolding field_at is_counted frame7
 shape_7 sr ppc a s wb wba wbd = short_enough _ 60 (omega arith) refl (length_7 sr ppc a s wb wba wbd) (omega arith)
 
-shape_11 : (sr ppc s x y z : ℕ) → Shape (frame11 sr ppc s x y z)
+pub shape_11 : (sr ppc s x y z : ℕ) → Shape (frame11 sr ppc s x y z)
 unfolding field_at is_counted frame11
 shape_11 sr ppc s x y z = short_enough _ 92 (omega arith) refl (length_11 sr ppc s x y z) (omega arith)
 
-either_shape : (t : Bool) (x y : Frame) → Shape x → Shape y → Shape (pick t x y)
+pub either_shape : (t : Bool) (x y : Frame) → Shape x → Shape y → Shape (pick t x y)
 either_shape true x y p q = p
 either_shape false x y p q = q
-
--- so does the frame of a bus error on every kind
-pub bus_shape : (c : Cpu) (a : ℕ) (write instruction : Bool) (z cause : ℕ) → Shape (bus_frame c a write instruction z cause)
-unfolding bus_frame
-bus_shape c a write instruction z cause =
-    either_shape (eqb (kind_of c) 1) _ _ (shape_68000 _ _ _ _ _)
-    (either_shape (is_pre68020 (kind_of c)) _ _ (shape_8 _ _ _)
-    (either_shape (is060 (kind_of c)) _ _ (shape_4 _ _ _ _) (either_shape (is040 (kind_of c)) _ _ (shape_7 _ _ _ _ _ _ _) (shape_11 _ _ _ _ _ _))))
-
--- and the frame of an address error
-pub address_shape : (c : Cpu) (a : ℕ) (write instruction : Bool) → Shape (address_frame c a write instruction)
-unfolding address_frame
-address_shape c a write instruction =
-    either_shape (eqb (kind_of c) 1) _ _ (shape_68000 _ _ _ _ _)
-    (either_shape (is_pre68020 (kind_of c)) _ _ (shape_8 _ _ _) (either_shape (is040 (kind_of c)) _ _ (shape_2 _ _ _) (shape_0 _ _)))
 
 -- a field that is counted or raw
 abbrev free : ℕ → Field → Bool

@@ -14,7 +14,7 @@ use Rattle.frames.specs.Frames.{word, long, framed, gap_word, field_at, frame680
 use Rattle.steps.specs.Steps.{enter_bus_error}
 use Rattle.access.specs.Access.{Raise, push_frame, exception_bus_error, exception_address_error}
 use Rattle.images.specs.Images.{frame_bytes, bottom, Ready, Image, field_value}
-use Rattle.images.specs.Jumps.{Reachable, bus_image, address_image}
+use Rattle.images.specs.Jumps.{Reachable}
 use Rattle.frames.specs.Codes.{function_code, is_supervisor, state_code, fault_code, fault_word, size020, ssw020, is_cause, size040, ssw040, wb3s, cause_bit, size060, fslw060}
 
 -- each value of a frame fits its field
@@ -155,24 +155,3 @@ module _ (c : Cpu) (a : ℕ) (write instruction : Bool) (hp : ppc_of c < 2 ^ 32)
       either_fits (eqb (kind_of c) 1) _ _ (fits_68000 _ _ _ _ _ s hp (omega arith) ha (word_fits _ write instruction (code (is_supervisor c) instruction)))
       (either_fits (is_pre68020 (kind_of c)) _ _ (fits_8 _ _ 0x800C s hp (omega arith))
       (either_fits (is040 (kind_of c)) _ _ (fits_2 _ _ _ s hp (omega arith)) (fits_0 _ _ s hp)))
-
-module _ (t : Raise) (w : World) (a : ℕ) (write instruction : Bool) (hp : ppc_of (cpu_of w) < 2 ^ 32) (ha : a < 2 ^ 32) where
-  -- after a bus error entry whose accesses are all served, each written field of its frame is read at its offset above the new A7
-  pub bus_fields_lem : (z cause : ℕ) → wdata_of (cpu_of w) < 2 ^ 32 → Ready (step enter_bus_error w) (bus_frame (cpu_of w) a write instruction z cause)
-      → Reachable (push_frame t (step enter_bus_error w) (bus_frame (cpu_of w) a write instruction z cause)) 2
-      → (i : ℕ) → i < (bus_frame (cpu_of w) a write instruction z cause).count → is_counted (field_at (bus_frame (cpu_of w) a write instruction z cause) i) ≡ false
-      → read_value (exception_bus_error t w a write instruction z cause) (bottom (step enter_bus_error w) (bus_frame (cpu_of w) a write instruction z cause) + frame_bytes (bus_frame (cpu_of w) a write instruction z cause) i) (field_at (bus_frame (cpu_of w) a write instruction z cause) i).long
-      ≡ (field_at (bus_frame (cpu_of w) a write instruction z cause) i).value
-  bus_fields_lem z cause hw h r i l c =
-      field_value (step enter_bus_error w) (exception_bus_error t w a write instruction z cause) (bus_frame (cpu_of w) a write instruction z cause) (bus_image t w a write instruction z cause h r) i l c
-      (bus_fits (cpu_of w) a write instruction hp ha z cause hw i l)
-
-  -- the same after an address error entry
-  pub address_fields : Ready (step enter_supervisor w) (address_frame (cpu_of w) a write instruction)
-      → Reachable (push_frame t (step enter_supervisor w) (address_frame (cpu_of w) a write instruction)) 3
-      → (i : ℕ) → i < (address_frame (cpu_of w) a write instruction).count → is_counted (field_at (address_frame (cpu_of w) a write instruction) i) ≡ false
-      → read_value (exception_address_error t w a write instruction) (bottom (step enter_supervisor w) (address_frame (cpu_of w) a write instruction) + frame_bytes (address_frame (cpu_of w) a write instruction) i) (field_at (address_frame (cpu_of w) a write instruction) i).long
-      ≡ (field_at (address_frame (cpu_of w) a write instruction) i).value
-  address_fields h r i l c =
-      field_value (step enter_supervisor w) (exception_address_error t w a write instruction) (address_frame (cpu_of w) a write instruction) (address_image t w a write instruction h r) i l c
-      (address_fits (cpu_of w) a write instruction hp ha i l)

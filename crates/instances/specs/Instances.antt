@@ -21,7 +21,7 @@ autovector : EntersInEachOrder auto 28
 unfolding computed
 autovector = (refl, refl, refl)
 
-p5 : P5
+pub p5 : P5
 unfolding computed
 p5 = (λ level. refl, λ level. refl, refl, vector_255, vector_254, autovector)
 
@@ -34,7 +34,7 @@ p6_data : Leaves (start 4) (ExceptionBusError 0x1234 false false 4 Absent) 0x7FA
 unfolding computed
 p6_data s h = field s h (start 4) false false 4 Absent (record { accepted = rw h; ppc_fits = omega arith; data_fits = omega arith; sound = record { running = refl; regs16 = omega arith; a7_fits = omega arith }; last = 27; ends = refl; top = omega arith; serves = refl; even = refl; vector_even = refl; vector = refl; no_queue = refl }) 4 (omega arith) refl
 
-p6 : P6
+pub p6 : P6
 unfolding computed
 p6 = (refl, p6_instruction, refl, p6_data)
 
@@ -50,7 +50,7 @@ p7_write_back : Leaves (user 9) (ExceptionBusError 0x1234 true false 2 Absent) 0
 unfolding computed
 p7_write_back s h = field s h (user 9) true false 2 Absent (fine_9 s h) 5 (omega arith) refl
 
-p7 : P7
+pub p7 : P7
 unfolding computed
 p7 = (refl, p7_status, refl, p7_write_back)
 
@@ -58,10 +58,6 @@ p8_word : Leaves (start 11) (ExceptionBusError 0x1234 false false 1 PageFault) 0
 unfolding computed
 p8_word s h = field s h (start 11) false false 1 PageFault (record { accepted = rw h; ppc_fits = omega arith; data_fits = omega arith; sound = record { running = refl; regs16 = omega arith; a7_fits = omega arith }; last = 4; ends = refl; top = omega arith; serves = refl; even = refl; vector_even = refl; vector = refl; no_queue = refl }) 4 (omega arith) refl
 
-p8 : P8
+pub p8 : P8
 unfolding computed
 p8 = (refl, p8_word)
-
--- EVERY INSTANCE THAT PAPER 01 MARKS P, AND ITS "ALSO" LINE
-pub instances : P1 × P2 × P3 × P4 × P5 × P6 × P7 × P8 × P9 × P10 × P11 × Also
-instances = (p1, p2, p3, p4, p5, p6, p7, p8, p9, p10, p11, also)

@@ -15,8 +15,9 @@ use Rattle.frames.specs.Frames.{field_at, bus_frame, is_counted}
 use Rattle.steps.specs.Steps.{refuses_odd, enter_bus_error}
 use Rattle.access.specs.Access.{raised, push_frame, exception_bus_error}
 use Rattle.images.specs.Images.{frame_bytes, bottom, Ready, Sound, ready_whole}
-use Rattle.images.specs.Jumps.{Reachable, vector_place, handler, reachable_after}
-use Rattle.images.specs.Values.{bus_fields_lem}
+use Rattle.images.specs.Jumps.{Reachable, vector_place, handler}
+use Rattle.images.proofs.Jumps.{reachable_after}
+use Rattle.images.proofs.Values.{bus_fields_lem}
 use Rattle.answers.specs.declared.Call.TheVariants.{ExceptionBusError}
 use Rattle.answers.specs.Answers.{cycles}
 use Rattle.calls.specs.Calls.{restarted, perform, run, begun, refusal}

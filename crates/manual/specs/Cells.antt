@@ -14,7 +14,8 @@ use Rattle.memory.proofs.AccessLaws.{kept}
 use Rattle.frames.specs.declared.Frame.{Frame}
 use Rattle.frames.specs.Frames.{field_at, is_counted}
 use Rattle.images.specs.Pushes.{served_same}
-use Rattle.images.specs.Images.{Shape, Ready, Image, frame_bytes, field_address, new_a7, bottom, at_offset}
+use Rattle.images.specs.Images.{Shape, Ready, Image, frame_bytes, field_address, new_a7, bottom}
+use Rattle.images.proofs.Images.{at_offset}
 use Rattle.nest.specs.View.{Bytes, opt, peek}
 use Rattle.nest.specs.Written.{word_at, long_at}
 use Rattle.entered.specs.Bytes.{mem, word_read, long_read}

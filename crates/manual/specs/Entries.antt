@@ -46,7 +46,7 @@ use Rattle.manual.specs.Cells.{Holding}
 use Rattle.manual.specs.Statement.{Reads, Each, Agrees}
 use Rattle.manual.specs.Single.{Still, Same3, same_3, holding_found, one_stacks, one_pointer, one_reads, one_status, one_pc}
 use Rattle.manual.specs.Plain.{of, first, early, plain, twelve, instruction_cells, trap_cells, group2_cells, vector_group2, vector_interrupt, vector_under, vector_bus_error, vector_address_error, vector_protocol, vector_configuration, unimplemented_cells, disabled_cells}
-use Rattle.manual.specs.Errors.{fault, first_bus_error, first_address_error, second_bus_error, second_address_error, third_bus_error, third_address_error, fourth_bus_error, fourth_address_error, sixth_bus_error, sixth_address_error}
+use Rattle.manual.specs.Errors.{fault}
 use Rattle.manual.specs.Errors.{at as with_fault}
 use Rattle.manual.specs.PartLaws.{Tests, Three, three_are, impossible, both_true, forty, sixty, pointer_is, entered_status, bus_status, vector_is, pins_are}
 use Rattle.manual.specs.Lengths.{plain_bytes, group2_bytes, bus_bytes, address_bytes, is_interrupt, has_protocol, has_configuration, rule, rules, instruction_by_vector_length, instruction_own_length, trap_by_vector_length, trap_own_length, group2_own_length, group2_by_vector_length, bus_error_own_length, address_error_own_length, bus_error_by_vector_length, address_error_by_vector_length, protocol_length, configuration_length, unimplemented_length, disabled_length, interrupt_by_vector_length, status_is_lem, interrupt_first, no_throw}

@@ -29,7 +29,7 @@ use Rattle.manual.specs.Calls.{event, state_by, code_of, fault_by}
 use Rattle.manual.specs.Cells.{Holding}
 use Rattle.manual.specs.Statement.{Agrees}
 use Rattle.manual.specs.Plain.{of, first, early}
-use Rattle.manual.specs.Errors.{fault, first_bus_error, first_address_error, second_bus_error, second_address_error, third_bus_error, third_address_error, fourth_bus_error, fourth_address_error, sixth_bus_error, sixth_address_error}
+use Rattle.manual.specs.Errors.{fault}
 use Rattle.manual.specs.Errors.{at as with_fault}
 use Rattle.manual.specs.PartLaws.{impossible, Tests, forty, sixty, s_bit_lem}
 use Rattle.manual.specs.Lengths.{bus_bytes, address_bytes, bus_error_own_length, address_error_own_length}
@@ -62,7 +62,7 @@ small true false = omega arith
 small false true = omega arith
 small false false = omega arith
 
-code_small : (c : Cpu) (i : Bool) → code_of c i < 8
+pub code_small : (c : Cpu) (i : Bool) → code_of c i < 8
 code_small c i = go c.fault.mmu_fc_override.some
   where
     go : (b : Bool) → cond b (c.fault.mmu_fc_override.value % 8) (code_by (is_set 13 (get_sr c)) i) < 8
@@ -71,7 +71,7 @@ code_small c i = go c.fault.mmu_fc_override.some
 
 -- ---- the frames, by part
 
-abbrev bus_by : Family → ℕ → ℕ → ℕ → ℕ → Bool → Bool → ℕ → ℕ → ℕ → ℕ → Frame
+abbrev pub bus_by : Family → ℕ → ℕ → ℕ → ℕ → Bool → Bool → ℕ → ℕ → ℕ → ℕ → Frame
 bus_by f sr ppc ir a write i z code datum cause =
     pick (first f) (frame68000 sr ppc ir a (fault_word code write i))
     (pick (early f) (frame8 sr ppc 0x8008)
@@ -79,19 +79,19 @@ bus_by f sr ppc ir a write i z code datum cause =
     (pick (forty f) (frame7 sr ppc a (ssw040 code write z cause) (wb3s code write z) (pick write a 0) (pick write datum 0))
     (frame11 sr ppc (ssw020 code write i z) (pick i 0 a) (pick write datum 0) (pick i a 0)))))
 
-abbrev address_by : Family → ℕ → ℕ → ℕ → ℕ → Bool → Bool → ℕ → Frame
+abbrev pub address_by : Family → ℕ → ℕ → ℕ → ℕ → Bool → Bool → ℕ → Frame
 address_by f sr ppc ir a write i code =
     pick (first f) (frame68000 sr ppc ir a (fault_word code write i)) (pick (early f) (frame8 sr ppc 0x800C) (pick (forty f) (frame2 sr ppc (a - a % 2)) (frame0 sr ppc)))
 
-bus_is : (f : Family) (c : Cpu) → Tests f (kind_of c) → (a : ℕ) (write i : Bool) (z cause : ℕ) → bus_frame c a write i z cause ≡ bus_by f (get_sr c) (ppc_of c) (ir_of c % 0x10000) a write i z (code_of c i) (wdata_of c) cause
+pub bus_is : (f : Family) (c : Cpu) → Tests f (kind_of c) → (a : ℕ) (write i : Bool) (z cause : ℕ) → bus_frame c a write i z cause ≡ bus_by f (get_sr c) (ppc_of c) (ir_of c % 0x10000) a write i z (code_of c i) (wdata_of c) cause
 unfolding bus_frame write_data
 bus_is f c t a write i z cause = rw (t.one, t.pre, t.is6, t.is4, fault_code_lem c i)
 
-address_is : (f : Family) (c : Cpu) → Tests f (kind_of c) → (a : ℕ) (write i : Bool) → address_frame c a write i ≡ address_by f (get_sr c) (ppc_of c) (ir_of c % 0x10000) a write i (code_by (is_set 13 (get_sr c)) i)
+pub address_is : (f : Family) (c : Cpu) → Tests f (kind_of c) → (a : ℕ) (write i : Bool) → address_frame c a write i ≡ address_by f (get_sr c) (ppc_of c) (ir_of c % 0x10000) a write i (code_by (is_set 13 (get_sr c)) i)
 unfolding address_frame
 address_is f c t a write i = rw (t.one, t.pre, t.is4, state_code_lem c i)
 
-bus_size : (f : Family) (sr ppc ir a : ℕ) (write i : Bool) (z code datum cause : ℕ) → Sized (bus_by f sr ppc ir a write i z code datum cause) (bus_bytes f)
+pub bus_size : (f : Family) (sr ppc ir a : ℕ) (write i : Bool) (z code datum cause : ℕ) → Sized (bus_by f sr ppc ir a write i z code datum cause) (bus_bytes f)
 bus_size mc68000 sr ppc ir a write i z code datum cause = size14 sr ppc ir a (fault_word code write i)
 bus_size mc68010 sr ppc ir a write i z code datum cause = size58 sr ppc 0x8008
 bus_size mc68020 sr ppc ir a write i z code datum cause = size_error11 sr ppc (ssw020 code write i z) (pick i 0 a) (pick write datum 0) (pick i a 0)
@@ -99,67 +99,10 @@ bus_size mc68030 sr ppc ir a write i z code datum cause = size_error11 sr ppc (s
 bus_size mc68040 sr ppc ir a write i z code datum cause = size_error7 sr ppc a (ssw040 code write z cause) (wb3s code write z) (pick write a 0) (pick write datum 0)
 bus_size mc68060 sr ppc ir a write i z code datum cause = size_error4 sr ppc a (fslw060 write i z code cause)
 
-address_size : (f : Family) (sr ppc ir a : ℕ) (write i : Bool) (code : ℕ) → Sized (address_by f sr ppc ir a write i code) (address_bytes f)
+pub address_size : (f : Family) (sr ppc ir a : ℕ) (write i : Bool) (code : ℕ) → Sized (address_by f sr ppc ir a write i code) (address_bytes f)
 address_size mc68000 sr ppc ir a write i code = size14 sr ppc ir a (fault_word code write i)
 address_size mc68010 sr ppc ir a write i code = size58 sr ppc 0x800C
 address_size mc68020 sr ppc ir a write i code = size_error0 sr ppc
 address_size mc68030 sr ppc ir a write i code = size_error0 sr ppc
 address_size mc68040 sr ppc ir a write i code = size_error2 sr ppc (a - a % 2)
 address_size mc68060 sr ppc ir a write i code = size_error0 sr ppc
-
-module _ (s : State) (sr : s.status < 0x10000) (op : s.opcode < 0x10000) (a : ℕ) (write i : Bool) (code datum : ℕ) (l : code < 8) where
-  bus_hold : (f : Family) (z : ℕ) (k : FaultCause) → Holding (bus_by f s.status s.this s.opcode a write i z code datum (cause_number k)) (field_differs differences (of f (with_fault s (fault a write i z code datum (cause_number k)))) own bus_error 2)
-      (fields_of (of f (with_fault s (fault a write i z code datum (cause_number k)))) bus_error 2)
-  bus_hold mc68000 z k = first_bus_error s sr op a write i z code datum (cause_number k) (fault_word code write i)
-  bus_hold mc68010 z k = second_bus_error s sr op a write i z code datum (cause_number k) write i
-  bus_hold mc68020 z k = third_bus_error s sr op a write i z code datum (cause_number k) true write i l
-  bus_hold mc68030 z k = third_bus_error s sr op a write i z code datum (cause_number k) false write i l
-  bus_hold mc68040 z k = fourth_bus_error s sr op a write i z code datum (cause_number k) k write l
-  bus_hold mc68060 z k = sixth_bus_error s sr op a write i z code datum (cause_number k) k write i l
-
-  -- our frame has the function code of the state; where the manual has that of the access, a row stands
-  address_hold : (f : Family) (stacked : ℕ) → Holding (address_by f s.status s.this s.opcode a write i stacked) (field_differs differences (of f (with_fault s (fault a write i 0 code datum 0))) own address_error 3)
-      (fields_of (of f (with_fault s (fault a write i 0 code datum 0))) address_error 3)
-  address_hold mc68000 stacked = first_address_error s sr op a write i 0 code datum 0 (fault_word stacked write i)
-  address_hold mc68010 stacked = second_address_error s sr op a write i 0 code datum 0 write i
-  address_hold mc68020 stacked = third_address_error s sr op a write i 0 code datum 0 true
-  address_hold mc68030 stacked = third_address_error s sr op a write i 0 code datum 0 false
-  address_hold mc68040 stacked = fourth_address_error s sr op a write i 0 code datum 0
-  address_hold mc68060 stacked = sixth_address_error s sr op a write i 0 code datum 0
-
--- ---- the entries
-
-module _ (w : World) (F : Family) (t : Tests F (kind_of (cpu_of w))) (so : Sound (regs_of (cpu_of w))) (fit : Fit (cpu_of (gist w))) (pcl : pc_of (cpu_of w) < 0x100000000) (ppl : ppc_of (cpu_of w) < 0x100000000)
-    (a : ℕ) (write i : Bool) where
-  abbrev C : Cpu
-  C = cpu_of w
-
-  -- a bus error, whatever else the record does before the frame and at the end
-  pub bus_by_lem : (turn close : Cpu → Cpu) → Turn turn → End close → (z : ℕ) (k : FaultCause) → Clean (gist w) (single turn (bus_frame C a write i z (cause_number k)) 2 close)
-      → Agrees differences (state_by w F (fault_by C a write i z (code_of C i) (cause_number k)) none) (event bus_error 2 own) w (planned (gist w) (single turn (bus_frame C a write i z (cause_number k)) 2 close))
-  unfolding state_by top_fields ppc_of ir_of wdata_of
-  bus_by_lem turn close tu en z k =
-      let fa : Fault = fault_by C a write i z (code_of C i) (cause_number k) in
-      let s : State = state_by w F fa none in
-      let f : Frame = bus_by F (get_sr C) (ppc_of C) (ir_of C % 0x10000) a write i z (code_of C i) (wdata_of C) (cause_number k) in
-      by_frame w F t so fit pcl ppl s (event bus_error 2 own) turn close 2 _ f (bus_is F C t a write i z (cause_number k))
-      (one_agrees w F t so fit fa none bus_error 2 own (omega arith) turn close f (bus_bytes F) tu en
-      (bus_size F (get_sr C) (ppc_of C) (ir_of C % 0x10000) a write i z (code_of C i) (wdata_of C) (cause_number k))
-      (bus_hold s (status_fits C) (omega arith) a write i (code_of C i) (wdata_of C) (code_small C i) F z k) (bus_error_own_length s 2 F) (λ e. refl) (λ d. impossible (sym d)))
-
-  pub bus_agrees : (z : ℕ) (k : FaultCause) → Clean (gist w) (bus_plan C a write i z (cause_number k))
-      → Agrees differences (state_by w F (fault_by C a write i z (code_of C i) (cause_number k)) none) (event bus_error 2 own) w (planned (gist w) (bus_plan C a write i z (cause_number k)))
-  unfolding bus_plan
-  bus_agrees z k = bus_by_lem enter_bus_error same turn_bus end_same z k
-
-  pub address_agrees : Clean (gist w) (address_plan C a write i)
-      → Agrees differences (state_by w F (fault_by C a write i 0 (code_of C i) 0) none) (event address_error 3 own) w (planned (gist w) (address_plan C a write i))
-  unfolding address_plan state_by top_fields ppc_of ir_of wdata_of
-  address_agrees =
-      let fa : Fault = fault_by C a write i 0 (code_of C i) 0 in
-      let s : State = state_by w F fa none in
-      let f : Frame = address_by F (get_sr C) (ppc_of C) (ir_of C % 0x10000) a write i (code_by (is_set 13 (get_sr C)) i) in
-      by_frame w F t so fit pcl ppl s (event address_error 3 own) enter_supervisor same 3 _ f (address_is F C t a write i)
-      (one_agrees w F t so fit fa none address_error 3 own (omega arith) enter_supervisor same f (address_bytes F) turn_supervisor end_same
-      (address_size F (get_sr C) (ppc_of C) (ir_of C % 0x10000) a write i (code_by (is_set 13 (get_sr C)) i))
-      (address_hold s (status_fits C) (omega arith) a write i (code_of C i) (wdata_of C) (code_small C i) F (code_by (is_set 13 (get_sr C)) i)) (address_error_own_length s 3 F) (λ e. refl) (λ d. impossible (sym d)))

@@ -274,21 +274,12 @@ mask_bits c =
     (omega arith) (omega arith) (low (c.flags.x_flag / 256) (c.flags.n_flag / 128) (c.flags.v_flag / 128) (c.flags.c_flag / 256) (eqb c.flags.not_z_flag 0))
 
 -- an interrupt: the mask is its level, and M is clear, in whatever way it became so
-levels : (a b u m k r q level : ℕ) → m < 2 → k < 8 → r + q < 32 → level < 8
+pub levels : (a b u m k r q level : ℕ) → m < 2 → k < 8 → r + q < 32 → level < 8
     → 0 + 0 + 0x2000 + 0 + level * 256 + r + q ≡ interrupted level (a * 0x8000 + b * 0x4000 + u * 0x2000 + m * 0x1000 + k * 256 + r + q)
 unfolding interrupted
 levels a b u m k r q level h l n g =
     let o : (a * 0x8000 + b * 0x4000 + u * 0x2000 + m * 0x1000 + k * 256 + r + q) % 0x20 ≡ r + q = omega arith in
     rw o (omega arith)
-
-pub level_status : (c : Cpu) (level : ℕ) → level < 8 → get_sr (clear_m (enter_level c level)) ≡ interrupted level (get_sr c)
-unfolding get_sr compose clear_m enter_level set_int_mask enter_supervisor clear_trace set_sflag restore_sp put_s backup_sp
-level_status c level l =
-    let e : level % 8 * 256 / 256 % 8 ≡ level = omega arith in
-    rw e
-    (levels (c.flags.t1_flag / 0x8000 % 2) (c.flags.t0_flag / 0x4000 % 2) (c.flags.s_flag / 4 % 2) (c.flags.m_flag / 2 % 2) (c.flags.int_mask / 256 % 8)
-    (c.flags.x_flag / 256 % 2 * 16 + c.flags.n_flag / 128 % 2 * 8 + c.flags.v_flag / 128 % 2 * 2 + c.flags.c_flag / 256 % 2) (pick (eqb c.flags.not_z_flag 0) 4 0) level
-    (omega arith) (omega arith) (low (c.flags.x_flag / 256) (c.flags.n_flag / 128) (c.flags.v_flag / 128) (c.flags.c_flag / 256) (eqb c.flags.not_z_flag 0)) l)
 
 -- where M was clear, to clear it is nothing
 pub clear_none : (c : Cpu) → c.flags.m_flag ≡ 0 → get_sr (clear_m c) ≡ get_sr c

@@ -228,215 +228,215 @@ on_all i (k ∷ ks) = differs i k && on_all i ks
 abbrev one : (n : ℕ) → Bool
 one n = on_all (get_or inputs n (plainly 0 [] read 0 0 0 0)) (get_or inputs n (plainly 0 [] read 0 0 0 0)).kinds
 
-input_0 : one 0 ≡ true
+pub input_0 : one 0 ≡ true
 unfolding shown
 input_0 = refl
 
-input_1 : one 1 ≡ true
+pub input_1 : one 1 ≡ true
 unfolding shown
 input_1 = refl
 
-input_2 : one 2 ≡ true
+pub input_2 : one 2 ≡ true
 unfolding shown
 input_2 = refl
 
-input_3 : one 3 ≡ true
+pub input_3 : one 3 ≡ true
 unfolding shown
 input_3 = refl
 
-input_4 : one 4 ≡ true
+pub input_4 : one 4 ≡ true
 unfolding shown
 input_4 = refl
 
-input_5 : one 5 ≡ true
+pub input_5 : one 5 ≡ true
 unfolding shown
 input_5 = refl
 
-input_6 : one 6 ≡ true
+pub input_6 : one 6 ≡ true
 unfolding shown
 input_6 = refl
 
-input_7 : one 7 ≡ true
+pub input_7 : one 7 ≡ true
 unfolding shown
 input_7 = refl
 
-input_8 : one 8 ≡ true
+pub input_8 : one 8 ≡ true
 unfolding shown
 input_8 = refl
 
-input_9 : one 9 ≡ true
+pub input_9 : one 9 ≡ true
 unfolding shown
 input_9 = refl
 
-input_10 : one 10 ≡ true
+pub input_10 : one 10 ≡ true
 unfolding shown
 input_10 = refl
 
-input_11 : one 11 ≡ true
+pub input_11 : one 11 ≡ true
 unfolding shown
 input_11 = refl
 
-input_12 : one 12 ≡ true
+pub input_12 : one 12 ≡ true
 unfolding shown
 input_12 = refl
 
-input_13 : one 13 ≡ true
+pub input_13 : one 13 ≡ true
 unfolding shown
 input_13 = refl
 
-input_14 : one 14 ≡ true
+pub input_14 : one 14 ≡ true
 unfolding shown
 input_14 = refl
 
-input_15 : one 15 ≡ true
+pub input_15 : one 15 ≡ true
 unfolding shown
 input_15 = refl
 
-input_16 : one 16 ≡ true
+pub input_16 : one 16 ≡ true
 unfolding shown
 input_16 = refl
 
-input_17 : one 17 ≡ true
+pub input_17 : one 17 ≡ true
 unfolding shown
 input_17 = refl
 
-input_18 : one 18 ≡ true
+pub input_18 : one 18 ≡ true
 unfolding shown
 input_18 = refl
 
-input_19 : one 19 ≡ true
+pub input_19 : one 19 ≡ true
 unfolding shown
 input_19 = refl
 
-input_20 : one 20 ≡ true
+pub input_20 : one 20 ≡ true
 unfolding shown
 input_20 = refl
 
-input_21 : one 21 ≡ true
+pub input_21 : one 21 ≡ true
 unfolding shown
 input_21 = refl
 
-input_22 : one 22 ≡ true
+pub input_22 : one 22 ≡ true
 unfolding shown
 input_22 = refl
 
-input_23 : one 23 ≡ true
+pub input_23 : one 23 ≡ true
 unfolding shown
 input_23 = refl
 
-input_24 : one 24 ≡ true
+pub input_24 : one 24 ≡ true
 unfolding shown
 input_24 = refl
 
-input_25 : one 25 ≡ true
+pub input_25 : one 25 ≡ true
 unfolding shown
 input_25 = refl
 
-input_26 : one 26 ≡ true
+pub input_26 : one 26 ≡ true
 unfolding shown
 input_26 = refl
 
-input_27 : one 27 ≡ true
+pub input_27 : one 27 ≡ true
 unfolding shown
 input_27 = refl
 
-input_28 : one 28 ≡ true
+pub input_28 : one 28 ≡ true
 unfolding shown
 input_28 = refl
 
-input_29 : one 29 ≡ true
+pub input_29 : one 29 ≡ true
 unfolding shown
 input_29 = refl
 
-input_30 : one 30 ≡ true
+pub input_30 : one 30 ≡ true
 unfolding shown
 input_30 = refl
 
-input_31 : one 31 ≡ true
+pub input_31 : one 31 ≡ true
 unfolding shown
 input_31 = refl
 
-input_32 : one 32 ≡ true
+pub input_32 : one 32 ≡ true
 unfolding shown
 input_32 = refl
 
-input_33 : one 33 ≡ true
+pub input_33 : one 33 ≡ true
 unfolding shown
 input_33 = refl
 
-input_34 : one 34 ≡ true
+pub input_34 : one 34 ≡ true
 unfolding shown
 input_34 = refl
 
-input_35 : one 35 ≡ true
+pub input_35 : one 35 ≡ true
 unfolding shown
 input_35 = refl
 
-input_36 : one 36 ≡ true
+pub input_36 : one 36 ≡ true
 unfolding shown
 input_36 = refl
 
-input_37 : one 37 ≡ true
+pub input_37 : one 37 ≡ true
 unfolding shown
 input_37 = refl
 
-input_38 : one 38 ≡ true
+pub input_38 : one 38 ≡ true
 unfolding shown
 input_38 = refl
 
-input_39 : one 39 ≡ true
+pub input_39 : one 39 ≡ true
 unfolding shown
 input_39 = refl
 
-input_40 : one 40 ≡ true
+pub input_40 : one 40 ≡ true
 unfolding shown
 input_40 = refl
 
-input_41 : one 41 ≡ true
+pub input_41 : one 41 ≡ true
 unfolding shown
 input_41 = refl
 
-input_42 : one 42 ≡ true
+pub input_42 : one 42 ≡ true
 unfolding shown
 input_42 = refl
 
-input_43 : one 43 ≡ true
+pub input_43 : one 43 ≡ true
 unfolding shown
 input_43 = refl
 
-input_44 : one 44 ≡ true
+pub input_44 : one 44 ≡ true
 unfolding shown
 input_44 = refl
 
-input_45 : one 45 ≡ true
+pub input_45 : one 45 ≡ true
 unfolding shown
 input_45 = refl
 
-input_46 : one 46 ≡ true
+pub input_46 : one 46 ≡ true
 unfolding shown
 input_46 = refl
 
-input_47 : one 47 ≡ true
+pub input_47 : one 47 ≡ true
 unfolding shown
 input_47 = refl
 
-input_48 : one 48 ≡ true
+pub input_48 : one 48 ≡ true
 unfolding shown
 input_48 = refl
 
-input_49 : one 49 ≡ true
+pub input_49 : one 49 ≡ true
 unfolding shown
 input_49 = refl
 
-input_50 : one 50 ≡ true
+pub input_50 : one 50 ≡ true
 unfolding shown
 input_50 = refl
 
-input_51 : one 51 ≡ true
+pub input_51 : one 51 ≡ true
 unfolding shown
 input_51 = refl
 
-input_52 : one 52 ≡ true
+pub input_52 : one 52 ≡ true
 unfolding shown
 input_52 = refl
 
@@ -444,9 +444,6 @@ input_52 = refl
 abbrev pub AllShown : List Input → Type 0
 AllShown [] = Unit {0}
 AllShown (i ∷ is) = (on_all i i.kinds ≡ true) × AllShown is
-
-pub all_shown : AllShown inputs
-all_shown = (input_0, (input_1, (input_2, (input_3, (input_4, (input_5, (input_6, (input_7, (input_8, (input_9, (input_10, (input_11, (input_12, (input_13, (input_14, (input_15, (input_16, (input_17, (input_18, (input_19, (input_20, (input_21, (input_22, (input_23, (input_24, (input_25, (input_26, (input_27, (input_28, (input_29, (input_30, (input_31, (input_32, (input_33, (input_34, (input_35, (input_36, (input_37, (input_38, (input_39, (input_40, (input_41, (input_42, (input_43, (input_44, (input_45, (input_46, (input_47, (input_48, (input_49, (input_50, (input_51, (input_52, tt)))))))))))))))))))))))))))))))))))))))))))))))))))))
 
 -- and every row of the table has one on each kind of its parts for each of its exceptions; the rows of the vector base and the pins, which are of any
 -- exception, have one

@@ -19,7 +19,8 @@ use Rattle.refusals.specs.Refusals.{odd_base}
 use Rattle.steps.specs.Steps.{begin_bus, begin_address, close_bus, enter_bus_error}
 use Rattle.access.specs.Access.{raise_bus, raise_address, raised, exception_bus_error, exception_address_error}
 use Rattle.access.specs.Access.{bus_error as bus}
-use Rattle.bounds.specs.Levels.{Domain, again}
+use Rattle.bounds.specs.Levels.{Domain}
+use Rattle.bounds.proofs.Again.{again}
 use Rattle.answers.specs.declared.Call.TheVariants.{TriggerBusError, TriggerAddressError, ExceptionBusError, ExceptionAddressError}
 use Rattle.answers.specs.Answers.{plain}
 use Rattle.calls.specs.Calls.{run, begun, restarted, refusal, perform}
@@ -44,7 +45,6 @@ use Rattle.manual.specs.Calls.{Event, event, state_of}
 use Rattle.manual.specs.Statement.{Agrees}
 use Rattle.manual.specs.PartLaws.{Tests, tests_of_lem, impossible}
 use Rattle.manual.specs.Entries.{Turn, turn_bus, end_exception}
-use Rattle.manual.specs.ErrorEntries.{bus_by_lem, address_agrees}
 use Rattle.manual.specs.Holds.{InDomain, agrees_gist}
 
 -- status and registers as saved before the instruction; where S is clear M is cleared, as the Rust does, which no manual has (docs/DIFFERENCES.md)
@@ -62,7 +62,7 @@ below_two zero l e = refl
 below_two (suc zero) l e = impossible e
 below_two (suc (suc n)) l e = absurd (omega arith)
 
-even_base : (c : Cpu) → odd_base c ≡ false → is_pre68020 (kind_of c) ≡ true → vbr_of c % 2 ≡ 0
+pub even_base : (c : Cpu) → odd_base c ≡ false → is_pre68020 (kind_of c) ≡ true → vbr_of c % 2 ≡ 0
 unfolding odd_base checks_alignment kind_of
 even_base c o p = below_two (vbr_of c % 2) (omega arith) (subst (λ (b : Bool). both b (eqb (vbr_of c % 2) 1) ≡ false) p o)
 
@@ -82,11 +82,11 @@ m_fits w = go (eqb (s_of w) 0)
     go true = inl refl
     go false = (one_of (w / 0x1000 % 2) (omega arith)).1
 
-restored_fits : (w : World) → InDomain (cpu_of (restored w)) → Fit (cpu_of (gist (restored w)))
+pub restored_fits : (w : World) → InDomain (cpu_of (restored w)) → Fit (cpu_of (gist (restored w)))
 unfolding gist gist_cpu begin_address restore_registers restore_sr set_sr_noint_nosp decompose put_cpu
 restored_fits w d = record { registers = d.registers; pointers = d.pointers; s_is_lem = s_fits (mask_status (kind_of (cpu_of w)) (cpu_of w).flags.sr_save); m_is_lem = m_fits (mask_status (kind_of (cpu_of w)) (cpu_of w).flags.sr_save) }
 
-restored_kind : (w : World) → kind_of (cpu_of (restored w)) ≡ kind_of (cpu_of w)
+pub restored_kind : (w : World) → kind_of (cpu_of (restored w)) ≡ kind_of (cpu_of w)
 unfolding begin_address restore_registers restore_sr set_sr_noint_nosp decompose kind_of put_cpu
 restored_kind w = refl
 
@@ -100,7 +100,7 @@ unfolding begin_address restore_registers restore_sr set_sr_noint_nosp put_cpu
 registers_back w = refl
 
 -- what the end of the instruction needs is kept: nothing else changes
-resumed : (s : State) (e : Event) (w z : World) → Agrees differences s e w z → Agrees differences s e w (step keep_resume z)
+pub resumed : (s : State) (e : Event) (w z : World) → Agrees differences s e w z → Agrees differences s e w (step keep_resume z)
 unfolding keep_resume a7_of regs_of view get_sr pc_of kind_of put_cpu
 resumed s e w z h = record { frame = h.frame; under = h.under; usp = h.usp; selected = h.selected; pointer = h.pointer; stacks = h.stacks; status = h.status; pc = h.pc; pins = h.pins }
 
@@ -111,7 +111,7 @@ enters_inside c g =
     let e : EntersAt (set_exception c true) (enter_bus_error (set_exception c true)) = enters_bus (set_exception c true) (record { registers = g.registers; pointers = g.pointers; s_is_lem = g.s_is_lem; m_is_lem = g.m_is_lem }) in
     record { stacks = e.stacks; fit = e.fit; kind = e.kind }
 
-turn_inside : Turn (λ d. enter_bus_error (set_exception d true))
+pub turn_inside : Turn (λ d. enter_bus_error (set_exception d true))
 unfolding set_exception vbr_of kind_of get_sr put_cpu
 turn_inside =
     record {
@@ -119,115 +119,3 @@ turn_inside =
       still = record { vbr = λ c. turn_bus.still.vbr (set_exception c true); kind = λ c. turn_bus.still.kind (set_exception c true) };
       status = λ c. turn_bus.status (set_exception c true);
     }
-
-module _ (w : World) (F : Family) (f : family_of (kind_of (cpu_of w)) ≡ some F) (d : InDomain (cpu_of (restored w))) (so : Sound (regs_of (cpu_of (restored w)))) (a : ℕ) (write i : Bool) where
-  abbrev R : World
-  R = restored w
-
-  part_of : kind_of (cpu_of w) < 12 → Tests F (kind_of (cpu_of R))
-  part_of l = rw (restored_kind w) (tests_of_lem F (kind_of (cpu_of w)) l f)
-
-  base_of : odd_base (cpu_of w) ≡ false → Domain (begun w)
-  unfolding begun restarted put_cpu
-  base_of o = even_base (cpu_of w) o
-
-  runs : is_faulted (cpu_of w) ≡ false → is_faulted (cpu_of (begun w)) ≡ false
-  unfolding begun restarted put_cpu
-  runs e = e
-
-  -- ---- the address error
-
-  after_address : refusal w (TriggerAddressError a write i) ≡ 0 → is_faulted (cpu_of w) ≡ false
-      → (perform w (TriggerAddressError a write i)).after ≡ step keep_resume (exception_address_error raised (step begin_address (begun w)) a write i)
-  unfolding perform run plain raise_address put_cpu
-  after_address r n = rw r (again.address (begun w) a write i (base_of (accepted_base w (TriggerAddressError a write i) r)) ∙ ap (λ (b : Bool). pick b (begun w) (step keep_resume (exception_address_error raised (step begin_address (begun w)) a write i))) (runs n))
-
-  address_gist : Clean (gist R) (address_plan (cpu_of R) a write i) → gist (exception_address_error raised (step begin_address (begun w)) a write i) ≡ planned (gist R) (address_plan (cpu_of R) a write i)
-  unfolding begun restarted gist calm put_cpu
-  address_gist c = address_form (step begin_address (begun w)) (gist R) a write i refl c
-
-  pub address_trigger_holds : refusal w (TriggerAddressError a write i) ≡ 0 → is_faulted (cpu_of w) ≡ false → Clean (gist R) (address_plan (cpu_of R) a write i)
-      → Agrees differences (state_of R F (ExceptionAddressError a write i)) (event address_error 3 own) R (perform w (TriggerAddressError a write i)).after
-  address_trigger_holds r n c =
-      subst (λ (z : World). Agrees differences (state_of R F (ExceptionAddressError a write i)) (event address_error 3 own) R z) (sym (after_address r n))
-      (resumed _ _ R _ (agrees_gist _ _ R _
-      (subst (λ (z : World). Agrees differences (state_of R F (ExceptionAddressError a write i)) (event address_error 3 own) R z) (sym (address_gist c))
-      (address_agrees R F (part_of (accepted_kind w (TriggerAddressError a write i) r)) so (restored_fits w d) d.pc d.ppc a write i c))))
-
-  -- ---- the bus error
-
-  outside : in_exception (cpu_of w) ≡ false → in_exception (cpu_of (begun w)) ≡ false
-  unfolding begun restarted put_cpu
-  outside e = e
-
-  after_bus : (z : ℕ) → refusal w (TriggerBusError a write i z) ≡ 0 → is_faulted (cpu_of w) ≡ false → in_exception (cpu_of w) ≡ false
-      → (perform w (TriggerBusError a write i z)).after ≡ step close_bus (exception_bus_error raised (step begin_bus (begun w)) a write i z (cause_number_of (cpu_of (begun w))))
-  unfolding perform run plain raise_bus put_cpu
-  after_bus z r n o =
-      rw r (again.bus (begun w) a write i z (base_of (accepted_base w (TriggerBusError a write i z) r)) ∙ rw (runs n, outside o) refl)
-
-  -- the record inside exception processing has the same frame
-  frame_same : (c : Cpu) (z cause : ℕ) → bus_frame (clear_cause (set_exception c true)) a write i z cause ≡ bus_frame c a write i z cause
-  unfolding bus_frame write_data clear_cause set_exception get_sr kind_of ppc_of ir_of wdata_of fault_code state_code is_supervisor has_fc_override fc_override_of put_cpu
-  frame_same c z cause = refl
-
-  begun_bus : gist (step begin_bus (begun w)) ≡ turned (gist R) (λ d. set_exception d true)
-  unfolding begun restarted gist gist_cpu calm turned begin_bus begin_address clear_cause set_exception restore_registers put_cpu
-  begun_bus = refl
-
-  begun_frame : (z cause : ℕ) → bus_frame (cpu_of (step begin_bus (begun w))) a write i z cause ≡ bus_frame (cpu_of R) a write i z cause
-  unfolding begun restarted begin_bus begin_address clear_cause put_cpu
-  begun_frame z cause = frame_same (cpu_of R) z cause
-
-  two_turns : (x : World) → turned (turned x (λ d. set_exception d true)) enter_bus_error ≡ turned x (λ d. enter_bus_error (set_exception d true))
-  unfolding turned put_cpu
-  two_turns x = sym (turn_form (step (λ d. set_exception d true) x) (turned x (λ d. set_exception d true)) enter_bus_error seen_bus refl)
-
-  two_ends : (y : World) → turned (turned y same) (λ d. set_exception d false) ≡ turned y (λ d. set_exception d false)
-  unfolding turned gist gist_cpu calm set_exception put_cpu
-  two_ends y = refl
-
-  served_inside : (x : World) (f : Frame) → Clean x (single (λ d. enter_bus_error (set_exception d true)) f 2 (λ d. set_exception d false)) → Clean (turned x (λ d. set_exception d true)) (single enter_bus_error f 2 same)
-  unfolding AllReady stack_all put_cpu
-  served_inside x f c =
-      record {
-        stacks = (subst (λ (y : World). Ready y f) (sym (two_turns x)) c.stacks.0, tt);
-        reach = subst (λ (y : World). Reachable (turned (framed_by y f) same) 2) (sym (two_turns x)) c.reach;
-      }
-
-  planned_inside : (x : World) (f : Frame) → turned (planned (turned x (λ d. set_exception d true)) (single enter_bus_error f 2 same)) (λ d. set_exception d false) ≡ planned x (single (λ d. enter_bus_error (set_exception d true)) f 2 (λ d. set_exception d false))
-  unfolding planned stack_all put_cpu
-  planned_inside x f = two_ends (jumped (turned (framed_by (turned (turned x (λ d. set_exception d true)) enter_bus_error) f) same) 2) ∙ ap (λ (y : World). turned (jumped (turned (framed_by y f) same) 2) (λ d. set_exception d false)) (two_turns x)
-
-  ended : (x : World) → gist (step (λ d. set_exception d false) x) ≡ turned (gist x) (λ d. set_exception d false)
-  unfolding turned gist gist_cpu calm set_exception put_cpu
-  ended x = refl
-
-  bus_gist : (z cause : ℕ) → Clean (gist R) (trigger_plan (cpu_of R) a write i z cause)
-      → gist (step (λ d. set_exception d false) (exception_bus_error raised (step begin_bus (begun w)) a write i z cause)) ≡ planned (gist R) (trigger_plan (cpu_of R) a write i z cause)
-  unfolding bus_plan put_cpu
-  bus_gist z cause c =
-      ended (exception_bus_error raised (step begin_bus (begun w)) a write i z cause)
-      ∙ ap (λ (y : World). turned y (λ d. set_exception d false))
-      (bus_form (step begin_bus (begun w)) (turned (gist R) (λ d. set_exception d true)) a write i z cause begun_bus
-      (subst (λ (f : Frame). Clean (turned (gist R) (λ d. set_exception d true)) (single enter_bus_error f 2 same)) (sym (begun_frame z cause)) (served_inside (gist R) (bus_frame (cpu_of R) a write i z cause) c)))
-      ∙ ap (λ (f : Frame). turned (planned (turned (gist R) (λ d. set_exception d true)) (single enter_bus_error f 2 same)) (λ d. set_exception d false)) (begun_frame z cause)
-      ∙ planned_inside (gist R) (bus_frame (cpu_of R) a write i z cause)
-
-  cause_begun : cause_number_of (cpu_of (begun w)) ≡ cause_number_of (cpu_of w)
-  unfolding begun restarted put_cpu
-  cause_begun = refl
-
-  by_cause : (z : ℕ) (k : FaultCause) → cause_number_of (cpu_of w) ≡ cause_number k
-      → step close_bus (exception_bus_error raised (step begin_bus (begun w)) a write i z (cause_number_of (cpu_of (begun w)))) ≡ step close_bus (exception_bus_error raised (step begin_bus (begun w)) a write i z (cause_number k))
-  by_cause z k q = ap (λ (n : ℕ). step close_bus (exception_bus_error raised (step begin_bus (begun w)) a write i z n)) (cause_begun ∙ q)
-
-  pub bus_trigger_holds : (z : ℕ) (k : FaultCause) → cause_number_of (cpu_of w) ≡ cause_number k → refusal w (TriggerBusError a write i z) ≡ 0 → is_faulted (cpu_of w) ≡ false → in_exception (cpu_of w) ≡ false
-      → Clean (gist R) (trigger_plan (cpu_of R) a write i z (cause_number k))
-      → Agrees differences (state_of R F (ExceptionBusError a write i z k)) (event bus_error 2 own) R (perform w (TriggerBusError a write i z)).after
-  unfolding put_cpu set_exception
-  bus_trigger_holds z k q r n o c =
-      subst (λ (y : World). Agrees differences (state_of R F (ExceptionBusError a write i z k)) (event bus_error 2 own) R y) (sym (after_bus z r n o ∙ by_cause z k q))
-      (resumed _ _ R _ (agrees_gist _ _ R _
-      (subst (λ (y : World). Agrees differences (state_of R F (ExceptionBusError a write i z k)) (event bus_error 2 own) R y) (sym (bus_gist z (cause_number k) c))
-      (bus_by_lem R F (part_of (accepted_kind w (TriggerBusError a write i z) r)) so (restored_fits w d) d.pc d.ppc a write i (λ d. enter_bus_error (set_exception d true)) (λ d. set_exception d false) turn_inside end_exception z k c))))

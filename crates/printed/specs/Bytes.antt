@@ -9,7 +9,7 @@ use Rattle.prints.specs.Prints.{more}
 use Rattle.sessions.specs.Sessions.{Session, say, step}
 use Rattle.sessions.specs.Printed.{lines_of, steps, started, printed}
 use Rattle.printed.specs.Steps.{Meets, book_of, depth_of}
-use Rattle.printed.specs.Told.{rows_text, returns_text, Told, tells}
+use Rattle.printed.specs.Told.{rows_text, returns_text, Told}
 use Rattle.printed.specs.Lines.{with_feed, text, walk_line, all_feedless, lines_append, lines_text_lem, walk_is, walk_feedless}
 
 -- what is printed for the bytes of an input from any session; `printed` is that of `started`
@@ -57,7 +57,7 @@ walk_before : (n : ℕ) (ms : List (List ℕ)) → all_feedless ms ≡ true → 
 walk_before n ms e = rw (walk_feedless n) e
 
 module _ (s : Session) (input : List ℕ) (t : Told s (lines_in input)) (small : depth_of s (lines_in input) ≤ 4096) where
-  abbrev d : ℕ
+  abbrev pub d : ℕ
   d = depth_of s (lines_in input)
 
   abbrev now : Session
@@ -69,7 +69,7 @@ module _ (s : Session) (input : List ℕ) (t : Told s (lines_in input)) (small :
   walked : step now (walk_line d) ≡ say now now.after (rows_text (rows (book_of s (lines_in input))))
   walked = t.walks small (walk_line d) (walk_is d (omega (arith, small)))
 
-  in_bytes : PrintsBook s input
+  pub in_bytes : PrintsBook s input
   unfolding printed_from steps more
   in_bytes =
       record {
@@ -80,15 +80,3 @@ module _ (s : Session) (input : List ℕ) (t : Told s (lines_in input)) (small :
             ∙ ap (λ (z : Session). (steps z rets).printed) walked
             ∙ t.returns (more now.printed (rows_text (rows (book_of s (lines_in input)))));
       }
-
--- THE THEOREM: from any session, for any input that a line feed ends, whose lines meet the premises of rule 3 and leave 1 to 4096
--- entries open
-pub prints_book : (s : Session) (input : List ℕ) → Meets s (lines_in input) → 0 < depth_of s (lines_in input) → depth_of s (lines_in input) ≤ 4096 → PrintsBook s input
-prints_book s input p d l = in_bytes s input (tells s (lines_in input) p d) l
-
--- the same of `printed`, a whole session from its start
-pub printed_book : (input : List ℕ) → Meets started (lines_in input) → 0 < depth_of started (lines_in input) → depth_of started (lines_in input) ≤ 4096
-    → printed (with_feed input ++ text (walk_line (depth_of started (lines_in input)) ∷ replicate (depth_of started (lines_in input)) ret_name))
-    ≡ printed (with_feed input) ++ rows_text (rows (book_of started (lines_in input))) ++ returns_text (restored_by (book_of started (lines_in input)))
-unfolding printed printed_from
-printed_book input p d l = (prints_book started input p d l).both

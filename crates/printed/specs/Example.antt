@@ -10,33 +10,27 @@ use Rattle.printed.specs.Lines.{with_feed, text, walk_line}
 use Rattle.printed.specs.Bytes.{printed_from}
 use Rattle.printed.specs.Texts.{bytes_of}
 use Rattle.printed.specs.Computed.{played}
-use Rattle.printed.specs.Worked.{line, lines_text, Computes, prints}
+use Rattle.printed.specs.Worked.{line, lines_text, Computes}
 
-abbrev before : List ℕ
+abbrev pub before : List ℕ
 before = bytes_of "kind 2\na7 8000\npc 1000\nppc FFE\nlong BC 2000\ntrap F"
 
-abbrev book : List Line
+abbrev pub book : List Line
 book = line 0 0x2700 0x1000 0x0BC 0x8000 ∷ []
 
-computes : Computes started before book
+pub computes : Computes started before book
 unfolding played started
 computes = record { test = refl; book_is = refl; one = refl; most = refl }
 
-so_far : printed_from started (with_feed before) ≡ bytes_of "34 00002000 2700 00007FF8\n"
+pub so_far : printed_from started (with_feed before) ≡ bytes_of "34 00002000 2700 00007FF8\n"
 unfolding played started
 so_far = refl
 
 -- its bytes in and out
-input_is : bytes_of "kind 2\na7 8000\npc 1000\nppc FFE\nlong BC 2000\ntrap F\nwalk 1\nret\n" ≡ with_feed before ++ text (walk_line 1 ∷ replicate 1 ret_name)
+pub input_is : bytes_of "kind 2\na7 8000\npc 1000\nppc FFE\nlong BC 2000\ntrap F\nwalk 1\nret\n" ≡ with_feed before ++ text (walk_line 1 ∷ replicate 1 ret_name)
 unfolding bytes_of decimal_of
 input_is = refl
 
-output_is : bytes_of "34 00002000 2700 00007FF8\n" ++ lines_text book ≡ bytes_of "34 00002000 2700 00007FF8\n0 2700 00001000 0BC\n0 00001000 2700 00008000\n"
+pub output_is : bytes_of "34 00002000 2700 00007FF8\n" ++ lines_text book ≡ bytes_of "34 00002000 2700 00007FF8\n0 2700 00001000 0BC\n0 00001000 2700 00008000\n"
 unfolding played
 output_is = refl
-
--- "Input .. prints exactly"
-pub example : printed (bytes_of "kind 2\na7 8000\npc 1000\nppc FFE\nlong BC 2000\ntrap F\nwalk 1\nret\n")
-    ≡ bytes_of "34 00002000 2700 00007FF8\n0 2700 00001000 0BC\n0 00001000 2700 00008000\n"
-unfolding printed printed_from
-example = ap (printed_from started) input_is ∙ prints started before book computes ∙ ap (λ (bs : List ℕ). bs ++ lines_text book) so_far ∙ output_is

@@ -24,7 +24,8 @@ use Rattle.forms.specs.Plans.{Plan}
 use Rattle.forms.specs.Forms.{plan_of}
 use Rattle.nest.specs.Nest.{Step, entry, return, State, Page, refused, denied, exec, run, fed, strike, after_entry, after_return}
 use Rattle.nest.specs.Nest.{returned as given}
-use Rattle.entered.specs.Machines.{direct, Direct, room_of, outcome, by_plan, enter_is}
+use Rattle.entered.specs.Machines.{direct, Direct, room_of, outcome, by_plan}
+use Rattle.entered.proofs.Machines.{enter_is}
 use Rattle.rule3.specs.Rule3.{give_back, Real}
 use Rattle.lines.specs.declared.Command.{Command}
 use Rattle.lines.specs.declared.Command.TheVariants.{Wrong, Kind, Pc, Ppc, A7, Long, Exc, Trap, Irq, Walk, Ret}

@@ -13,7 +13,7 @@ use Rattle.sessions.specs.Sessions.{Session, session, fresh_core}
 use Rattle.printed.specs.Steps.{nest_of, book_of, depth_of}
 use Rattle.printed.specs.Told.{rows_text, returns_text, meets}
 use Rattle.printed.specs.Lines.{with_feed, text, walk_line}
-use Rattle.printed.specs.Bytes.{lines_in, printed_from, PrintsBook, prints_book}
+use Rattle.printed.specs.Bytes.{lines_in, printed_from, PrintsBook}
 use Rattle.printed.specs.Texts.{bytes_of}
 use Rattle.printed.specs.Computed.{played}
 
@@ -36,50 +36,29 @@ pub record Computes (s : Session) (input : List ℕ) (ls : List Line) : Type 0 w
   pub one : ltb 0 (length ls) ≡ true
   pub most : leb (length ls) 4096 ≡ true
 
-depth_lines : (ps : List Page) → length ps ≡ length (book_lines ps)
+pub depth_lines : (ps : List Page) → length ps ≡ length (book_lines ps)
 depth_lines [] = refl
 depth_lines (p ∷ ps) = ap suc (depth_lines ps)
 
-rows_lines : (ps : List Page) → rows ps ≡ map (λ (l : Line). l.row) (book_lines ps)
+pub rows_lines : (ps : List Page) → rows ps ≡ map (λ (l : Line). l.row) (book_lines ps)
 rows_lines [] = refl
 rows_lines (p ∷ ps) = ap (λ (rs : List Row). p.line.row ∷ rs) (rows_lines ps)
 
-values_lines : (ps : List Page) → restored_by ps ≡ map values_of (book_lines ps)
+pub values_lines : (ps : List Page) → restored_by ps ≡ map values_of (book_lines ps)
 values_lines [] = refl
 values_lines (p ∷ ps) = ap (λ (vs : List Values). values_of p.line ∷ vs) (values_lines ps)
-
--- what rule 3 says of it
-pub prints : (s : Session) (input : List ℕ) (ls : List Line) → Computes s input ls
-    → printed_from s (with_feed input ++ text (walk_line (length ls) ∷ replicate (length ls) ret_name)) ≡ printed_from s (with_feed input) ++ lines_text ls
-prints s input ls c =
-    ap (λ (n : ℕ). printed_from s (with_feed input ++ text (walk_line n ∷ replicate n ret_name))) (sym depth_is)
-    ∙ told.both
-    ∙ append_assoc (printed_from s (with_feed input)) (rows_text (rows book)) (returns_text (restored_by book))
-    ∙ (λ i. printed_from s (with_feed input) ++ (rows_text (rows_lines book i) ++ returns_text (values_lines book i)))
-    ∙ ap (λ (ms : List Line). printed_from s (with_feed input) ++ lines_text ms) c.book_is
-  where
-    book : List Page
-    book = book_of s (lines_in input)
-
-    depth_is : depth_of s (lines_in input) ≡ length ls
-    depth_is = depth_lines book ∙ ap (λ (ms : List Line). length ms) c.book_is
-
-    told : PrintsBook s input
-    told =
-        prints_book s input (meets s (lines_in input) c.test) (subst (λ (n : ℕ). 0 < n) (sym depth_is) (ltb-true 0 (length ls) c.one))
-        (subst (λ (n : ℕ). n ≤ 4096) (sym depth_is) (leb-true (length ls) 4096 c.most))
 
 -- ---- an afternoon of a 68010: a return from a frame that two `long`s write sets the state after a compare, with no entry open; a timer
 -- ticks before the branch, a second tick comes inside the first handler, a third is held back by the mask
 
 -- as `started`, with 512 bytes, which compute sooner than 65,536
-abbrev small : Session
+abbrev pub small : Session
 small = session (world (fresh_core 1) (replicate 512 0) (replicate 192 0)) []
 
-abbrev afternoon : List ℕ
+abbrev pub afternoon : List ℕ
 afternoon = bytes_of "kind 2\nlong 68 120\nlong 70 140\nlong 1F8 20040000\nlong 1FC 01020000\na7 1F8\nret\nirq 2\nirq 4\nirq 3"
 
-afternoon_computes : Computes small afternoon (line 0 0x2204 0x120 0x070 0x1F8 ∷ line 0 0x2004 0x102 0x068 0x200 ∷ [])
+pub afternoon_computes : Computes small afternoon (line 0 0x2204 0x120 0x070 0x1F8 ∷ line 0 0x2004 0x102 0x068 0x200 ∷ [])
 unfolding played
 afternoon_computes = record { test = refl; book_is = refl; one = refl; most = refl }
 
@@ -89,24 +68,11 @@ pub afternoon_so_far : printed_from small (with_feed afternoon)
 unfolding played
 afternoon_so_far = refl
 
--- what three lines more print, by rule 3
-pub afternoon_prints : printed_from small (with_feed afternoon ++ bytes_of "walk 2\nret\nret\n")
-    ≡ printed_from small (with_feed afternoon)
-    ++ bytes_of "0 2204 00000120 070\n0 2004 00000102 068\n0 00000120 2204 000001F8\n0 00000102 2004 00000200\n"
-unfolding played
-afternoon_prints = prints small afternoon _ afternoon_computes
-
 -- ---- a 68020 in the master state takes an interrupt, which makes two frames, and a trap inside its handler
 
-abbrev master : List ℕ
+abbrev pub master : List ℕ
 master = bytes_of "kind 4\nlong 7C 140\nlong 80 160\nlong 1F8 30000000\nlong 1FC 01020000\na7 1F8\nret\na7 180\nirq 7\npc 144\ntrap 0"
 
-master_computes : Computes small master (line 0 0x2700 0x144 0x080 0x1F8 ∷ line 1 0x3000 0x102 0x07C 0x180 ∷ [])
+pub master_computes : Computes small master (line 0 0x2700 0x144 0x080 0x1F8 ∷ line 1 0x3000 0x102 0x07C 0x180 ∷ [])
 unfolding played
 master_computes = record { test = refl; book_is = refl; one = refl; most = refl }
-
-pub master_prints : printed_from small (with_feed master ++ bytes_of "walk 2\nret\nret\n")
-    ≡ printed_from small (with_feed master)
-    ++ bytes_of "0 2700 00000144 080\n1 3000 00000102 07C\n0 00000144 2700 000001F8\n0 00000102 3000 00000180\n"
-unfolding played
-master_prints = prints small master _ master_computes

@@ -27,13 +27,11 @@ use Rattle.answers.specs.Matters.{matter_of}
 use Rattle.answers.specs.Answers.{value_of, flag, of_service}
 use Rattle.calls.specs.Calls.{restarted, begun, refusal, perform}
 use Rattle.promises.specs.Refusals.{refusal_none}
-use Rattle.promises.specs.Interrupts.{answer_decides}
-use Rattle.promises.specs.Calls.{performed, decided}
 use Rattle.promises.specs.Over.{service_interrupt_by, check_and_service_by, check_and_service_by_raised}
 use Rattle.promises.specs.Serviced.{Serves, service_interrupt_same}
 
 -- the cycles that are left
-abbrev left : World → ℤ
+abbrev pub left : World → ℤ
 left w = (cpu_of w).flow.cycles_remaining
 
 module _ (k : ℕ) (z : ℤ) where
@@ -109,32 +107,5 @@ module _ (k : ℕ) (z : ℤ) where
     unfolding acknowledge_level vector_from acknowledged noted enter_level set_int_mask enter_supervisor clear_trace set_sflag restore_sp put_s backup_sp set_sm_flag set_sm_flag_nosp clear_m set_clocks put_cpu kind_of
     serves = record { clocked = λ w v p. clocks_ways P w v (λ h. p) p; acknowledges = λ w level p. p; levels = λ w level p. p; switches = λ w p. p; clears = λ w p. p; ends = closes }
 
-    service_charged : (w : World) (level : ℕ) → P w → Q (service_interrupt_by raised w level)
+    pub service_charged : (w : World) (level : ℕ) → P w → Q (service_interrupt_by raised w level)
     service_charged w level p = (service_interrupt_same P Q true raised raised steps (raises_of raised (raised_kept 2)) serves w level p).1
-
-module _ (w : World) (h : refusal w CheckAndServiceInterrupts ≡ 0) where
-  -- number 3 does not apply: the cycles can be taken off
-  accepted_cycles : has_cycles (cpu_of w) ≡ true
-  unfolding outcomes tests_of bad_cycles matter_of
-  accepted_cycles = go (has_cycles (cpu_of w)) ((refusal_none w CheckAndServiceInterrupts).0 h 3)
-    where
-      go : (b : Bool) → not b ≡ false → b ≡ true
-      go true e = refl
-      go false e = clash {b = true} refl e
-
-  hence : (x : World) → left x ≡ left w → has_cycles (cpu_of x) ≡ true
-  unfolding has_cycles
-  hence x e = rw e accepted_cycles
-
-  taken_charged : (check_and_service (begun w)).ok ≡ true → left (check_and_service (begun w)).after ≡ left w -ℤ pos (pick (eqb (kind_of (cpu_of w)) 2) 46 44)
-  unfolding begun restarted check_and_service_by serviced clear_level put_cpu
-  taken_charged e =
-      subst (λ x. left x.after ≡ left w -ℤ pos (pick (eqb (kind_of (cpu_of w)) 2) 46 44)) (check_and_service_by_raised (begun w)) (go (sym (answer_decides (begun w)) ∙ e))
-    where
-      go : takes_interrupt (cpu_of (begun w)) ≡ true → left (check_and_service_by raised (begun w)).after ≡ left w -ℤ pos (pick (eqb (kind_of (cpu_of w)) 2) 46 44)
-      go e = rw e (service_charged (kind_of (cpu_of w)) (left w) hence (begun w) (pending_level (cpu_of w)) (refl, refl))
-
-  -- where the interrupt is taken 46 cycles are taken off on kind 2, else 44
-  pub service_charges : value_of (perform w CheckAndServiceInterrupts).answer ≡ 1 → left (perform w CheckAndServiceInterrupts).after ≡ left w -ℤ pos (pick (eqb (kind_of (cpu_of w)) 2) 46 44)
-  unfolding of_service flag
-  service_charges e = subst (λ x. left x.after ≡ left w -ℤ pos (pick (eqb (kind_of (cpu_of w)) 2) 46 44)) (sym (performed w h)) (taken_charged (decided w h true e))

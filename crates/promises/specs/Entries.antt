@@ -20,7 +20,8 @@ use Rattle.bounds.specs.Skeleton.{Raises, after_fields, refills, pick_one, clock
 use Rattle.bounds.specs.ErrorFrames.{bus_writes, address_writes}
 use Rattle.bounds.specs.Levels.{Domain, Kept, Any, Either, inside, super_kept}
 use Rattle.bounds.specs.Ledger.{Written, written, start, super_books}
-use Rattle.bounds.specs.Events.{Bill, bill_steps, rate, guard_cost, refills_sum, raises_any}
+use Rattle.bounds.specs.Events.{Bill, bill_steps, rate, guard_cost, refills_sum}
+use Rattle.bounds.proofs.Events.{raises_any}
 
 -- ---- the steps of an entry, each with its cost
 

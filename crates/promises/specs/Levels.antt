@@ -21,14 +21,14 @@ use Rattle.formats.specs.Formats.{format_word, offset_word, short_frame, long_fr
 use Rattle.exceptions.specs.Exceptions.{entry, supervised, finished}
 use Rattle.interrupts.specs.Interrupts.{vector_from, acknowledge_level, serviced}
 use Rattle.bounds.specs.Skeleton.{Raises, pick_if, clocks_ways, guard_read_good, guard_write_good, pushed_good, stacked_good, push_short_good, jump_good, prefetch_first_good, prefetch_second_good}
-use Rattle.bounds.specs.Levels.{Domain, Safe, Kept, Any, Either, inside, steps, vector_safe, super_kept, entry_address_good, entry_bus_good, Unrolls, unrolled_halts, level_halts, level_unrolls, level_any, levels, raises_in, raises_bus, raises_any}
-use Rattle.bounds.specs.Unique.{unique}
+use Rattle.bounds.specs.Levels.{Domain, Safe, Kept, Any, Either, inside, steps, vector_safe, super_kept, entry_address_good, entry_bus_good, Unrolls, unrolled_halts, level_halts, level_unrolls}
+use Rattle.bounds.proofs.Levels.{level_any, levels, raises_in, raises_bus, raises_any}
+use Rattle.bounds.proofs.Unique.{unique}
 use Rattle.answers.specs.declared.Call.{Call}
 use Rattle.answers.specs.declared.Call.TheVariants.{TakeException, Trap, TakeGroup2Exception, ExceptionChk, ExceptionZeroDivide, ExceptionPrivilege, ExceptionTrace, ExceptionAddressError, ExceptionBusError, TakeFpUnimp060, TakeFpDisabled060, TakeAlineException, TakeFlineException, TakeTrapException, TakeBkptException, TakeIllegalException, TriggerAddressError, TriggerBusError, CheckTrace, SetIrq, CheckInterrupts, CheckAndServiceInterrupts, Read16, Read32, Write16, Write32, Push16, Push32, PrefetchFirst, PrefetchSecond}
 use Rattle.answers.specs.declared.Answer.TheVariants.{Refused}
 use Rattle.answers.specs.Answers.{answered, cycles, plain, of_entry, of_read, of_service}
 use Rattle.calls.specs.Calls.{begun, refusal, perform}
-use Rattle.promises.specs.Refusals.{accepted_domain}
 use Rattle.promises.specs.Serviced.{Serves, service_interrupt_same}
 use Rattle.promises.specs.Over.{stack_short_by, taken_by, take_exception_by, stack_group2_by, take_group2_by, trap_by, exception_trace_by, take_rewound_by, stack_unimp_by, take_fp_unimp060_by, stack_disabled_by, take_fp_disabled060_by, check_and_service_by, run_by, perform_by, perform_by_raised}
 
@@ -130,7 +130,7 @@ module _ (k : ℕ) (t u : Raise) (T : Raises (Kept k Either) Any (is_prefetch_ki
   safely : Raises (Kept k Either) (Safe k) (is_prefetch_kind k) t u
   safely = record { fetching = T.fetching; bus = T.bus; odd = λ n w a wr i p o h. T.odd n w a wr i p tt h; vector = λ n w v p. vector_safe k (cpu_of w) v p.base }
 
-  run_same : ((w : World) (q : Fault) → Domain w → t w q ≡ u w q) → (w : World) → Domain w → P w → (c : Call) → run_by t w c ≡ run_by u w c
+  pub run_same : ((w : World) (q : Fault) → Domain w → t w q ≡ u w q) → (w : World) → Domain w → P w → (c : Call) → run_by t w c ≡ run_by u w c
   unfolding run_by
   run_same E w d p (TakeException v) = ap of_entry (take_exception_same w v p)
   run_same E w d p (Trap n) = ap of_entry (trap_same w n p)
@@ -163,26 +163,8 @@ module _ (k : ℕ) (t u : Raise) (T : Raises (Kept k Either) Any (is_prefetch_ki
   run_same E w d p PrefetchFirst = ap plain (prefetch_first_good (Kept k Either) Any (is_prefetch_kind k) t u (steps k Either) T 0 w p).0
   run_same E w d p PrefetchSecond = ap plain (prefetch_second_good (Kept k Either) Any (is_prefetch_kind k) t u (steps k Either) T 0 w p).0
 
--- two that agree inside the domain give one public call
-module _ (t u : Raise) (T : (k : ℕ) → Raises (Kept k Either) Any (is_prefetch_kind k) t u) (E : (w : World) (q : Fault) → Domain w → t w q ≡ u w q) where
-  perform_same : (w : World) (c : Call) → perform_by t w c ≡ perform_by u w c
-  unfolding perform_by
-  perform_same w c = go (eqb (refusal w c) 0) refl
-    where
-      go : (b : Bool) → eqb (refusal w c) 0 ≡ b → pick b (run_by t (begun w) c) (answered w (Refused (refusal w c))) ≡ pick b (run_by u (begun w) c) (answered w (Refused (refusal w c)))
-      go true e = let d = accepted_domain w c (eqb-true (refusal w c) 0 e) in run_same (kind_of (cpu_of (begun w))) t u (T _) E (begun w) d (inside (begun w) d) c
-      go false e = refl
-
 -- what meets the equations raises as two levels do
-unrolled_raises : (t : Raise) → Unrolls t t → (k : ℕ) → Raises (Kept k Either) Any (is_prefetch_kind k) t raised
+pub unrolled_raises : (t : Raise) → Unrolls t t → (k : ℕ) → Raises (Kept k Either) Any (is_prefetch_kind k) t raised
 unrolled_raises t s k =
     raises_any k t t raised (trigger 1) s (level_unrolls 1) (raises_in k t (trigger 1) (unrolled_halts t t s) (level_halts 1))
     (raises_bus k t t (trigger 1) (trigger 0) s (level_unrolls 0) (raises_in k t (trigger 0) (unrolled_halts t t s) (level_halts 0)))
-
--- THE LEVELS: whatever meets the equations of the recursion, with no level in them, gives the public call
-pub perform_unrolled : (t : Raise) → Unrolls t t → (w : World) (c : Call) → perform_by t w c ≡ perform w c
-perform_unrolled t s w c = perform_same t raised (unrolled_raises t s) (unique t s) w c ∙ perform_by_raised w c
-
--- and so do two levels or more
-pub perform_levels : (n : ℕ) (w : World) (c : Call) → perform_by (trigger (suc (suc n))) w c ≡ perform w c
-perform_levels n w c = perform_same (trigger (suc (suc n))) raised (λ k. level_any k n 0) (levels n) w c ∙ perform_by_raised w c

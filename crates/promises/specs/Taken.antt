@@ -26,7 +26,8 @@ use Rattle.bounds.specs.Skeleton.{refills, more, pick_one, pick_when, clocks_way
 use Rattle.bounds.specs.Faulted.{trigger_faulted, write_none, read_none, push_none, first_faulted}
 use Rattle.bounds.specs.Levels.{Domain, Safe, Any, Set, Kept, clash}
 use Rattle.bounds.specs.Ledger.{Written, written}
-use Rattle.bounds.specs.Events.{Bill, bill_steps, under_cost, refills_sum, raises_in, raises_set, none, few_more}
+use Rattle.bounds.specs.Events.{Bill, bill_steps, under_cost, refills_sum, few_more}
+use Rattle.bounds.proofs.Events.{raises_in, raises_set, none}
 use Rattle.promises.specs.Entries.{super_bill, clocks_start, on_written}
 
 abbrev Faulted : World → Type 0

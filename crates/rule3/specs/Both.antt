@@ -20,7 +20,7 @@ use Rattle.nest.specs.View.{Bytes, peek, addr, aligned, odd, frame_len, View, to
 use Rattle.nest.specs.View.{Back as NestBack, back as nest_back}
 use Rattle.nest.specs.Reading.{view_kind, view_a7, view_s}
 use Rattle.entered.specs.Pointers.{regs_of, Fit}
-use Rattle.entered.specs.Entered.{kind_regs}
+use Rattle.entered.proofs.Entered.{kind_regs}
 use Rattle.entered.specs.Bytes.{mem_of}
 use Rattle.rule3.specs.Seen.{seen, served_is, table_is, odd_is, frame_is}
 use Rattle.rule3.specs.Taken.{here, there, take_kind}

@@ -25,9 +25,10 @@ use Rattle.nest.specs.Nest.{Machine, Returned, denied, returned, Walked, State, 
 use Rattle.nest.specs.Laws.{Return}
 use Rattle.entered.specs.Pointers.{regs_of, Fit}
 use Rattle.entered.specs.Bytes.{mem_of}
-use Rattle.entered.specs.Machines.{Room, Passes, InsideRoom, machine}
-use Rattle.entered.specs.Entered.{kind_regs}
-use Rattle.entered.specs.Rule3.{nest}
+use Rattle.entered.specs.Machines.{Room, Passes, InsideRoom}
+use Rattle.entered.proofs.Machines.{machine}
+use Rattle.entered.proofs.Entered.{kind_regs}
+use Rattle.entered.proofs.Rule3.{nest}
 use Rattle.entered.specs.Flags.{masked, status_regs}
 use Rattle.rule3.specs.Taken.{Gives, back_gives, back_inside, back_kind}
 use Rattle.rule3.specs.Rows.{told, tale, walk_tells, rows_here}

@@ -31,7 +31,8 @@ use Rattle.nest.specs.Settled.{frame_settled}
 use Rattle.entered.specs.Pointers.{regs_of, stacks_of, view_of, Fit, backup_stacks, restore_stacks, backup_fit, restore_fit, top_of, move_stacks, move_fit}
 use Rattle.entered.specs.Bytes.{mem_of}
 use Rattle.entered.specs.Machines.{Room, Passes, flags_accepted}
-use Rattle.entered.specs.Entered.{Inside, kind_regs}
+use Rattle.entered.specs.Entered.{Inside}
+use Rattle.entered.proofs.Entered.{kind_regs}
 use Rattle.entered.specs.Flags.{masked, flag_s, flag_m, bit_flag}
 use Rattle.forms.specs.Tests.{set_small}
 use Rattle.rule3.specs.Seen.{frame_is, frame_of_lem}

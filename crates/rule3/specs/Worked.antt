@@ -36,10 +36,10 @@ image = set (set (set (set (replicate 512 0) 0x6A 0x01) 0x6B 0x20) 0x72 0x01) 0x
 abbrev machine_at : ℕ → ℕ → ℕ → ℕ → Cpu
 machine_at pc a7 status level = set_irq (set_sr_noint_nosp (set_a7 (set_pc (fresh_cpu 2) pc) a7) status) level
 
-abbrev r₀ : Cpu
+abbrev pub r₀ : Cpu
 r₀ = machine_at 0x100 0x180 0x2000 2
 
-abbrev s₀ : Room
+abbrev pub s₀ : Room
 s₀ = record { bus = bus; bytes = image; log = replicate 192 0 }
 
 -- what the first tick's handler leaves: it has come to 0x124, has written a byte at 0x10, and level 4 has come in. The frame stands at 0x178
@@ -49,52 +49,38 @@ r₂ = machine_at 0x124 0x178 0x2200 4
 abbrev s₂ : Room
 s₂ = record { bus = bus; bytes = laid (set image 0x10 0x55) 0x178 (0x20 ∷ 0x00 ∷ 0x00 ∷ 0x00 ∷ 0x01 ∷ 0x00 ∷ 0x00 ∷ 0x68 ∷ []); log = replicate 192 0 }
 
-abbrev steps : List (Step Real)
+abbrev pub steps : List (Step Real)
 steps = entry tick ∷ handlers r₂ s₂ ∷ entry tick ∷ []
 
-abbrev final : State Real
+abbrev pub final : State Real
 final = end Real steps r₀ s₀
 
 -- ---- the book, computed
 
-final_rows : rows final.book ≡ record { format = 0; status = 0x2200; address = 0x124; offset = 0x70 } ∷ record { format = 0; status = 0x2000; address = 0x100; offset = 0x68 } ∷ []
+pub final_rows : rows final.book ≡ record { format = 0; status = 0x2200; address = 0x124; offset = 0x70 } ∷ record { format = 0; status = 0x2000; address = 0x100; offset = 0x68 } ∷ []
 unfolding nested
 final_rows = refl
 
 -- ---- the premises
 
-test : premises_test real steps r₀ s₀ ≡ true
+pub test : premises_test real steps r₀ s₀ ≡ true
 unfolding nested
 test = refl
 
-pub premises : Premises Real steps r₀ s₀
-premises = premises_tested real steps r₀ s₀ test
-
 -- ---- rule 3 speaks of it
 
-depth_is : depth Real final ≡ 2
+pub depth_is : depth Real final ≡ 2
 unfolding nested
 depth_is = refl
 
 -- what rule 3 says, by the depth, the rows and the values computed
 module _ (st : State Real) (n : ℕ) (d : depth Real st ≡ n) (t : Told Real st) where
-  walked_by : (w : ℕ) → 4 * n ≤ w → (rs : List Row) → rows st.book ≡ rs → walk n w st.rec st.sto ≡ record { rows = rs; number = none }
+  pub walked_by : (w : ℕ) → 4 * n ≤ w → (rs : List Row) → rows st.book ≡ rs → walk n w st.rec st.sto ≡ record { rows = rs; number = none }
   walked_by w l rs e = ap (λ (m : ℕ). walk m w st.rec st.sto) (sym d) ∙ t.walked w (omega (arith, l, d)) ∙ ap (λ (q : List Row). record { rows = q; number = none }) e
 
-  returned_by_lem : (vs : List Values) → restored_by st.book ≡ vs → restored Real n st.rec st.sto ≡ some vs
+  pub returned_by_lem : (vs : List Values) → restored_by st.book ≡ vs → restored Real n st.rec st.sto ≡ some vs
   returned_by_lem vs e = ap (λ (m : ℕ). restored Real m st.rec st.sto) (sym d) ∙ t.returns ∙ ap {B = Option (List Values)} some e
 
-pub told : Told Real final
-told = rule3.tells steps r₀ s₀ premises (subst (λ (n : ℕ). 0 < n) (sym depth_is) (omega arith))
-
-final_values : restored_by final.book ≡ record { status = 0x2200; pc = 0x124; a7 = 0x178 } ∷ record { status = 0x2000; pc = 0x100; a7 = 0x180 } ∷ []
+pub final_values : restored_by final.book ≡ record { status = 0x2200; pc = 0x124; a7 = 0x178 } ∷ record { status = 0x2000; pc = 0x100; a7 = 0x180 } ∷ []
 unfolding nested
 final_values = refl
-
--- the engine's walk of two into any buffer of 8 words or more, and its two returns, by rule 3
-pub final_walk : (w : ℕ) → 8 ≤ w → walk 2 w final.rec final.sto
-    ≡ record { rows = record { format = 0; status = 0x2200; address = 0x124; offset = 0x70 } ∷ record { format = 0; status = 0x2000; address = 0x100; offset = 0x68 } ∷ []; number = none }
-final_walk w l = walked_by final 2 depth_is told w l _ final_rows
-
-pub final_returns : restored Real 2 final.rec final.sto ≡ some (record { status = 0x2200; pc = 0x124; a7 = 0x178 } ∷ record { status = 0x2000; pc = 0x100; a7 = 0x180 } ∷ [])
-final_returns = returned_by_lem final 2 depth_is told _ final_values

@@ -30,16 +30,16 @@ room_mask b k len a n o r l = go (ltb k 3) r.last
     go false e = refl
 
 module _ (b : Bus) (k len a n o d : ℕ) (r : Room b k len a n) (l : o + d ≤ n) where
-  room_served : (e : ℕ) → served_of (with_events b e) len (a + o) d ≡ true
+  pub room_served : (e : ℕ) → served_of (with_events b e) len (a + o) d ≡ true
   unfolding served_of in_store windows_in_use clear_of
   room_served e =
       rw (le-ltb (a + o) b.base (let x = r.low in omega arith), le-leb (a + o - b.base + d) len (let x = r.low in let y = r.high in omega arith), r.windows)
 
-  room_place : (e : ℕ) → place_of (with_events b e) (a + o) ≡ a - b.base + o
+  pub room_place : (e : ℕ) → place_of (with_events b e) (a + o) ≡ a - b.base + o
   unfolding place_of
   room_place e = let x = r.low in rw (le-ltb (a + o) b.base (omega arith)) (omega arith)
 
-even_taken : (c : Cpu) (a : ℕ) → a % 2 ≡ 0 → refuses_odd c a ≡ false
+pub even_taken : (c : Cpu) (a : ℕ) → a % 2 ≡ 0 → refuses_odd c a ≡ false
 unfolding refuses_odd
 even_taken c a e = go (checks_alignment c)
   where
@@ -47,49 +47,9 @@ even_taken c a e = go (checks_alignment c)
     go true = ne_eqb (a % 2) 1 (λ x. omega arith)
     go false = refl
 
-width_some : (g : Bool) (o n : ℕ) → o + width_of g ≤ n → o < n
+pub width_some : (g : Bool) (o n : ℕ) → o + width_of g ≤ n → o < n
 width_some true o n h = omega arith
 width_some false o n h = omega arith
-
--- a write at offset o of such an interval
-pub write_closed : (t : Raise) (b : Bus) (c : Cpu) (e : ℕ) (s l : List ℕ) (q n o : ℕ) (g : Bool) (v : ℕ) → is_faulted c ≡ false → has_clocks c ≡ false → Room b (kind_of c) (length s) q n
-    → o % 2 ≡ 0 → o + width_of g ≤ n → e + 1 < 2 ^ 32
-    → write_at t (closed b c e s l) (q + o) g v ≡ closed b (set_wdata c v) (e + 1) (put g s (q - b.base + o) (kept g v)) (note_log e l (write_code g) (q + o) v)
-unfolding write_at checked_write wrote try_write raw_write flush served written closed put_cpu stored noted counted address_of kind_of
-write_closed t b c e s l q n o g v h k r p w u =
-    let a : mask_address c.flow.cpu_type (q + o) ≡ q + o = room_mask b c.flow.cpu_type (length s) q n o r (width_some g o n w) in
-    let d : refuses_odd c (q + o) ≡ false = even_taken c (q + o) (let x = r.even in omega arith) in
-    let z : served_of (with_events b e) (length s) (q + o) (width_of g) ≡ true = room_served b c.flow.cpu_type (length s) q n o (width_of g) r w e in
-    let y : place_of (with_events b e) (q + o) ≡ q - b.base + o = room_place b c.flow.cpu_type (length s) q n o (width_of g) r w e in
-    let x : (e + 1) % 2 ^ 32 ≡ e + 1 = omega arith in
-    rw (h, k, a, d, z, y, x) (go g)
-  where
-    go : (g : Bool) → closed b (set_wdata c v) (e + 1) (pick g (put_long s (q - b.base + o) v) (put_word s (q - b.base + o) (v % 0x10000))) (note_log e l (pick g 4 3) (q + o) v) ≡ closed b (set_wdata c v) (e + 1) (put g s (q - b.base + o) (kept g v)) (note_log e l (write_code g) (q + o) v)
-    go true = refl
-    go false = refl
-
--- a guarded read at an address that is masked to offset o of such an interval
-pub read_closed : (t : Raise) (b : Bus) (c : Cpu) (e : ℕ) (s l : List ℕ) (a q n o : ℕ) (g : Bool) → is_faulted c ≡ false → has_clocks c ≡ false → address_of c a ≡ q + o → Room b (kind_of c) (length s) q n
-    → o % 2 ≡ 0 → o + width_of g ≤ n → e + 1 < 2 ^ 32
-    → read_at t (closed b c e s l) a g ≡ reply (closed b c (e + 1) s (note_log e l (read_code g) (q + o) (get g s (q - b.base + o)))) true (get g s (q - b.base + o))
-unfolding read_at checked_read read_or try_read raw_read read_value fetched flush served closed noted counted
-read_closed t b c e s l a q n o g h k m r p w u =
-    let d : refuses_odd c (q + o) ≡ false = even_taken c (q + o) (let x = r.even in omega arith) in
-    let z : served_of (with_events b e) (length s) (q + o) (width_of g) ≡ true = room_served b (kind_of c) (length s) q n o (width_of g) r w e in
-    let y : place_of (with_events b e) (q + o) ≡ q - b.base + o = room_place b (kind_of c) (length s) q n o (width_of g) r w e in
-    let x : (e + 1) % 2 ^ 32 ≡ e + 1 = omega arith in
-    rw (h, k, m, d, z, y, x)
-
--- a program word there, after the sync
-pub word_closed : (t : Raise) (w : World) (b : Bus) (c : Cpu) (e : ℕ) (s l : List ℕ) (a q n o : ℕ) → flush w ≡ closed b c e s l → address_of c a ≡ q + o → Room b (kind_of c) (length s) q n
-    → o + 2 ≤ n → e + 1 < 2 ^ 32
-    → prefetch_read t w a ≡ reply (closed b c (e + 1) s (note_log e l 1 (q + o) (get_word s (q - b.base + o)))) true (get_word s (q - b.base + o))
-unfolding prefetch_read read_or try_read raw_read read_value fetched served closed noted counted
-word_closed t w b c e s l a q n o f m r p u =
-    let z : served_of (with_events b e) (length s) (q + o) 2 ≡ true = room_served b (kind_of c) (length s) q n o 2 r p e in
-    let y : place_of (with_events b e) (q + o) ≡ q - b.base + o = room_place b (kind_of c) (length s) q n o 2 r p e in
-    let x : (e + 1) % 2 ^ 32 ≡ e + 1 = omega arith in
-    rw (f, m, z, y, x)
 
 -- ---- the sync
 

@@ -20,7 +20,7 @@ use Rattle.access.specs.Access.{raised, push_frame, push_exception_frame68000, j
 use Rattle.formats.specs.Formats.{format_word, offset_word, short_frame, long_frame, disabled_frame}
 use Rattle.exceptions.specs.Exceptions.{entry, stack_short, finished, taken, take_exception, stack_group2, take_group2, exception_trace, take_rewound, stack_unimp, take_fp_unimp060, stack_disabled, take_fp_disabled060}
 use Rattle.unfaulted.specs.Closed.{closed, Piece, last_value, stacked, short_pieces, long_pieces, disabled_pieces, three_pieces, Room, Within, Landing, Entering, jumped, arrived, clocks_after, short_bytes, short_of, group2_bytes, group2_of}
-use Rattle.unfaulted.specs.Stacks.{short_stacked, long_stacked, disabled_stacked, three_stacked, three_within, jump_stacked}
+use Rattle.unfaulted.specs.Stacks.{three_within}
 
 -- ---- the record before the frame
 
@@ -64,27 +64,27 @@ pub short_within : (sr pc format : ℕ) → Within 8 (short_pieces sr pc format)
 unfolding Within short_pieces
 short_within sr pc format = (refl, omega arith, (refl, omega arith, (refl, omega arith, tt)))
 
-long_within : (sr pc format extra : ℕ) → Within 12 (long_pieces sr pc format extra)
+pub long_within : (sr pc format extra : ℕ) → Within 12 (long_pieces sr pc format extra)
 unfolding Within long_pieces short_pieces
 long_within sr pc format extra = (refl, omega arith, (refl, omega arith, (refl, omega arith, (refl, omega arith, tt))))
 
-disabled_within : (sr pc format ea extra : ℕ) → Within 16 (disabled_pieces sr pc format ea extra)
+pub disabled_within : (sr pc format ea extra : ℕ) → Within 16 (disabled_pieces sr pc format ea extra)
 unfolding Within disabled_pieces long_pieces short_pieces
 disabled_within sr pc format ea extra = (refl, omega arith, (refl, omega arith, (refl, omega arith, (refl, omega arith, (refl, omega arith, tt)))))
 
-three_few : (sr pc : ℕ) → length (three_pieces sr pc) ≤ 5
+pub three_few : (sr pc : ℕ) → length (three_pieces sr pc) ≤ 5
 unfolding three_pieces
 three_few sr pc = omega arith
 
-short_few : (sr pc format : ℕ) → length (short_pieces sr pc format) ≤ 5
+pub short_few : (sr pc format : ℕ) → length (short_pieces sr pc format) ≤ 5
 unfolding short_pieces
 short_few sr pc format = omega arith
 
-long_few : (sr pc format extra : ℕ) → length (long_pieces sr pc format extra) ≤ 5
+pub long_few : (sr pc format extra : ℕ) → length (long_pieces sr pc format extra) ≤ 5
 unfolding long_pieces short_pieces
 long_few sr pc format extra = omega arith
 
-disabled_few : (sr pc format ea extra : ℕ) → length (disabled_pieces sr pc format ea extra) ≤ 5
+pub disabled_few : (sr pc format ea extra : ℕ) → length (disabled_pieces sr pc format ea extra) ≤ 5
 unfolding disabled_pieces long_pieces short_pieces
 disabled_few sr pc format ea extra = omega arith
 
@@ -94,58 +94,39 @@ pub record Frames (b : Bus) (c : Cpu) (e : ℕ) (s l : List ℕ) (w : World) (n 
   pub within : Within n ps
   pub few : length ps ≤ 5
 
-short_step : (b : Bus) (d : Cpu) (e : ℕ) (s l : List ℕ) (pc format : ℕ)
+pub short_step : (b : Bus) (d : Cpu) (e : ℕ) (s l : List ℕ) (pc format : ℕ)
     → stack_short (closed b d e s l) pc format ≡ pick (eqb (kind_of d) 1) (push_exception_frame68000 raised (closed b (enter_supervisor d) e s l) pc (get_sr d)) (push_frame raised (closed b (enter_supervisor d) e s l) (short_frame (get_sr d) pc format))
 unfolding stack_short closed put_cpu
 short_step b d e s l pc format = refl
-
-short_frames : (b : Bus) (d : Cpu) (e : ℕ) (s l : List ℕ) (pc format v q a to at x y : ℕ) → Entering b (enter_supervisor d) s (short_bytes (kind_of d)) v q a to at x y → e + 8 < 2 ^ 32
-    → Frames b (enter_supervisor d) e s l (stack_short (closed b d e s l) pc format) (short_bytes (kind_of d)) q (short_of (kind_of d) (get_sr d) pc format)
-unfolding short_bytes short_of
-short_frames b d e s l pc format v q a to at x y h u = rw (short_step b d e s l pc format) (go (eqb (kind_of d) 1) h)
-  where
-    m : Cpu
-    m = enter_supervisor d
-
-    go : (t : Bool) → Entering b m s (pick t 6 8) v q a to at x y
-        → Frames b m e s l (pick t (push_exception_frame68000 raised (closed b m e s l) pc (get_sr d)) (push_frame raised (closed b m e s l) (short_frame (get_sr d) pc format))) (pick t 6 8) q (pick t (three_pieces (get_sr d) pc) (short_pieces (get_sr d) pc format))
-    go true h = record { world = three_stacked raised b m e s l q (get_sr d) pc h.registers h.running u h.stack h.room; within = three_within (get_sr d) pc; few = three_few (get_sr d) pc }
-    go false h = record { world = short_stacked raised b m e s l q h.registers h.running u (get_sr d) pc format h.stack h.room; within = short_within (get_sr d) pc format; few = short_few (get_sr d) pc format }
-
--- the jump after it
-jump_frames : (b : Bus) (c : Cpu) (e : ℕ) (s l : List ℕ) (w : World) (n v q a to at x y : ℕ) (ps : List Piece) → Entering b c s n v q a to at x y → Frames b c e s l w n q ps → e + 12 < 2 ^ 32
-    → jump_vector raised w v ≡ arrived b c (clocks_of c) e s l q ps (prefetch_enabled c) v a to at x y
-jump_frames b c e s l w n v q a to at x y ps h f u =
-    ap (λ (i : World). jump_vector raised i v) f.world ∙ jump_stacked raised b c e s l n v q a to at x y ps h f.within (let z = f.few in omega arith)
 
 -- ---- `take_exception`
 
 module _ (c : Cpu) (k : ℕ) where
   -- the record before the frame
-  abbrev begun : Cpu
+  abbrev pub begun : Cpu
   begun = set_clocks (set_exception c true) k
 
-  begun_alike : Alike (enter_supervisor c) (enter_supervisor begun)
+  pub begun_alike : Alike (enter_supervisor c) (enter_supervisor begun)
   unfolding enter_supervisor clear_trace set_sflag restore_sp put_s backup_sp sp_index set_clocks set_exception is_faulted kind_of vbr_of prefetch_enabled
   begun_alike = record { running = refl; registers = refl; kind = refl; vbr = refl; fetches = refl }
 
-  begun_clocks : clocks_of (enter_supervisor begun) ≡ k
+  pub begun_clocks : clocks_of (enter_supervisor begun) ≡ k
   unfolding enter_supervisor clear_trace set_sflag restore_sp put_s backup_sp clocks_of set_clocks
   begun_clocks = refl
 
-  begun_fetches : prefetch_enabled (enter_supervisor begun) ≡ prefetch_enabled c
+  pub begun_fetches : prefetch_enabled (enter_supervisor begun) ≡ prefetch_enabled c
   unfolding enter_supervisor clear_trace set_sflag restore_sp put_s backup_sp prefetch_enabled set_clocks set_exception
   begun_fetches = refl
 
-  begun_kind : kind_of begun ≡ kind_of c
+  pub begun_kind : kind_of begun ≡ kind_of c
   unfolding kind_of set_clocks set_exception
   begun_kind = refl
 
-  begun_status : get_sr begun ≡ get_sr c
+  pub begun_status : get_sr begun ≡ get_sr c
   unfolding get_sr set_clocks set_exception
   begun_status = refl
 
-  begun_address : (v : ℕ) → stacked_address begun v ≡ stacked_address c v
+  pub begun_address : (v : ℕ) → stacked_address begun v ≡ stacked_address c v
   unfolding stacked_address pc_of ppc_of set_clocks set_exception
   begun_address v = refl
 
@@ -168,39 +149,21 @@ same : (c : Cpu) → clocks_after (set_exception c true) 4 ≡ clocks_after c 4
 unfolding clocks_after clocks_of prefetch_enabled set_exception
 same c = refl
 
-begins : (c : Cpu) → begin_entry c ≡ begun c (clocks_after c 4)
+pub begins : (c : Cpu) → begin_entry c ≡ begun c (clocks_after c 4)
 unfolding begin_entry
 begins c = cycles_after_lem (set_exception c true) 4 ∙ ap (λ (k : ℕ). set_clocks (set_exception c true) k) (same c)
 
-taken_step : (b : Bus) (c : Cpu) (e : ℕ) (s l : List ℕ) (v : ℕ) → in_exception c ≡ false
+pub taken_step : (b : Bus) (c : Cpu) (e : ℕ) (s l : List ℕ) (v : ℕ) → in_exception c ≡ false
     → take_exception (closed b c e s l) v ≡ entry (finished (jump_vector raised (stack_short (closed b (begin_entry c) e s l) (stacked_address (begin_entry c) v) (offset_word v)) v)) (exception_cycles v)
 unfolding take_exception taken closed put_cpu
 taken_step b c e s l v h = rw h
 
-finish_step : (b : Bus) (c : Cpu) (k e : ℕ) (s l : List ℕ) (q : ℕ) (ps : List Piece) (f : Bool) (v a to at x y i : ℕ) → in_exception c ≡ false
+pub finish_step : (b : Bus) (c : Cpu) (k e : ℕ) (s l : List ℕ) (q : ℕ) (ps : List Piece) (f : Bool) (v a to at x y i : ℕ) → in_exception c ≡ false
     → finished (arrived b (enter_supervisor (begun c i)) k e s l q ps f v a to at x y) ≡ arrived b (enter_supervisor c) k e s l q ps f v a to at x y
 unfolding finished arrived closed put_cpu
 finish_step b c k e s l q ps f v a to at x y i h =
     let m : Cpu = jumped f (set_wdata (set_a7 (set_clocks (enter_supervisor c) 0) q) (last_value ps)) v to x y in
     rw (ended_alike c i f q (last_value ps) v to x y, exception_own m (jumped_exception f c q (last_value ps) v to x y ∙ h))
-
--- `take_exception` where no entry is under way
-pub take_closed : (b : Bus) (c : Cpu) (e : ℕ) (s l : List ℕ) (v q a to at x y : ℕ) → in_exception c ≡ false → Entering b (enter_supervisor c) s (short_bytes (kind_of c)) v q a to at x y → e + 12 < 2 ^ 32
-    → take_exception (closed b c e s l) v
-    ≡ entry (arrived b (enter_supervisor c) (clocks_after c 4) e s l q (short_of (kind_of c) (get_sr c) (stacked_address c v) (offset_word v)) (prefetch_enabled c) v a to at x y) (exception_cycles v)
-take_closed b c e s l v q a to at x y h g u =
-    let k : ℕ = clocks_after c 4 in
-    let d : Cpu = begun c k in
-    let ps : List Piece = short_of (kind_of c) (get_sr c) (stacked_address c v) (offset_word v) in
-    let i : Entering b (enter_supervisor d) s (short_bytes (kind_of c)) v q a to at x y = alike_entering b (enter_supervisor c) (enter_supervisor d) s (short_bytes (kind_of c)) v q a to at x y (begun_alike c k) g in
-    let f : Frames b (enter_supervisor d) e s l (stack_short (closed b d e s l) (stacked_address d v) (offset_word v)) (short_bytes (kind_of c)) q ps
-    = rw (begun_address c k v) (rw (begun_kind c k, begun_status c k) at (short_frames b d e s l (stacked_address c v) (offset_word v) v q a to at x y (rw (begun_kind c k) i) (omega arith))) in
-    taken_step b c e s l v h
-    ∙ ap (λ (m : Cpu). entry (finished (jump_vector raised (stack_short (closed b m e s l) (stacked_address m v) (offset_word v)) v)) (exception_cycles v)) (begins c)
-    ∙ ap (λ (w : World). entry (finished w) (exception_cycles v))
-    (jump_frames b (enter_supervisor d) e s l (stack_short (closed b d e s l) (stacked_address d v) (offset_word v)) (short_bytes (kind_of c)) v q a to at x y ps i f u
-    ∙ rw (begun_clocks c k, begun_fetches c k))
-    ∙ ap (λ (w : World). entry w (exception_cycles v)) (finish_step b c k e s l q ps (prefetch_enabled c) v a to at x y k h)
 
 -- ---- group 2, and frames of format 2 and 4
 
@@ -244,61 +207,29 @@ entering b c s n v q a to at x y h m i r k d g =
       queue_apart = rw (supervisor_fetches c) g;
     }
 
-group2_step : (b : Bus) (c : Cpu) (e : ℕ) (s l : List ℕ) (v : ℕ)
+pub group2_step : (b : Bus) (c : Cpu) (e : ℕ) (s l : List ℕ) (v : ℕ)
     → stack_group2 (closed b c e s l) v ≡ pick (is_pre68020 (kind_of c)) (stack_short (closed b c e s l) (pc_of c) (offset_word v)) (push_frame raised (closed b (enter_supervisor c) e s l) (long_frame (get_sr c) (pc_of c) (format_word 2 v) (ppc_of c)))
 unfolding stack_group2 closed put_cpu
 group2_step b c e s l v = refl
 
-group2_frames : (b : Bus) (c : Cpu) (e : ℕ) (s l : List ℕ) (v q a to at x y : ℕ) → Entering b (enter_supervisor c) s (group2_bytes (kind_of c)) v q a to at x y → e + 8 < 2 ^ 32
-    → Frames b (enter_supervisor c) e s l (stack_group2 (closed b c e s l) v) (group2_bytes (kind_of c)) q (group2_of (kind_of c) (get_sr c) (pc_of c) (ppc_of c) v)
-unfolding group2_bytes group2_of
-group2_frames b c e s l v q a to at x y h u = rw (group2_step b c e s l v) (go (is_pre68020 (kind_of c)) h)
-  where
-    m : Cpu
-    m = enter_supervisor c
-
-    go : (t : Bool) → Entering b m s (pick t (short_bytes (kind_of c)) 12) v q a to at x y
-        → Frames b m e s l (pick t (stack_short (closed b c e s l) (pc_of c) (offset_word v)) (push_frame raised (closed b m e s l) (long_frame (get_sr c) (pc_of c) (format_word 2 v) (ppc_of c)))) (pick t (short_bytes (kind_of c)) 12) q (pick t (short_of (kind_of c) (get_sr c) (pc_of c) (offset_word v)) (long_pieces (get_sr c) (pc_of c) (format_word 2 v) (ppc_of c)))
-    go true h = short_frames b c e s l (pc_of c) (offset_word v) v q a to at x y h u
-    go false h =
-        record {
-          world = long_stacked raised b m e s l q h.registers h.running u (get_sr c) (pc_of c) (format_word 2 v) (ppc_of c) h.stack h.room;
-          within = long_within (get_sr c) (pc_of c) (format_word 2 v) (ppc_of c);
-          few = long_few (get_sr c) (pc_of c) (format_word 2 v) (ppc_of c);
-        }
-
--- a jump after any of these frames, from a record c before it entered supervisor state
-jump_supervised : (b : Bus) (c : Cpu) (e : ℕ) (s l : List ℕ) (w : World) (n v q a to at x y : ℕ) (ps : List Piece) → Entering b (enter_supervisor c) s n v q a to at x y → Frames b (enter_supervisor c) e s l w n q ps
-    → e + 12 < 2 ^ 32 → jump_vector raised w v ≡ arrived b (enter_supervisor c) (clocks_of c) e s l q ps (prefetch_enabled c) v a to at x y
-jump_supervised b c e s l w n v q a to at x y ps h f u = jump_frames b (enter_supervisor c) e s l w n v q a to at x y ps h f u ∙ rw (supervisor_clocks c, supervisor_fetches c)
-
--- `take_group2_exception`
-pub group2_closed : (b : Bus) (c : Cpu) (e : ℕ) (s l : List ℕ) (v q a to at x y : ℕ) → Entering b (enter_supervisor c) s (group2_bytes (kind_of c)) v q a to at x y → e + 12 < 2 ^ 32
-    → take_group2 (closed b c e s l) v
-    ≡ entry (arrived b (enter_supervisor c) (clocks_of c) e s l q (group2_of (kind_of c) (get_sr c) (pc_of c) (ppc_of c) v) (prefetch_enabled c) v a to at x y) (exception_cycles v)
-unfolding take_group2
-group2_closed b c e s l v q a to at x y h u =
-    ap (λ (w : World). entry w (exception_cycles v))
-    (jump_supervised b c e s l (stack_group2 (closed b c e s l) v) (group2_bytes (kind_of c)) v q a to at x y (group2_of (kind_of c) (get_sr c) (pc_of c) (ppc_of c) v) h (group2_frames b c e s l v q a to at x y h (omega arith)) u)
-
 -- `exception_trace`: a STOP ends, and 4 clocks come before the frame
 module _ (c : Cpu) (k : ℕ) where
-  abbrev traced : Cpu
+  abbrev pub traced : Cpu
   traced = set_clocks (leave_stop c) k
 
-  traced_alike : Alike (enter_supervisor c) (enter_supervisor traced)
+  pub traced_alike : Alike (enter_supervisor c) (enter_supervisor traced)
   unfolding enter_supervisor clear_trace set_sflag restore_sp put_s backup_sp sp_index set_clocks leave_stop is_faulted kind_of vbr_of prefetch_enabled
   traced_alike = record { running = refl; registers = refl; kind = refl; vbr = refl; fetches = refl }
 
-  traced_clocks : clocks_of traced ≡ k
+  pub traced_clocks : clocks_of traced ≡ k
   unfolding clocks_of set_clocks
   traced_clocks = refl
 
-  traced_kind : kind_of traced ≡ kind_of c
+  pub traced_kind : kind_of traced ≡ kind_of c
   unfolding kind_of set_clocks leave_stop
   traced_kind = refl
 
-  traced_arrived : (b : Bus) (e : ℕ) (s l : List ℕ) (q v a to at x y : ℕ) → arrived b (enter_supervisor traced) k e s l q (group2_of (kind_of traced) (get_sr traced) (pc_of traced) (ppc_of traced) v) (prefetch_enabled traced) v a to at x y ≡ arrived b (enter_supervisor (leave_stop c)) k e s l q (group2_of (kind_of c) (get_sr c) (pc_of c) (ppc_of c) v) (prefetch_enabled c) v a to at x y
+  pub traced_arrived : (b : Bus) (e : ℕ) (s l : List ℕ) (q v a to at x y : ℕ) → arrived b (enter_supervisor traced) k e s l q (group2_of (kind_of traced) (get_sr traced) (pc_of traced) (ppc_of traced) v) (prefetch_enabled traced) v a to at x y ≡ arrived b (enter_supervisor (leave_stop c)) k e s l q (group2_of (kind_of c) (get_sr c) (pc_of c) (ppc_of c) v) (prefetch_enabled c) v a to at x y
   unfolding arrived enter_supervisor clear_trace set_sflag restore_sp put_s backup_sp sp_index set_clocks leave_stop kind_of get_sr pc_of ppc_of prefetch_enabled
   traced_arrived b e s l q v a to at x y = refl
 
@@ -306,35 +237,25 @@ same_stop : (c : Cpu) → clocks_after (leave_stop c) 4 ≡ clocks_after c 4
 unfolding clocks_after clocks_of prefetch_enabled leave_stop
 same_stop c = refl
 
-traces : (c : Cpu) → begin_trace c ≡ traced c (clocks_after c 4)
+pub traces : (c : Cpu) → begin_trace c ≡ traced c (clocks_after c 4)
 unfolding begin_trace
 traces c = cycles_after_lem (leave_stop c) 4 ∙ ap (λ (k : ℕ). set_clocks (leave_stop c) k) (same_stop c)
 
-trace_step : (b : Bus) (c : Cpu) (e : ℕ) (s l : List ℕ) → exception_trace (closed b c e s l) ≡ take_group2 (closed b (begin_trace c) e s l) trace
+pub trace_step : (b : Bus) (c : Cpu) (e : ℕ) (s l : List ℕ) → exception_trace (closed b c e s l) ≡ take_group2 (closed b (begin_trace c) e s l) trace
 unfolding exception_trace closed put_cpu
 trace_step b c e s l = refl
 
-pub trace_closed : (b : Bus) (c : Cpu) (e : ℕ) (s l : List ℕ) (q a to at x y : ℕ) → Entering b (enter_supervisor c) s (group2_bytes (kind_of c)) trace q a to at x y → e + 12 < 2 ^ 32
-    → exception_trace (closed b c e s l)
-    ≡ entry (arrived b (enter_supervisor (leave_stop c)) (clocks_after c 4) e s l q (group2_of (kind_of c) (get_sr c) (pc_of c) (ppc_of c) trace) (prefetch_enabled c) trace a to at x y) (exception_cycles trace)
-trace_closed b c e s l q a to at x y h u =
-    let k : ℕ = clocks_after c 4 in
-    trace_step b c e s l
-    ∙ ap (λ (m : Cpu). take_group2 (closed b m e s l) trace) (traces c)
-    ∙ group2_closed b (traced c k) e s l trace q a to at x y (rw (traced_kind c k) (alike_entering b (enter_supervisor c) (enter_supervisor (traced c k)) s (group2_bytes (kind_of c)) trace q a to at x y (traced_alike c k) h)) u
-    ∙ ap (λ (w : World). entry w (exception_cycles trace)) (rw (traced_clocks c k) (traced_arrived c k b e s l q trace a to at x y))
-
 -- ---- the wrappers that take PC back to the instruction
 
-rewind_alike : (c : Cpu) → Alike (enter_supervisor c) (enter_supervisor (rewind_pc c))
+pub rewind_alike : (c : Cpu) → Alike (enter_supervisor c) (enter_supervisor (rewind_pc c))
 unfolding enter_supervisor clear_trace set_sflag restore_sp put_s backup_sp sp_index rewind_pc is_faulted kind_of vbr_of prefetch_enabled
 rewind_alike c = record { running = refl; registers = refl; kind = refl; vbr = refl; fetches = refl }
 
-rewind_kind : (c : Cpu) → kind_of (rewind_pc c) ≡ kind_of c
+pub rewind_kind : (c : Cpu) → kind_of (rewind_pc c) ≡ kind_of c
 unfolding kind_of rewind_pc
 rewind_kind c = refl
 
-rewind_exception : (c : Cpu) → in_exception (rewind_pc c) ≡ in_exception c
+pub rewind_exception : (c : Cpu) → in_exception (rewind_pc c) ≡ in_exception c
 unfolding in_exception rewind_pc
 rewind_exception c = refl
 
@@ -353,81 +274,37 @@ rewind_jumped c true q m v to x y = refl
 rewind_jumped c false q m v to x y = refl
 
 -- both addresses of a rewound record are the instruction's
-rewind_arrived : (b : Bus) (c : Cpu) (e : ℕ) (s l : List ℕ) (q v a to at x y : ℕ)
+pub rewind_arrived : (b : Bus) (c : Cpu) (e : ℕ) (s l : List ℕ) (q v a to at x y : ℕ)
     → arrived b (enter_supervisor (rewind_pc c)) (clocks_after (rewind_pc c) 4) e s l q (short_of (kind_of (rewind_pc c)) (get_sr (rewind_pc c)) (stacked_address (rewind_pc c) v) (offset_word v)) (prefetch_enabled (rewind_pc c)) v a to at x y
     ≡ arrived b (enter_supervisor c) (clocks_after c 4) e s l q (short_of (kind_of c) (get_sr c) (ppc_of c) (offset_word v)) (prefetch_enabled c) v a to at x y
 unfolding arrived clocks_after clocks_of kind_of get_sr prefetch_enabled rewind_pc
 rewind_arrived b c e s l q v a to at x y =
     rw (rewind_address c v, rewind_jumped c (prefetch_enabled c) q (last_value (short_of (kind_of c) (get_sr c) (ppc_of c) (offset_word v))) v to x y)
 
-rewind_step : (b : Bus) (c : Cpu) (e : ℕ) (s l : List ℕ) (v : ℕ) → take_rewound (closed b c e s l) v ≡ take_exception (closed b (rewind_pc c) e s l) v
+pub rewind_step : (b : Bus) (c : Cpu) (e : ℕ) (s l : List ℕ) (v : ℕ) → take_rewound (closed b c e s l) v ≡ take_exception (closed b (rewind_pc c) e s l) v
 unfolding take_rewound closed put_cpu
 rewind_step b c e s l v = refl
 
--- line A, line F, breakpoint, illegal: the instruction's own address is stacked
-pub rewound_closed : (b : Bus) (c : Cpu) (e : ℕ) (s l : List ℕ) (v q a to at x y : ℕ) → in_exception c ≡ false → Entering b (enter_supervisor c) s (short_bytes (kind_of c)) v q a to at x y → e + 12 < 2 ^ 32
-    → take_rewound (closed b c e s l) v
-    ≡ entry (arrived b (enter_supervisor c) (clocks_after c 4) e s l q (short_of (kind_of c) (get_sr c) (ppc_of c) (offset_word v)) (prefetch_enabled c) v a to at x y) (exception_cycles v)
-rewound_closed b c e s l v q a to at x y h g u =
-    rewind_step b c e s l v
-    ∙ take_closed b (rewind_pc c) e s l v q a to at x y (rewind_exception c ∙ h) (rw (rewind_kind c) (alike_entering b (enter_supervisor c) (enter_supervisor (rewind_pc c)) s (short_bytes (kind_of c)) v q a to at x y (rewind_alike c) g)) u
-    ∙ ap (λ (w : World). entry w (exception_cycles v)) (rewind_arrived b c e s l q v a to at x y)
-
 -- ---- the 68060's floating point entries
 
-fpiar_alike : (c : Cpu) → Alike (enter_supervisor c) (enter_supervisor (note_fpiar c))
+pub fpiar_alike : (c : Cpu) → Alike (enter_supervisor c) (enter_supervisor (note_fpiar c))
 unfolding enter_supervisor clear_trace set_sflag restore_sp put_s backup_sp sp_index note_fpiar is_faulted kind_of vbr_of prefetch_enabled
 fpiar_alike c = record { running = refl; registers = refl; kind = refl; vbr = refl; fetches = refl }
 
-unimp_step : (b : Bus) (c : Cpu) (e : ℕ) (s l : List ℕ) (ea : ℕ)
+pub unimp_step : (b : Bus) (c : Cpu) (e : ℕ) (s l : List ℕ) (ea : ℕ)
     → take_fp_unimp060 (closed b c e s l) ea ≡ entry (jump_vector raised (push_frame raised (closed b (enter_supervisor (note_fpiar c)) e s l) (long_frame (get_sr c) (pc_of c) (format_word 2 line1111) ea)) line1111) (exception_cycles line1111)
 unfolding take_fp_unimp060 stack_unimp closed put_cpu note_fpiar get_sr pc_of
 unimp_step b c e s l ea = refl
 
-fpiar_fetches : (c : Cpu) → prefetch_enabled (note_fpiar c) ≡ prefetch_enabled c
+pub fpiar_fetches : (c : Cpu) → prefetch_enabled (note_fpiar c) ≡ prefetch_enabled c
 unfolding prefetch_enabled note_fpiar
 fpiar_fetches c = refl
 
-fpiar_clocks : (c : Cpu) → clocks_of (note_fpiar c) ≡ clocks_of c
+pub fpiar_clocks : (c : Cpu) → clocks_of (note_fpiar c) ≡ clocks_of c
 unfolding clocks_of note_fpiar
 fpiar_clocks c = refl
 
--- `take_fp_unimp_060`: format 2 with the operand's address
-pub unimp_closed : (b : Bus) (c : Cpu) (e : ℕ) (s l : List ℕ) (ea q a to at x y : ℕ) → Entering b (enter_supervisor c) s 12 line1111 q a to at x y → e + 12 < 2 ^ 32
-    → take_fp_unimp060 (closed b c e s l) ea
-    ≡ entry (arrived b (enter_supervisor (note_fpiar c)) (clocks_of c) e s l q (long_pieces (get_sr c) (pc_of c) (format_word 2 line1111) ea) (prefetch_enabled c) line1111 a to at x y) (exception_cycles line1111)
-unimp_closed b c e s l ea q a to at x y g u =
-    let d : Cpu = note_fpiar c in
-    let m : Cpu = enter_supervisor d in
-    let h : Entering b m s 12 line1111 q a to at x y = alike_entering b (enter_supervisor c) m s 12 line1111 q a to at x y (fpiar_alike c) g in
-    let f : Frames b m e s l (push_frame raised (closed b m e s l) (long_frame (get_sr c) (pc_of c) (format_word 2 line1111) ea)) 12 q (long_pieces (get_sr c) (pc_of c) (format_word 2 line1111) ea)
-    = record {
-      world = long_stacked raised b m e s l q h.registers h.running (omega arith) (get_sr c) (pc_of c) (format_word 2 line1111) ea h.stack h.room;
-      within = long_within (get_sr c) (pc_of c) (format_word 2 line1111) ea;
-      few = long_few (get_sr c) (pc_of c) (format_word 2 line1111) ea;
-    } in
-    unimp_step b c e s l ea
-    ∙ ap (λ (w : World). entry w (exception_cycles line1111))
-    (jump_supervised b d e s l (push_frame raised (closed b m e s l) (long_frame (get_sr c) (pc_of c) (format_word 2 line1111) ea)) 12 line1111 q a to at x y (long_pieces (get_sr c) (pc_of c) (format_word 2 line1111) ea) h f u
-    ∙ rw (fpiar_clocks c, fpiar_fetches c))
-
-disabled_step : (b : Bus) (c : Cpu) (e : ℕ) (s l : List ℕ)
+pub disabled_step : (b : Bus) (c : Cpu) (e : ℕ) (s l : List ℕ)
     → take_fp_disabled060 (closed b c e s l) ≡ entry (jump_vector raised (push_frame raised (closed b (enter_supervisor c) e s l) (disabled_frame (get_sr c) (ppc_of c) (format_word 4 line1111) 0 (ppc_of c))) line1111) (exception_cycles line1111)
 unfolding take_fp_disabled060 stack_disabled closed put_cpu
 disabled_step b c e s l = refl
-
--- `take_fp_disabled_060`: format 4
-pub disabled_closed : (b : Bus) (c : Cpu) (e : ℕ) (s l : List ℕ) (q a to at x y : ℕ) → Entering b (enter_supervisor c) s 16 line1111 q a to at x y → e + 12 < 2 ^ 32
-    → take_fp_disabled060 (closed b c e s l)
-    ≡ entry (arrived b (enter_supervisor c) (clocks_of c) e s l q (disabled_pieces (get_sr c) (ppc_of c) (format_word 4 line1111) 0 (ppc_of c)) (prefetch_enabled c) line1111 a to at x y) (exception_cycles line1111)
-disabled_closed b c e s l q a to at x y h u =
-    let m : Cpu = enter_supervisor c in
-    let f : Frames b m e s l (push_frame raised (closed b m e s l) (disabled_frame (get_sr c) (ppc_of c) (format_word 4 line1111) 0 (ppc_of c))) 16 q (disabled_pieces (get_sr c) (ppc_of c) (format_word 4 line1111) 0 (ppc_of c))
-    = record {
-      world = disabled_stacked raised b m e s l q h.registers h.running (omega arith) (get_sr c) (ppc_of c) (format_word 4 line1111) 0 (ppc_of c) h.stack h.room;
-      within = disabled_within (get_sr c) (ppc_of c) (format_word 4 line1111) 0 (ppc_of c);
-      few = disabled_few (get_sr c) (ppc_of c) (format_word 4 line1111) 0 (ppc_of c);
-    } in
-    disabled_step b c e s l
-    ∙ ap (λ (w : World). entry w (exception_cycles line1111))
-    (jump_supervised b c e s l (push_frame raised (closed b m e s l) (disabled_frame (get_sr c) (ppc_of c) (format_word 4 line1111) 0 (ppc_of c))) 16 line1111 q a to at x y (disabled_pieces (get_sr c) (ppc_of c) (format_word 4 line1111) 0 (ppc_of c)) h f u)

@@ -19,26 +19,7 @@ use Rattle.status.specs.Banks.{enter_supervisor}
 use Rattle.access.specs.Access.{Raise, bus_error, push_fields, push_frame, jump_vector, exception_bus_error, raise_bus, trigger}
 use Rattle.unfaulted.specs.Closed.{closed, Piece, Room, stacked, Entering, arrived}
 use Rattle.unfaulted.specs.Pushes.{offset_of, pieces_of, Guarded, pieces_within, length_pieces}
-use Rattle.unfaulted.specs.Stacks.{frame_stacked, jump_stacked}
 use Rattle.unfaulted.specs.Entries.{Alike, alike_entering, supervisor_clocks, supervisor_fetches}
-
--- ---- any frame of guarded fields, and the jump
-
-stacks : (t : Raise) (b : Bus) (c : Cpu) (e : ℕ) (s l : List ℕ) (f : Frame) (k q : ℕ) → Guarded f (suc k) → 15 < length c.regs.dar → is_faulted c ≡ false → a7_of c ≡ q + offset_of f (suc k)
-    → Room b (kind_of c) (length s) q (offset_of f (suc k)) → e + 1 + suc k < 2 ^ 32 → push_fields t (closed b c e s l) f (suc k) ≡ stacked b c e s l q (pieces_of f (suc k))
-unfolding pieces_of
-stacks t b c e s l f k q g h j a r u = frame_stacked t b c e s l f k q (record { offset = offset_of f k; long = (field_at f k).long; value = (field_at f k).value }) (pieces_of f k) refl g h j a r u
-
-pub frame_arrived : (t : Raise) (b : Bus) (c : Cpu) (e : ℕ) (s l : List ℕ) (f : Frame) (k v q a to at x y : ℕ) → f.count ≡ suc k → Guarded f (suc k)
-    → Entering b c s (offset_of f (suc k)) v q a to at x y → e + k + 8 < 2 ^ 32
-    → jump_vector t (push_frame t (closed b c e s l) f) v ≡ arrived b c (clocks_of c) e s l q (pieces_of f (suc k)) (prefetch_enabled c) v a to at x y
-unfolding push_frame
-frame_arrived t b c e s l f k v q a to at x y n g h u =
-    let ps : List Piece = pieces_of f (suc k) in
-    let m : length ps ≡ suc k = length_pieces f (suc k) in
-    ap (λ (i : ℕ). jump_vector t (push_fields t (closed b c e s l) f i) v) n
-    ∙ ap (λ (w : World). jump_vector t w v) (stacks t b c e s l f k q g h.registers h.running h.stack h.room (omega arith))
-    ∙ jump_stacked t b c e s l (offset_of f (suc k)) v q a to at x y ps h (pieces_within f (suc k) (offset_of f (suc k)) (omega arith)) (omega arith)
 
 -- ---- which frames are guarded
 
@@ -85,33 +66,22 @@ bus_guarded c a write instruction z cause h = go (eqb (kind_of c) 1) (either (eq
 -- ---- `exception_bus_error`
 
 module _ (c : Cpu) where
-  error_alike : Alike (enter_supervisor c) (enter_bus_error c)
+  pub error_alike : Alike (enter_supervisor c) (enter_bus_error c)
   unfolding enter_bus_error clear_fc_override is_faulted kind_of vbr_of prefetch_enabled
   error_alike = record { running = refl; registers = refl; kind = refl; vbr = refl; fetches = refl }
 
-  error_clocks : clocks_of (enter_bus_error c) ≡ clocks_of (enter_supervisor c)
+  pub error_clocks : clocks_of (enter_bus_error c) ≡ clocks_of (enter_supervisor c)
   unfolding enter_bus_error clear_fc_override clocks_of
   error_clocks = refl
 
-  error_fetches : prefetch_enabled (enter_bus_error c) ≡ prefetch_enabled (enter_supervisor c)
+  pub error_fetches : prefetch_enabled (enter_bus_error c) ≡ prefetch_enabled (enter_supervisor c)
   unfolding enter_bus_error clear_fc_override prefetch_enabled
   error_fetches = refl
 
-bus_step : (t : Raise) (b : Bus) (c : Cpu) (e : ℕ) (s l : List ℕ) (i : ℕ) (write instruction : Bool) (z cause : ℕ)
+pub bus_step : (t : Raise) (b : Bus) (c : Cpu) (e : ℕ) (s l : List ℕ) (i : ℕ) (write instruction : Bool) (z cause : ℕ)
     → exception_bus_error t (closed b c e s l) i write instruction z cause ≡ jump_vector t (push_frame t (closed b (enter_bus_error c) e s l) (bus_frame c i write instruction z cause)) bus_error_vector
 unfolding exception_bus_error closed put_cpu
 bus_step t b c e s l i write instruction z cause = refl
-
--- a bus error entry with a frame of k + 1 guarded fields
-pub bus_closed : (t : Raise) (b : Bus) (c : Cpu) (e : ℕ) (s l : List ℕ) (i : ℕ) (write instruction : Bool) (z cause k q a to at x y : ℕ) → (bus_frame c i write instruction z cause).count ≡ suc k
-    → Guarded (bus_frame c i write instruction z cause) (suc k) → Entering b (enter_supervisor c) s (offset_of (bus_frame c i write instruction z cause) (suc k)) bus_error_vector q a to at x y → e + k + 8 < 2 ^ 32
-    → exception_bus_error t (closed b c e s l) i write instruction z cause
-    ≡ arrived b (enter_bus_error c) (clocks_of c) e s l q (pieces_of (bus_frame c i write instruction z cause) (suc k)) (prefetch_enabled c) bus_error_vector a to at x y
-bus_closed t b c e s l i write instruction z cause k q a to at x y n g h u =
-    let f : Frame = bus_frame c i write instruction z cause in
-    bus_step t b c e s l i write instruction z cause
-    ∙ frame_arrived t b (enter_bus_error c) e s l f k bus_error_vector q a to at x y n g (alike_entering b (enter_supervisor c) (enter_bus_error c) s (offset_of f (suc k)) bus_error_vector q a to at x y (error_alike c) h) u
-    ∙ rw (error_clocks c, supervisor_clocks c, error_fetches c, supervisor_fetches c)
 
 -- `trigger_bus_error` while none is under way: status and registers as saved, the entry, and what the end of the instruction needs
 pub trigger_closed : (n : ℕ) (b : Bus) (c : Cpu) (e : ℕ) (s l : List ℕ) (i : ℕ) (write instruction : Bool) (z : ℕ) (w : World) → is_faulted c ≡ false → in_exception c ≡ false

@@ -15,14 +15,14 @@ use Rattle.exceptions.specs.Exceptions.{entry, take_exception}
 use Rattle.steps.specs.Steps.{stacks_next, stacked_address}
 use Rattle.formats.specs.Formats.{offset_word}
 use Rattle.unfaulted.specs.Closed.{closed, event, Room, Entering, arrived, clocks_after, entry_events, short_bytes, short_of, three_pieces, writes_of, clock_events, jump_events}
-use Rattle.unfaulted.specs.Entries.{entering, take_closed}
+use Rattle.unfaulted.specs.Entries.{entering}
 
 -- 256 bytes from 0 on, no window
-abbrev board : Bus
+abbrev pub board : Bus
 board = record { base = 0; windows = 0; starts = []; lengths = []; responses = []; events = 0 }
 
 -- vector 8 says 64, and the words there say 0x1234 and 0x5678
-abbrev bytes : List ℕ
+abbrev pub bytes : List ℕ
 bytes = put_long (put_long (replicate 256 0) 32 64) 64 0x12345678
 
 -- a fresh 68000 with A7 at 128 and 3 clocks that wait
@@ -39,12 +39,6 @@ fresh_enters =
     entering board fresh bytes 6 8 122 32 64 64 0x1234 0x5678 refl refl refl (room 122 6 (lit< tt) refl (lit≤ tt) refl)
     (record { vector = refl; vector_room = room 32 4 (lit< tt) refl (lit≤ tt) refl; handler = refl; queue = λ i. refl; queue_room = λ i. room 64 4 (lit< tt) refl (lit≤ tt) refl; first = λ i. refl; second = λ i. refl })
     (inr (lit≤ tt)) (λ i. inr (lit≤ tt))
-
--- so the entry is told in full
-pub fresh_taken : take_exception (closed board fresh 0 bytes []) 8
-    ≡ entry (arrived board (enter_supervisor fresh) (clocks_after fresh 4) 0 bytes [] 122 (short_of (kind_of fresh) (get_sr fresh) (stacked_address fresh 8) (offset_word 8)) (prefetch_enabled fresh) 8 32 64 64 0x1234 0x5678) (exception_cycles 8)
-unfolding fresh in_exception set_clocks set_a7 fresh_cpu fresh_flow
-fresh_taken = take_closed board fresh 0 bytes [] 8 122 32 64 64 0x1234 0x5678 refl fresh_enters (lit< tt)
 
 -- its nine events: 3 + 4 clocks, PC low, the status, PC high, the release, the vector, the first word, 2 clocks, the second word
 pub fresh_events : entry_events (clocks_after fresh 4) 122 (short_of (kind_of fresh) (get_sr fresh) (stacked_address fresh 8) (offset_word 8)) (prefetch_enabled fresh) 32 64 64 0x1234 0x5678

@@ -63,14 +63,6 @@ laid_length [] s p = refl
 laid_length (x ∷ xs) s p =
     laid_length xs (put x.long s (p + x.offset) (kept x.long x.value)) p ∙ put_length x.long s (p + x.offset) (kept x.long x.value)
 
-part_apart : (p n o d q m : ℕ) → o + d ≤ n → Apart p n q m → Apart (p + o) d q m
+pub part_apart : (p n o d q m : ℕ) → o + d ≤ n → Apart p n q m → Apart (p + o) d q m
 part_apart p n o d q m l (inl h) = inl (omega arith)
 part_apart p n o d q m l (inr h) = inr (omega arith)
-
--- a read that lies apart from all n bytes of the frame is the same before it and after it
-pub laid_other : (ps : List Piece) (g : Bool) (s : List ℕ) (p n q : ℕ) → Within n ps → Apart p n q (width_of g) → get g (laid s p ps) q ≡ get g s q
-unfolding laid Within
-laid_other [] g s p n q w a = refl
-laid_other (x ∷ xs) g s p n q w a =
-    laid_other xs g (put x.long s (p + x.offset) (kept x.long x.value)) p n q w.2 a
-    ∙ read_other x.long g s (p + x.offset) q (kept x.long x.value) (part_apart p n x.offset (width_of x.long) q (width_of g) w.1 a)

@@ -17,7 +17,7 @@ use Rattle.answers.specs.Answers.{of_entry}
 use Rattle.numbers.specs.declared.RawCall.{RawCall}
 use Rattle.boundary.specs.Calls.{of_performed, raw_call}
 use Rattle.unfaulted.specs.Closed.{closed, Piece, last_value, short_pieces, long_pieces, jumped, arrived}
-use Rattle.unfaulted.specs.Entries.{unimp_closed}
+use Rattle.unfaulted.proofs.Entries.{unimp_closed}
 use Rattle.fast_plans.specs.declared.View.{View}
 use Rattle.fast_plans.specs.declared.Patch.{Patch}
 use Rattle.fast_plans.specs.declared.places.Spot.{Spot}
@@ -31,7 +31,8 @@ use Rattle.fast.specs.Stacks.{Tape, tape, waiting_of, lay_count, jump_count}
 use Rattle.fast.specs.Patches.{patch_by, enter_of, go_of}
 use Rattle.fast_laws.specs.Patched.{patch_cpu, Words, Fetched}
 use Rattle.fast_laws.specs.Accepts.{Accepted}
-use Rattle.fast_laws.specs.Supervised.{Plain, plain_patched, note_clear, note_fitting, note_patched}
+use Rattle.fast_laws.specs.Supervised.{Plain, note_clear, note_fitting, note_patched}
+use Rattle.fast_laws.proofs.Supervised.{plain_patched}
 use Rattle.fast_laws.specs.Tapes.{Framed, framed_long}
 use Rattle.fast_laws.specs.Ways.{waiting_none, fetched_in, spot_for, landing_for, Entered, entered_by_lem, Says, said, clear_of_lem, entering_of, fitting_of}
 

@@ -3,7 +3,9 @@ use Rattle.std.specs.Prelude.{◌≡◌}
 use Rattle.cpu.specs.Fields.{kind_of}
 use Rattle.memory.specs.World.{World, cpu_of}
 use Rattle.access.specs.Access.{bus_error, address_error, Raise, trigger, Fault}
-use Rattle.bounds.specs.Levels.{Domain, Either, inside, Unrolls, unrolled_halts, level_halts, level_unrolls, raises_in, raises_bus, bus_any, address_any, again}
+use Rattle.bounds.specs.Levels.{Domain, Either, inside, Unrolls, unrolled_halts, level_halts, level_unrolls}
+use Rattle.bounds.proofs.Levels.{raises_in, raises_bus, bus_any, address_any}
+use Rattle.bounds.proofs.Again.{again}
 
 -- two levels meet the equations
 pub solves : Unrolls (trigger 2) (trigger 2)

@@ -1,0 +1,7 @@
+pub mod Entered
+pub mod PaperIs
+pub mod Machines
+pub mod Two
+pub mod Rule3
+pub mod Does
+pub mod One

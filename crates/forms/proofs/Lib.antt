@@ -1,0 +1,9 @@
+pub mod Forms
+pub mod Adequate
+pub mod QuietInterrupts
+pub mod QuietFrames
+pub mod QuietEntries
+pub mod Tests
+pub mod Interrupts
+pub mod Orders
+pub mod KindKept

@@ -1,0 +1,4 @@
+pub mod Told
+pub mod Worked
+pub mod Bytes
+pub mod Example

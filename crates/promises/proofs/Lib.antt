@@ -1,0 +1,5 @@
+pub mod Levels
+pub mod Calls
+pub mod Refusals
+pub mod Charged
+pub mod Interrupts

@@ -1,0 +1,33 @@
+-- Theorems about what specs/Worked defines, and what rests on them.
+use Rattle.std.specs.Prelude.{ℕ, ◌*◌, ◌<◌, ◌≤◌, ◌≡◌, refl, true, List, [], ◌∷◌, set, replicate}
+use Rattle.std.proofs.Common.{sym, ap, ◌∙◌, subst, arith}
+use Rattle.std.proofs.Math.Option.{Option, none, some}
+use Rattle.cpu.specs.declared.Cpu.{Cpu}
+use Rattle.cpu.specs.Fields.{set_a7, set_pc}
+use Rattle.cpu.specs.Fresh.{fresh_cpu}
+use Rattle.status.specs.Status.{set_sr_noint_nosp}
+use Rattle.pending.specs.Interrupts.{set_irq}
+use Rattle.memory.specs.declared.Bus.{Bus}
+use Rattle.answers.specs.declared.Call.TheVariants.{CheckAndServiceInterrupts}
+use Rattle.instances.specs.Start.{laid}
+use Rattle.nest.specs.View.{Row}
+use Rattle.nest.specs.Nest.{Step, entry, handlers, State, end, rows, Values, restored, restored_by, depth, Premises, Told}
+use Rattle.entered.specs.Machines.{Direct, Room}
+use Rattle.rule3.specs.Rule3.{Real, walk, rule3}
+use Rattle.rule3.specs.Checked.{real, premises_test, premises_tested}
+use Rattle.rule3.specs.Computed.{nested}
+use Rattle.rule3.specs.Worked.{r₀, s₀, steps, final, final_rows, test, depth_is, walked_by, returned_by_lem, final_values}
+
+pub premises : Premises Real steps r₀ s₀
+premises = premises_tested real steps r₀ s₀ test
+
+pub told : Told Real final
+told = rule3.tells steps r₀ s₀ premises (subst (λ (n : ℕ). 0 < n) (sym depth_is) (omega arith))
+
+-- the engine's walk of two into any buffer of 8 words or more, and its two returns, by rule 3
+pub final_walk : (w : ℕ) → 8 ≤ w → walk 2 w final.rec final.sto
+    ≡ record { rows = record { format = 0; status = 0x2200; address = 0x124; offset = 0x70 } ∷ record { format = 0; status = 0x2000; address = 0x100; offset = 0x68 } ∷ []; number = none }
+final_walk w l = walked_by final 2 depth_is told w l _ final_rows
+
+pub final_returns : restored Real 2 final.rec final.sto ≡ some (record { status = 0x2200; pc = 0x124; a7 = 0x178 } ∷ record { status = 0x2000; pc = 0x100; a7 = 0x180 } ∷ [])
+final_returns = returned_by_lem final 2 depth_is told _ final_values

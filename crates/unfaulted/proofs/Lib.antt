@@ -1,0 +1,10 @@
+pub mod Entries
+pub mod Stacks
+pub mod Serviced
+pub mod Accesses
+pub mod Errors
+pub mod Written
+pub mod Examples
+pub mod Jumps
+pub mod Lists
+pub mod Pushes
