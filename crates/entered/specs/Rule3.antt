@@ -24,10 +24,10 @@ use Rattle.entered.specs.Untaken.{Idle, call_idle, SameLent, call_room}
 
 -- an entry accepted and not taken has no plan
 pub record Held (w : World) (c : Call) (r : Cpu) (s : Room) : Type 0 where
-  accepted : refusal w c ≡ 0
-  has : plan_of (begun w) c ≡ none
-  cpu_is : cpu_of (perform w c).after ≡ r
-  room_is : room_of (perform w c).after ≡ s
+  pub accepted : refusal w c ≡ 0
+  pub has : plan_of (begun w) c ≡ none
+  pub cpu_is : cpu_of (perform w c).after ≡ r
+  pub room_is : room_of (perform w c).after ≡ s
 
 pub held : (w : World) (c : Call) (r : Cpu) (s : Room) → by_plan w c ≡ untaken r s → Held w c r s
 unfolding by_plan
