@@ -1,5 +1,4 @@
 -- A record replaced and answered.
-use Prim.Native.Nat.{ℕ}
 use mathlib.Core.Path.{◌≡◌, ap, ◌∙◌}
 use mathlib.Core.Bool.{Bool}
 use Rattle.cpu.specs.declared.Cpu.{Cpu}

@@ -1,5 +1,5 @@
 -- What a call answers: the cases with the numbers that paper 01 gives each, and record, store and log after a call beside it.
-use Rattle.std.specs.Prelude.{ℕ, Bool, true, false}
+use Rattle.std.specs.Prelude.{ℕ, Bool}
 use Rattle.numbers.specs.Numbers.{bit}
 use Rattle.pending.specs.declared.trace.Traced.{Traced}
 use Rattle.memory.specs.declared.Core.{Core}

@@ -1,7 +1,7 @@
 -- An entry whose frame is data, by its fast way, is the call over the lent record.
-use Rattle.std.specs.Prelude.{◌≡◌, Bool, true, false, List, ℕ}
+use Rattle.std.specs.Prelude.{◌≡◌, List, ℕ}
 use Rattle.std.proofs.Math.Path.{refl}
-use Rattle.std.proofs.Common.{sym, ap, ◌∙◌}
+use Rattle.std.proofs.Common.{sym, ◌∙◌}
 use Rattle.cpu.specs.Fields.{wdata_of}
 use Rattle.memory.specs.World.{world}
 use Rattle.numbers.specs.declared.RawCall.{RawCall}

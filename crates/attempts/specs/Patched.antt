@@ -1,17 +1,15 @@
 -- The lent record with a patch is the core's record with it, as it is lent, where every flag byte is 0 or 1.
 use Rattle.std.specs.Prelude.{ℕ, zero, suc, ◌≤◌, ◌<◌, ◌≡◌, Bool, true, false, not, List, eqb, ltb, set, get_or}
 use Rattle.std.proofs.Math.Path.{refl}
-use Rattle.std.proofs.Common.{sym, ap, ◌∙◌, arith, ltb-true, ltb-false, eq-eqb, ne_eqb}
+use Rattle.std.proofs.Common.{arith, ltb-true, ltb-false}
 use Rattle.std.proofs.lemmas.List.{set-get_or}
 use Rattle.types.specs.Kinds.{pick}
 use Rattle.numbers.specs.Numbers.{bit, flag}
-use Rattle.cpu.specs.Clocks.{prefetch_enabled}
 use Rattle.memory.specs.World.{world}
 use Rattle.numbers.specs.declared.RawCall.{RawCall}
 use Rattle.boundary.specs.Calls.{Outcome, outcome, raw_call}
 use Rattle.records.specs.declared.LentCore.{LentCore}
 use Rattle.records.specs.Records.{raised_vector, raised_code, raised_flow, raised_queue, raised_fault, raised_resume, raised_cpu, raised, lowered_vector, lowered_code, lowered_flow, lowered_queue, lowered_fault, lowered_resume, lowered_cpu, lowered}
-use Rattle.fast_plans.specs.declared.Patch.{Patch}
 use Rattle.fast_laws.specs.Patched.{patch_cpu, patch_of, calm_of, Words, Fetched}
 use Rattle.fast_plans.specs.Views.{view_of}
 use Rattle.fast.specs.Patches.{Ended, go_of}
@@ -19,7 +17,7 @@ use Rattle.fast_plans.specs.Quiet.{no_patch}
 use Rattle.fast_laws.specs.Matched.{kept}
 use Rattle.fast_laws.proofs.Matched.{entry_same, calm_same, idle_same}
 use Rattle.attempts.specs.declared.Attempted.{Attempted}
-use Rattle.attempts.specs.Lent.{Left, left, says, record_after, left_by, lent_call}
+use Rattle.attempts.specs.Lent.{left, says, record_after, left_by, lent_call}
 use Rattle.attempts.specs.Attempts.{is_tidy, attempted_by, charged_by, patched_regs, patched_flow, patched_flags, patched_queue, patched_fault, patched_cpu, patched_by, calmed_flow, calmed_flags, calmed_cpu, calmed_by, Tried}
 
 -- a byte of 0 or 1 comes back

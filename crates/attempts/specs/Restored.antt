@@ -1,5 +1,5 @@
 -- The return by a fast way: what an attempt says, and the record after it.
-use Rattle.std.specs.Prelude.{ℕ, ◌≡◌, refl, true, List}
+use Rattle.std.specs.Prelude.{ℕ, ◌≡◌, true, List}
 use Rattle.std.proofs.Common.{sym, ap, ◌∙◌}
 use Rattle.cpu.specs.Fields.{set_a7, set_pc}
 use Rattle.cpu.specs.Clocks.{clear_prefetch}

@@ -1,13 +1,9 @@
 -- Written by tools/generate.py from tools/manifest.txt: not edited by hand.
 -- A law for each way through a function, by tools/ways.py: its premises are how each test went and what each call ensures, in the
 -- order of the code.
-use Prim.Native.Nat.{ℕ, zero, suc, ◌+◌, ◌-◌, ◌*◌, ◌/◌, ◌%◌, ◌^◌, ◌<◌, ◌≤◌}
-use mathlib.Core.Path.{◌≡◌, refl}
-use mathlib.Core.Bool.{Bool, true, false}
+use Prim.Native.Nat.{ℕ}
+use mathlib.Core.Path.{◌≡◌}
 use mathlib.Core.List.{List}
-use lib.ListN.{length, get_or, set}
-use lib.Dec.{eqb, ltb, leb}
-use native.Mathlib.Numerals.{sub-one}
 use Rattle.boundary.specs.Calls.{decode, outcome, raw_call, raw_of}
 use Rattle.boundary.specs.declared.Decoded.{Decoded}
 use Rattle.boundary.specs.declared.RawAnswer.{RawAnswer}

@@ -1,6 +1,6 @@
 -- The calls by number, for the C boundary: which call of `calls` each number is, and its answer in numbers. Numbers and arguments
 -- are those of the case format.
-use Rattle.std.specs.Prelude.{ℕ, ◌+◌, ◌%◌, Bool, true, false, eqb, List, [], ◌∷◌}
+use Rattle.std.specs.Prelude.{ℕ, ◌%◌, eqb, List, [], ◌∷◌}
 use Rattle.answers.specs.declared.Call.{Call}
 use Rattle.types.specs.Kinds.{pick}
 use Rattle.types.specs.Causes.{cause_of}

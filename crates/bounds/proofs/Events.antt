@@ -1,25 +1,24 @@
 -- Theorems about what specs/Events defines, and what rests on them.
-use Rattle.std.specs.Prelude.{ℕ, zero, suc, ◌+◌, ◌-◌, ◌*◌, ◌^◌, ◌≤◌, ◌<◌, ◌≡◌, Bool, List, [], ◌++◌, eqb, length, drop}
+use Rattle.std.specs.Prelude.{ℕ, suc, ◌+◌, ◌-◌, ◌*◌, ◌^◌, ◌≤◌, ◌<◌, ◌≡◌, Bool, List, [], ◌++◌, length, drop}
 use Rattle.std.proofs.Math.Path.{refl, ap}
 use Rattle.std.proofs.Common.{◌∙◌}
 use Rattle.std.proofs.Math.Bool.{true, false}
 use native.Mathlib.Omega.{arith}
-use Rattle.types.specs.Kinds.{pick, either, is_pre68020, is_prefetch_kind, is040, is060}
-use Rattle.cpu.specs.Fields.{kind_of, address_of, is_faulted, in_exception, cause_number_of, halted}
+use Rattle.types.specs.Kinds.{pick, is_pre68020, is_prefetch_kind}
+use Rattle.cpu.specs.Fields.{kind_of, address_of, is_faulted, in_exception, cause_number_of}
 use Rattle.status.specs.Banks.{enter_supervisor}
-use Rattle.cpu.specs.Clocks.{prefetch_enabled}
-use Rattle.memory.proofs.LogLaws.{replay, spell}
+use Rattle.memory.specs.LogLaws.{replay, spell}
 use Rattle.memory.specs.World.{World, cpu_of, step}
 use Rattle.frames.specs.declared.Field.{Field}
 use Rattle.frames.specs.declared.Frame.{Frame}
-use Rattle.frames.specs.Frames.{field_at, bus_frame, address_frame, is_counted}
+use Rattle.frames.specs.Frames.{bus_frame, address_frame, is_counted}
 use Rattle.steps.specs.Steps.{begin_bus, begin_address, enter_bus_error, close_bus}
 use Rattle.status.specs.Status.{keep_resume}
-use Rattle.access.specs.Access.{bus_error, address_error, Raise, read_at, write_at, push_field, push_exception_frame68000, jump_vector, prefetch_first, prefetch_second, exception_address_error, exception_bus_error, raise_bus, raise_address, trigger, raised, entered, Fault}
-use Rattle.bounds.specs.Skeleton.{Steps, Raises, refills, more, after_field, after_fields, pick_one, pick_when, both_steps, guard_read_good, guard_write_good, pushed_good, push_short_good, jump_good, prefetch_first_good, prefetch_second_good, frame_good}
+use Rattle.access.specs.Access.{bus_error, address_error, Raise, read_at, write_at, push_field, push_exception_frame68000, jump_vector, prefetch_first, prefetch_second, exception_address_error, exception_bus_error, trigger, raised, entered}
+use Rattle.bounds.specs.Skeleton.{Raises, refills, more, after_field, after_fields, pick_one, guard_read_good, guard_write_good, pushed_good, push_short_good, jump_good, prefetch_first_good, prefetch_second_good, frame_good}
 use Rattle.bounds.specs.ErrorFrames.{bus_writes, address_writes, address_plain, bus_plain, address_writes_lem, bus_writes_lem}
-use Rattle.bounds.specs.Levels.{Domain, Safe, Kept, Any, Either, Set, inside, under, domain, clash, refusing, refused, vector_safe, steps, fetching, halted_kept, address_kept, bus_kept, super_kept, super_bus_kept, close_address_kept, close_bus_kept, level_halts}
-use Rattle.bounds.specs.Ledger.{Books, pay, books_steps, afford, begin_bus_lem, begin_address_lem, halted_books, super_books, super_bus_books, close_bus_books, close_address_books, start, Written, written}
+use Rattle.bounds.specs.Levels.{Domain, Safe, Any, Either, Set, inside, under, domain, clash, refusing, refused, vector_safe, fetching, halted_kept, address_kept, bus_kept, super_kept, super_bus_kept, close_address_kept, close_bus_kept, level_halts}
+use Rattle.bounds.specs.Ledger.{afford, begin_bus_lem, begin_address_lem, halted_books, super_books, super_bus_books, close_bus_books, close_address_books, start, Written, written}
 use Rattle.bounds.specs.Events.{rate, bus_cost, own_cost, address_cost, guard_cost, under_cost, refills_sum, Bill, bill_steps, more_bill, bus_ways, address_ways, bus_most, address_cost_most, guard_cost_most, queue_most, after_sum, no_queue, few_more, Call, reads, writes, pushes, pushes_short, first, second, jumps, bus_entry, address_entry, raises, run, most_events, most_61}
 
 module _ (k : ℕ) (l : List ℕ) where

@@ -1,15 +1,15 @@
 -- Theorems about what specs/OnlyBus defines, and what rests on them.
 use Prim.Native.Nat.{ℕ, zero, suc}
-use Rattle.std.specs.Prelude.{◌≡◌, Bool, true, false}
+use Rattle.std.specs.Prelude.{◌≡◌, Bool}
 use Rattle.std.proofs.Math.Path.{refl, ap}
 use Rattle.types.specs.Kinds.{is_prefetch_kind}
-use Rattle.cpu.specs.Fields.{kind_of, address_of, is_faulted, in_exception, cause_number_of}
+use Rattle.cpu.specs.Fields.{kind_of, is_faulted, in_exception, cause_number_of}
 use Rattle.memory.specs.World.{World, cpu_of, step}
-use Rattle.steps.specs.Steps.{refuses_odd, vector_address, begin_bus, begin_address, close_bus}
+use Rattle.steps.specs.Steps.{begin_bus, begin_address, close_bus}
 use Rattle.status.specs.Status.{keep_resume}
-use Rattle.access.specs.Access.{bus_error, address_error, Raise, read_or, prefetch_read, first_from, prefetch_first, second_from, prefetch_second, jump_vector, exception_address_error, exception_bus_error, raise_bus, raise_address, trigger, Fault}
+use Rattle.access.specs.Access.{bus_error, address_error, Raise, jump_vector, exception_address_error, exception_bus_error, raise_bus, raise_address, trigger}
 use Rattle.bounds.specs.Skeleton.{Raises, pick_one, jump_good}
-use Rattle.bounds.specs.Levels.{Domain, Safe, Kept, Either, Set, inside, domain, refused, vector_safe, steps, halted_kept, bus_kept, address_kept, entry_address_good, entry_bus_good}
+use Rattle.bounds.specs.Levels.{Domain, Safe, Kept, Either, Set, inside, domain, steps, halted_kept, bus_kept, address_kept, entry_address_good, entry_bus_good}
 use Rattle.bounds.proofs.Levels.{raises_of, level_bus}
 use Rattle.bounds.specs.OnlyBus.{bus_or}
 

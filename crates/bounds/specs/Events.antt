@@ -1,25 +1,22 @@
 -- How many events a call adds to an empty log, by the kind, and what the log says then.
-use Rattle.std.specs.Prelude.{ℕ, zero, suc, ◌+◌, ◌-◌, ◌*◌, ◌^◌, ◌≤◌, ◌<◌, ◌≡◌, Bool, List, [], ◌++◌, eqb, length, drop}
-use Rattle.std.proofs.Math.Path.{refl, ap}
-use Rattle.std.proofs.Common.{◌∙◌}
+use Rattle.std.specs.Prelude.{ℕ, zero, suc, ◌+◌, ◌≤◌, ◌≡◌, Bool, List, eqb}
+use Rattle.std.proofs.Math.Path.{refl}
 use Rattle.std.proofs.Math.Bool.{true, false}
 use native.Mathlib.Omega.{arith}
 use Rattle.types.specs.Kinds.{pick, either, is_pre68020, is_prefetch_kind, is040, is060}
-use Rattle.cpu.specs.Fields.{kind_of, address_of, is_faulted, in_exception, cause_number_of, halted}
-use Rattle.status.specs.Banks.{enter_supervisor}
+use Rattle.cpu.specs.Fields.{kind_of, is_faulted, in_exception, cause_number_of, halted}
 use Rattle.cpu.specs.Clocks.{prefetch_enabled}
-use Rattle.memory.proofs.LogLaws.{replay, spell}
 use Rattle.memory.specs.World.{World, cpu_of, step}
 use Rattle.frames.specs.declared.Field.{Field}
 use Rattle.frames.specs.declared.Frame.{Frame}
-use Rattle.frames.specs.Frames.{field_at, bus_frame, address_frame, is_counted}
-use Rattle.steps.specs.Steps.{begin_bus, begin_address, enter_bus_error, close_bus}
+use Rattle.frames.specs.Frames.{field_at, is_counted}
+use Rattle.steps.specs.Steps.{begin_bus, begin_address, close_bus}
 use Rattle.status.specs.Status.{keep_resume}
-use Rattle.access.specs.Access.{bus_error, address_error, Raise, read_at, write_at, push_field, push_exception_frame68000, jump_vector, prefetch_first, prefetch_second, exception_address_error, exception_bus_error, raise_bus, raise_address, trigger, raised, entered, Fault}
-use Rattle.bounds.specs.Skeleton.{Steps, Raises, refills, more, after_field, after_fields, pick_one, pick_when, both_steps, guard_read_good, guard_write_good, pushed_good, push_short_good, jump_good, prefetch_first_good, prefetch_second_good, frame_good}
-use Rattle.bounds.specs.ErrorFrames.{bus_writes, address_writes, address_plain, bus_plain, address_writes_lem, bus_writes_lem}
-use Rattle.bounds.specs.Levels.{Domain, Safe, Kept, Any, Either, Set, inside, under, domain, clash, refusing, refused, vector_safe, steps, fetching, halted_kept, address_kept, bus_kept, super_kept, super_bus_kept, close_address_kept, close_bus_kept, level_halts}
-use Rattle.bounds.specs.Ledger.{Books, pay, books_steps, afford, begin_bus_lem, begin_address_lem, halted_books, super_books, super_bus_books, close_bus_books, close_address_books, start, Written, written}
+use Rattle.access.specs.Access.{bus_error, address_error, read_at, write_at, push_field, push_exception_frame68000, jump_vector, prefetch_first, prefetch_second, exception_address_error, exception_bus_error, raise_bus, raise_address, trigger, raised, Fault}
+use Rattle.bounds.specs.Skeleton.{Steps, refills, after_field, after_fields, pick_one, pick_when, both_steps}
+use Rattle.bounds.specs.ErrorFrames.{bus_writes, address_writes}
+use Rattle.bounds.specs.Levels.{Kept, steps}
+use Rattle.bounds.specs.Ledger.{Books, pay, books_steps, Written}
 
 -- the events of the queue's refill; of a bus error entry; of an address error entry alone, and with the bus fault that it may
 -- raise; and of what a guarded access may raise

@@ -9,7 +9,8 @@ use Rattle.status.specs.Status.{keep_resume, clear_trace, restore_sr, set_sr_noi
 use Rattle.status.specs.Banks.{enter_supervisor, set_sflag, restore_sp, put_s, backup_sp}
 use Rattle.cpu.specs.Clocks.{has_clocks, clocks_of, prefetch_enabled, set_clocks, internal_cycles, clear_prefetch, first_word, second_word}
 use Rattle.memory.specs.Log.{note_log, counted}
-use Rattle.memory.proofs.LogLaws.{Event, replay, spell, replay_spell, Spells}
+use Rattle.memory.specs.LogLaws.{Event, replay, spell, Spells}
+use Rattle.memory.proofs.LogLaws.{replay_spell}
 use Rattle.memory.specs.World.{World, put_cpu, with_cpu, noted, stored, flush, release, raw_write, raw_read, cpu_of, step}
 use Rattle.steps.specs.Steps.{begin_bus, begin_address, enter_bus_error, close_bus}
 use Rattle.bounds.specs.Skeleton.{Steps, more, flush_ways, write_ways, read_ways, clocks_ways}

@@ -1,7 +1,7 @@
 -- From two levels on, more levels change nothing.
 use Rattle.std.specs.Prelude.{ℕ, zero, suc, ◌%◌, ◌≡◌, Bool, eqb, ltb}
 use Rattle.std.proofs.Math.Path.{refl}
-use Rattle.std.proofs.Common.{sym, ◌∙◌, ap, arith, eqb-true}
+use Rattle.std.proofs.Common.{◌∙◌, ap, arith, eqb-true}
 use Rattle.std.proofs.Math.Bool.{true, false}
 use Rattle.types.specs.Kinds.{pick, is_pre68020, is_prefetch_kind, mask_address}
 use Rattle.cpu.specs.declared.Cpu.{Cpu}
@@ -10,12 +10,10 @@ use Rattle.status.specs.Status.{keep_resume, clear_trace, restore_sr, set_sr_noi
 use Rattle.status.specs.Banks.{enter_supervisor, set_sflag, restore_sp, put_s, backup_sp}
 use Rattle.cpu.specs.Clocks.{prefetch_enabled, set_clocks, clear_prefetch, first_word, second_word}
 use Rattle.memory.specs.World.{World, put_cpu, noted, stored, flush, release, raw_write, raw_read, cpu_of, step}
-use Rattle.frames.specs.declared.Field.{Field}
-use Rattle.frames.specs.declared.Frame.{Frame}
 use Rattle.frames.specs.Frames.{bus_frame, address_frame}
 use Rattle.steps.specs.Steps.{refuses_odd, vector_address, begin_bus, begin_address, enter_bus_error, close_bus}
-use Rattle.access.specs.Access.{bus_error, address_error, Raise, read_at, write_at, push_field, push_fields, push_exception_frame68000, push_frame, jump_vector, prefetch_first, prefetch_second, exception_address_error, exception_bus_error, raise_bus, raise_address, trigger, entered, Fault}
-use Rattle.bounds.specs.Skeleton.{Good, Steps, Raises, pick_if, pick_one, flush_ways, write_ways, read_ways, clocks_ways, guard_read_good, guard_write_good, pushed_good, push_fields_good, stacked_good, push_short_good, jump_good, prefetch_first_good, prefetch_second_good, frame_good}
+use Rattle.access.specs.Access.{bus_error, address_error, Raise, exception_address_error, exception_bus_error, raise_bus, raise_address, trigger}
+use Rattle.bounds.specs.Skeleton.{Good, Steps, Raises, pick_one, flush_ways, write_ways, read_ways, clocks_ways, frame_good}
 use Rattle.bounds.specs.ErrorFrames.{address_plain, bus_plain}
 
 -- THE DOMAIN: where the kind refuses odd addresses the vector base is even

@@ -1,16 +1,13 @@
 -- Inside an error entry only bus faults are raised: whatever else an address fault were to do there, the entry is the same.
 -- So the case that the prefetch of an address error entry raises an address error does not occur, nor does the vector read.
-use Prim.Native.Nat.{ℕ, zero, suc}
+use Prim.Native.Nat.{ℕ}
 use Rattle.std.specs.Prelude.{◌≡◌, Bool, true, false}
-use Rattle.std.proofs.Math.Path.{refl, ap}
-use Rattle.types.specs.Kinds.{is_prefetch_kind}
-use Rattle.cpu.specs.Fields.{kind_of, address_of, is_faulted, in_exception, cause_number_of}
-use Rattle.memory.specs.World.{World, cpu_of, step}
-use Rattle.steps.specs.Steps.{refuses_odd, vector_address, begin_bus, begin_address, close_bus}
-use Rattle.status.specs.Status.{keep_resume}
-use Rattle.access.specs.Access.{bus_error, address_error, Raise, read_or, prefetch_read, first_from, prefetch_first, second_from, prefetch_second, jump_vector, exception_address_error, exception_bus_error, raise_bus, raise_address, trigger, Fault}
-use Rattle.bounds.specs.Skeleton.{Raises, pick_one, jump_good}
-use Rattle.bounds.specs.Levels.{Domain, Safe, Kept, Either, Set, inside, domain, refused, vector_safe, steps, halted_kept, bus_kept, address_kept, entry_address_good, entry_bus_good}
+use Rattle.std.proofs.Math.Path.{refl}
+use Rattle.cpu.specs.Fields.{kind_of, address_of}
+use Rattle.memory.specs.World.{World, cpu_of}
+use Rattle.steps.specs.Steps.{refuses_odd, vector_address}
+use Rattle.access.specs.Access.{bus_error, address_error, Raise, read_or, prefetch_read, first_from, prefetch_first, second_from, prefetch_second, Fault}
+use Rattle.bounds.specs.Levels.{Domain, refused, vector_safe}
 
 -- a bus fault as t raises it, an address fault as s does
 unfoldable pub bus_or : Raise → Raise → World → Fault → World

@@ -16,7 +16,6 @@ use Rattle.exceptions.specs.declared.Entered.{Entered}
 use Rattle.exceptions.specs.Exceptions.{Entry, entry}
 use Rattle.interrupts.specs.declared.Serviced.{Serviced}
 use Rattle.answers.specs.declared.Performed.{Performed}
-use Rattle.answers.specs.declared.Answer.{Answer}
 use Rattle.answers.specs.declared.Answer.TheVariants.{Cycles, Flag, Value, Done, Refused}
 use Rattle.answers.specs.declared.Call.{Call}
 use Rattle.refusals.specs.declared.Matter.{Matter}

@@ -1,24 +1,21 @@
 -- What a call makes of a world: refused by number with nothing touched, or performed from an empty log. This is the definition
 -- that the public contract cites.
-use Rattle.std.specs.Prelude.{ℕ, Bool, true, false, eqb, length}
+use Rattle.std.specs.Prelude.{ℕ, true, false, eqb, length}
 use Rattle.types.specs.Kinds.{pick}
 use Rattle.types.specs.Vectors.{illegal_instruction, zero_divide, chk, privilege_violation, line1010, line1111}
 use Rattle.types.specs.Causes.{cause_number}
-use Rattle.pending.specs.declared.trace.Traced.{Traced}
 use Rattle.pending.specs.Trace.{check_trace}
 use Rattle.pending.specs.Interrupts.{set_irq, check_interrupts}
 use Rattle.memory.specs.declared.Core.{Core}
-use Rattle.memory.specs.declared.Bus.{Bus}
 use Rattle.memory.specs.Log.{with_events}
-use Rattle.memory.specs.World.{World, Attempt, world, with_cpu, cpu_of, step}
+use Rattle.memory.specs.World.{World, world, cpu_of, step}
 use Rattle.frames.specs.Frames.{word, long}
 use Rattle.access.specs.Access.{raised, bus_error, address_error, read_at, write_at, push_field, prefetch_first, prefetch_second, exception_bus_error, exception_address_error}
-use Rattle.exceptions.specs.Exceptions.{Entry, take_exception, take_group2, trap, exception_trace, take_rewound, take_fp_unimp060, take_fp_disabled060}
+use Rattle.exceptions.specs.Exceptions.{take_exception, take_group2, trap, exception_trace, take_rewound, take_fp_unimp060, take_fp_disabled060}
 use Rattle.interrupts.specs.Interrupts.{check_and_service}
 use Rattle.answers.specs.declared.Call.{Call}
 use Rattle.answers.specs.declared.Call.TheVariants.{TakeException, Trap, TakeGroup2Exception, ExceptionChk, ExceptionZeroDivide, ExceptionPrivilege, ExceptionTrace, ExceptionAddressError, ExceptionBusError, TakeFpUnimp060, TakeFpDisabled060, TakeAlineException, TakeFlineException, TakeTrapException, TakeBkptException, TakeIllegalException, TriggerAddressError, TriggerBusError, CheckTrace, SetIrq, CheckInterrupts, CheckAndServiceInterrupts, Read16, Read32, Write16, Write32, Push16, Push32, PrefetchFirst, PrefetchSecond}
-use Rattle.answers.specs.declared.Answer.{Answer}
-use Rattle.answers.specs.declared.Answer.TheVariants.{Cycles, Flag, Value, Done, Refused}
+use Rattle.answers.specs.declared.Answer.TheVariants.{Refused}
 use Rattle.refusals.specs.Refusals.{refusal_of}
 use Rattle.answers.specs.Matters.{matter_of}
 use Rattle.answers.specs.Answers.{Performed, answered, cycles, flag, plain, of_entry, of_read, of_service, of_trace}

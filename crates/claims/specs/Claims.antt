@@ -10,7 +10,7 @@ use Rattle.cpu.specs.declared.Cpu.{Cpu}
 use Rattle.cpu.specs.Fields.{kind_of, vbr_of, in_exception, is_faulted, cause_number_of, has_fc_override, fc_override_of}
 use Rattle.pending.specs.Interrupts.{pending_level, mask_level}
 use Rattle.memory.specs.declared.Core.{Core}
-use Rattle.memory.proofs.LogLaws.{Event, spell}
+use Rattle.memory.specs.LogLaws.{Event, spell}
 use Rattle.memory.specs.World.{World, cpu_of}
 use Rattle.access.specs.Access.{Raise, raised}
 use Rattle.answers.specs.declared.Call.{Call}

@@ -1,14 +1,13 @@
 -- Theorems about what specs/Does defines, and what rests on them.
-use Rattle.std.specs.Prelude.{ℕ, ◌+◌, ◌-◌, ◌*◌, ◌/◌, ◌%◌, ◌≤◌, ◌<◌, ◌≡◌, Bool, [], ◌∷◌}
+use Rattle.std.specs.Prelude.{ℕ, ◌-◌, ◌/◌, ◌%◌, ◌≤◌, ◌<◌, ◌≡◌, Bool, []}
 use Rattle.std.proofs.Math.Path.{refl}
-use Rattle.std.proofs.Common.{sym, ◌∙◌, arith, eqb-true}
+use Rattle.std.proofs.Common.{sym, ◌∙◌, arith}
 use Rattle.std.proofs.Math.Bool.{true, false}
 use Rattle.std.proofs.Math.Dec.{eqb}
-use Rattle.types.specs.Kinds.{pick, either, is_pre68020, is040, is060, is_prefetch_kind}
-use Rattle.types.proofs.Laws.{pick_holds}
+use Rattle.types.specs.Kinds.{pick, is_pre68020, is040, is060, is_prefetch_kind}
 use Rattle.cpu.specs.declared.Cpu.{Cpu}
 use Rattle.cpu.specs.Fields.{kind_of, ppc_of}
-use Rattle.status.specs.Status.{get_sr, compose, clear_m}
+use Rattle.status.specs.Status.{get_sr, clear_m}
 use Rattle.memory.specs.World.{World, cpu_of}
 use Rattle.frames.specs.declared.Frame.{Frame}
 use Rattle.frames.specs.Frames.{frame68000, frame8, frame2, frame0, frame4, frame7, frame11}
@@ -16,12 +15,10 @@ use Rattle.formats.specs.Formats.{format_word, offset_word, short_frame, long_fr
 use Rattle.forms.specs.Orders.{words6, words8}
 use Rattle.forms.specs.Plans.{planned, Clean, short_of, group2_frame, interrupt_frame}
 use Rattle.nest.specs.View.{Frame as NestFrame}
-use Rattle.nest.specs.View.{peek, addr, span, bank_of, nonzero, view, frame_len}
-use Rattle.nest.specs.Nest.{Holds}
-use Rattle.nest.specs.Laws.{Shape, EntryOne}
+use Rattle.nest.specs.View.{nonzero, frame_len}
+use Rattle.nest.specs.Laws.{Shape}
 use Rattle.nest.specs.Banks.{with_flags}
-use Rattle.entered.specs.Pointers.{regs_of, stacks_of, Fit, clear_m_stacks}
-use Rattle.entered.specs.Bytes.{mem}
+use Rattle.entered.specs.Pointers.{stacks_of, Fit, clear_m_stacks}
 use Rattle.entered.specs.Heads.{Heads}
 use Rattle.entered.specs.One.{Enters, Keeps, one_of}
 use Rattle.entered.proofs.One.{one_outside, one_kept, one_cleared}

@@ -1,10 +1,10 @@
 -- Theorems about what specs/Entered defines, and what rests on them.
-use Rattle.std.specs.Prelude.{ℕ, zero, suc, ◌+◌, ◌-◌, ◌/◌, ◌%◌, ◌<◌, ◌≡◌, Bool, not, [], ◌∷◌, ◌≢◌, eqb, length, get_or}
+use Rattle.std.specs.Prelude.{ℕ, ◌+◌, ◌%◌, ◌<◌, ◌≡◌, Bool, [], ◌∷◌, ◌≢◌, eqb}
 use Rattle.std.proofs.Math.Path.{refl, ap, subst}
 use Rattle.std.proofs.Common.{sym, ◌∙◌, arith, ne_eqb}
 use Rattle.std.proofs.Math.Bool.{true, false}
 use Rattle.std.proofs.Math.Option.{some}
-use Rattle.types.specs.Kinds.{pick, is_ec020_plus, is060, is_prefetch_kind}
+use Rattle.types.specs.Kinds.{pick, is_ec020_plus, is060}
 use Rattle.types.proofs.Laws.{pick_holds}
 use Rattle.types.specs.Causes.{cause_number}
 use Rattle.cpu.specs.declared.Cpu.{Cpu}
@@ -16,7 +16,7 @@ use Rattle.memory.specs.World.{World, response_of, cpu_of}
 use Rattle.frames.specs.declared.Frame.{Frame}
 use Rattle.frames.specs.Frames.{address_frame, bus_frame, write_data}
 use Rattle.frames.specs.Codes.{state_code, fault_code, fault_word, ssw020, ssw040, wb3s, fslw060}
-use Rattle.steps.specs.Steps.{enter_bus_error, stacked_address, stacks_next, iack_vector, enter_level, with_s}
+use Rattle.steps.specs.Steps.{enter_bus_error, stacked_address, stacks_next, enter_level, with_s}
 use Rattle.formats.specs.Formats.{format_word, offset_word, short_frame}
 use Rattle.answers.specs.declared.Call.{Call}
 use Rattle.answers.specs.declared.Call.TheVariants.{TakeException, Trap, TakeGroup2Exception, ExceptionChk, ExceptionZeroDivide, ExceptionPrivilege, ExceptionTrace, ExceptionAddressError, ExceptionBusError, TakeFpUnimp060, TakeFpDisabled060, TakeAlineException, TakeFlineException, TakeTrapException, TakeBkptException, TakeIllegalException, TriggerAddressError, TriggerBusError, CheckTrace, SetIrq, CheckInterrupts, CheckAndServiceInterrupts, Read16, Read32, Write16, Write32, Push16, Push32, PrefetchFirst, PrefetchSecond}
@@ -28,12 +28,11 @@ use Rattle.forms.specs.Plans.{Plan, planned, Clean, same, exc_plan, rewound_plan
 use Rattle.forms.specs.Tests.{Whole, clean_test}
 use Rattle.forms.specs.Forms.{plan_of, is_some, no_plan_lem, unless, only_if}
 use Rattle.forms.proofs.Forms.{entry_form, entry_clean}
-use Rattle.nest.specs.View.{Regs, Stacked, one, two, frames_of, Store, peek, m_bit, Bank, master, bank_of, ptr, top, with_sm, nonzero, view}
+use Rattle.nest.specs.View.{Regs, Stacked, one, two, frames_of, m_bit, Bank, master, bank_of, ptr, top, with_sm, nonzero, view}
 use Rattle.nest.specs.Reading.{view_kind, view_m}
-use Rattle.nest.specs.Nest.{Sound, Holds, Apart, BelowTop}
-use Rattle.nest.specs.Laws.{lower, Does}
+use Rattle.nest.specs.Nest.{Sound, Apart, BelowTop}
+use Rattle.nest.specs.Laws.{lower}
 use Rattle.entered.specs.Pointers.{regs_of, stacks_of, Fit}
-use Rattle.entered.specs.Bytes.{mem, mem_gist}
 use Rattle.entered.specs.One.{keeps_same, stack_top}
 use Rattle.entered.specs.Stacks.{frame_at, short_at, group_at, address_at, bus_at, throw_at, interrupt_both, interrupt_at, stacks}
 use Rattle.entered.specs.Shapes.{masters}

@@ -1,24 +1,24 @@
 -- Theorems about what specs/One defines, and what rests on them.
-use Rattle.std.specs.Prelude.{ℕ, ◌+◌, ◌-◌, ◌/◌, ◌≤◌, ◌≡◌, Bool, [], ◌∷◌, eqb, length}
+use Rattle.std.specs.Prelude.{ℕ, ◌+◌, ◌/◌, ◌≤◌, ◌≡◌, Bool, [], ◌∷◌, eqb, length}
 use Rattle.std.proofs.Math.Path.{refl, sym, ap}
-use Rattle.std.proofs.Common.{◌∙◌, subst, arith}
+use Rattle.std.proofs.Common.{◌∙◌, subst}
 use Rattle.std.proofs.Math.Bool.{true, false}
 use Rattle.cpu.specs.declared.Cpu.{Cpu}
-use Rattle.cpu.specs.Fields.{kind_of, a7_of, set_a7, set_pc, start_vector, minus32}
+use Rattle.cpu.specs.Fields.{kind_of, a7_of, minus32}
 use Rattle.status.specs.Status.{get_sr}
-use Rattle.memory.specs.World.{World, put_cpu, stored, cpu_of, step}
+use Rattle.memory.specs.World.{World, cpu_of}
 use Rattle.frames.specs.declared.Frame.{Frame}
 use Rattle.images.specs.Images.{Ready, Image, new_a7}
-use Rattle.forms.specs.Gist.{gist, gist_cpu, gist_gist, framed_by}
+use Rattle.forms.specs.Gist.{framed_by}
 use Rattle.forms.specs.Jumps.{jumped}
-use Rattle.forms.specs.Plans.{Plan, turned, stack_all, planned, AllReady, Clean, same}
+use Rattle.forms.specs.Plans.{turned, stack_all, planned, AllReady, Clean}
 use Rattle.nest.specs.View.{Frame as NestFrame}
-use Rattle.nest.specs.View.{Regs, Store, peek, addr, span, Bank, user, interrupt, master, bank_of, View, top, set_ptr, set_top, with_sm, nonzero, view}
+use Rattle.nest.specs.View.{Regs, Store, peek, addr, span, bank_of, View, top, set_top, with_sm, nonzero, view}
 use Rattle.nest.specs.Nest.{Holds}
 use Rattle.nest.specs.Laws.{lower, Pushed, Shape, EntryOne}
 use Rattle.nest.specs.Reading.{view_kind, view_m}
-use Rattle.nest.specs.Banks.{bank_g, save, select, with_a7, with_flags, view_select, view_with_a7, view_with_flags, up_a7}
-use Rattle.entered.specs.Pointers.{regs_of, stacks_of, view_of, Fit, move_stacks, move_fit}
+use Rattle.nest.specs.Banks.{select, with_a7, with_flags, view_select, view_with_a7, up_a7}
+use Rattle.entered.specs.Pointers.{regs_of, stacks_of, view_of, Fit}
 use Rattle.entered.specs.Bytes.{mem, turned_mem, jumped_mem}
 use Rattle.entered.specs.Heads.{Heads, framed_image, frame_pushed, frame_outside}
 use Rattle.entered.specs.One.{Enters, Keeps, turned_stacks, turned_fit, turned_kind, turned_gist, jumped_stacks, framed_stacks, top_of, lowers, stack_top, status_of, cleared_view, one_of}

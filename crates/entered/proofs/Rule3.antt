@@ -1,25 +1,21 @@
 -- Theorems about what specs/Rule3 defines, and what rests on them.
-use Rattle.std.specs.Prelude.{ℕ, ◌*◌, ◌≤◌, ◌≡◌, refl, Bool, true, false, List, eqb, length}
-use Rattle.std.proofs.Common.{sym, ap, ◌∙◌, subst, arith, eqb-true}
-use Rattle.std.proofs.Math.Option.{Option, none, some}
-use Rattle.types.specs.Kinds.{pick}
+use Rattle.std.specs.Prelude.{ℕ, ◌*◌, ◌≤◌, ◌≡◌, true, List, length}
+use Rattle.std.proofs.Common.{sym, ap, ◌∙◌, subst}
+use Rattle.std.proofs.Math.Option.{none, some}
 use Rattle.cpu.specs.declared.Cpu.{Cpu}
 use Rattle.memory.specs.declared.Bus.{Bus}
-use Rattle.memory.proofs.ByteLaws.{AllBytes}
-use Rattle.memory.specs.World.{World, cpu_of}
+use Rattle.memory.specs.ByteLaws.{AllBytes}
+use Rattle.memory.specs.World.{World}
 use Rattle.refusals.specs.Refusals.{bad_store, bad_windows}
 use Rattle.images.specs.Pushes.{calm}
-use Rattle.answers.specs.declared.Call.{Call}
-use Rattle.calls.specs.Calls.{begun, refusal, perform}
-use Rattle.forms.specs.Plans.{Plan}
-use Rattle.forms.specs.Forms.{plan_of}
+use Rattle.calls.specs.Calls.{perform}
 use Rattle.nest.specs.View.{Row, Back, back, backs, peek, view}
-use Rattle.nest.specs.Nest.{refused, untaken, Returned, returned, Walked, Rule3}
+use Rattle.nest.specs.Nest.{untaken, Returned, returned, Walked, Rule3}
 use Rattle.nest.specs.Laws.{Return, Laws}
 use Rattle.nest.proofs.Tale.{rule3}
 use Rattle.entered.specs.Pointers.{regs_of}
 use Rattle.entered.specs.Bytes.{mem_of, mem_same}
-use Rattle.entered.specs.Machines.{Direct, Room, Passes, InsideRoom, world_of, room_of, outcome, enter_by, by_plan, store_calm, windows_calm}
+use Rattle.entered.specs.Machines.{Direct, Room, Passes, InsideRoom, world_of, enter_by, store_calm, windows_calm}
 use Rattle.entered.proofs.Machines.{enter_is, machine, entered_law, kind_law, ranges_law, says_taken_lem, says_untaken_lem, says_refused_lem}
 use Rattle.entered.specs.Untaken.{Idle, call_idle, SameLent, call_room}
 use Rattle.entered.specs.Rule3.{Held, held}

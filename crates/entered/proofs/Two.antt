@@ -1,12 +1,10 @@
 -- Theorems about what specs/Two defines, and what rests on them.
-use Rattle.std.specs.Prelude.{ℕ, ◌+◌, ◌-◌, ◌/◌, ◌%◌, ◌^◌, ◌<◌, ◌≡◌, refl, true, false, [], ◌∷◌, eqb, length}
-use Rattle.std.proofs.Common.{sym, ap, ◌∙◌, subst, arith, eqb-true}
-use Rattle.std.specs.Int.Bits.{bit_and}
-use Rattle.std.proofs.lemmas.Nat.{and_shr, and_mod}
+use Rattle.std.specs.Prelude.{ℕ, ◌/◌, ◌<◌, ◌≡◌, refl, true, false, [], ◌∷◌, eqb, length}
+use Rattle.std.proofs.Common.{sym, ap, ◌∙◌, subst, arith}
 use Rattle.cpu.specs.declared.Cpu.{Cpu}
 use Rattle.cpu.specs.Fields.{kind_of, a7_of, minus32}
 use Rattle.status.specs.Status.{get_sr}
-use Rattle.status.specs.Banks.{backup_sp, restore_sp, set_sm_flag_nosp, set_sm_flag}
+use Rattle.status.specs.Banks.{set_sm_flag}
 use Rattle.memory.specs.World.{World, cpu_of}
 use Rattle.frames.specs.declared.Frame.{Frame}
 use Rattle.formats.specs.Formats.{format_word, offset_word, short_frame}
@@ -14,12 +12,12 @@ use Rattle.steps.specs.Steps.{with_s}
 use Rattle.images.specs.Images.{Ready, Image, new_a7}
 use Rattle.forms.specs.Gist.{framed_by}
 use Rattle.forms.specs.Jumps.{jumped}
-use Rattle.forms.specs.Plans.{Plan, turned, stack_all, planned, AllReady, Clean, same}
+use Rattle.forms.specs.Plans.{turned, stack_all, planned, AllReady, Clean, same}
 use Rattle.nest.specs.View.{Frame as NestFrame}
-use Rattle.nest.specs.View.{Regs, Store, Bytes, peek, addr, sr_mask, under, s_bit, m_bit, Bank, master, bank_of, View, ptr, set_ptr, top, set_top, with_sm, nonzero, view, word}
+use Rattle.nest.specs.View.{Regs, Store, peek, addr, under, s_bit, m_bit, Bank, master, bank_of, View, ptr, set_ptr, top, set_top, with_sm, nonzero, view, word}
 use Rattle.nest.specs.Nest.{Holds, here, there, Apart}
-use Rattle.nest.specs.Laws.{lower, Pushed, Shape, EntryTwo}
-use Rattle.nest.specs.Reading.{view_a7, view_kind, view_m, word_local, long_local}
+use Rattle.nest.specs.Laws.{lower, Pushed, Shape}
+use Rattle.nest.specs.Reading.{view_a7, view_kind, view_m}
 use Rattle.nest.specs.Banks.{select, with_a7, view_select, view_with_a7}
 use Rattle.entered.specs.Pointers.{regs_of, stacks_of, view_of, Fit, leave_stacks, leave_fit}
 use Rattle.entered.specs.Bytes.{mem, turned_mem, jumped_mem}

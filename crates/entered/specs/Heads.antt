@@ -8,7 +8,7 @@ use Rattle.cpu.specs.Fields.{kind_of, a7_of}
 use Rattle.memory.specs.Served.{served_of}
 use Rattle.memory.specs.Runs.{Outside}
 use Rattle.memory.specs.World.{World, width_of, served, read_value, cpu_of}
-use Rattle.memory.proofs.AccessLaws.{kept}
+use Rattle.memory.specs.AccessLaws.{kept}
 use Rattle.frames.specs.declared.Frame.{Frame}
 use Rattle.frames.specs.Frames.{field_at, is_counted}
 use Rattle.access.specs.Access.{raised, push_frame}

@@ -1,50 +1,39 @@
 -- The machine of the nest with the project's own calls, but for return and walk, which are parameters; and its law `entered`, whole:
 -- what the entry does, that no other byte changes, and that record and store left are accepted and inside the domain.
-use Rattle.std.specs.Prelude.{ℕ, zero, suc, ◌+◌, ◌-◌, ◌/◌, ◌%◌, ◌<◌, ◌≢◌, ◌⊎◌, Bool, not, ◌||◌, List, eqb, ltb, leb, length}
-use Rattle.std.proofs.Math.Path.{◌≡◌, refl, sym, ap, subst}
-use Rattle.std.proofs.Common.{◌∙◌, inl, inr, arith}
+use Rattle.std.specs.Prelude.{ℕ, zero, suc, ◌-◌, ◌/◌, ◌%◌, ◌<◌, ◌⊎◌, Bool, not, ◌||◌, List, eqb, ltb, leb, length}
+use Rattle.std.proofs.Math.Path.{◌≡◌, refl, subst}
+use Rattle.std.proofs.Common.{inl, inr, arith}
 use Rattle.std.proofs.Math.Bool.{true, false}
 use Rattle.std.proofs.Math.Option.{Option, none, some}
-use borrow.Author.Tests.{eqb-true, ne_eqb}
+use borrow.Author.Tests.{eqb-true}
 use Rattle.types.specs.Kinds.{pick, either, both, is_prefetch_kind}
 use Rattle.cpu.specs.declared.Cpu.{Cpu}
 use Rattle.cpu.specs.Fields.{kind_of, in_exception, halted, rewind_pc}
 use Rattle.memory.specs.declared.Bus.{Bus}
-use Rattle.memory.proofs.ByteLaws.{AllBytes}
+use Rattle.memory.specs.ByteLaws.{AllBytes}
 use Rattle.memory.specs.World.{World, world, tried, put_cpu, cpu_of, step}
 use Rattle.types.specs.Tables.{exception_cycles}
 use Rattle.pending.specs.Interrupts.{pending_level, mask_level, takes_interrupt}
-use Rattle.exceptions.specs.Exceptions.{entry, take_exception, take_group2, trap, exception_trace, take_rewound, take_fp_unimp060, take_fp_disabled060}
+use Rattle.exceptions.specs.Exceptions.{entry, take_exception, take_rewound}
 use Rattle.steps.specs.Steps.{begin_entry}
 use Rattle.exceptions.specs.Exceptions.{taken as done}
 use Rattle.interrupts.specs.Interrupts.{check_and_service, serviced, service_interrupt}
 use Rattle.refusals.specs.Refusals.{bad_flags, odd_base, bad_code, bad_store, past_top, any_past, bad_windows}
 use Rattle.answers.specs.declared.Call.{Call}
 use Rattle.answers.specs.declared.Call.TheVariants.{TakeException, Trap, TakeGroup2Exception, ExceptionChk, ExceptionZeroDivide, ExceptionPrivilege, ExceptionTrace, ExceptionAddressError, ExceptionBusError, TakeFpUnimp060, TakeFpDisabled060, TakeAlineException, TakeFlineException, TakeTrapException, TakeBkptException, TakeIllegalException, TriggerAddressError, TriggerBusError, CheckTrace, SetIrq, CheckInterrupts, CheckAndServiceInterrupts, Read16, Read32, Write16, Write32, Push16, Push32, PrefetchFirst, PrefetchSecond}
-use Rattle.answers.specs.Matters.{matter_of}
 use Rattle.answers.specs.declared.Answer.{Answer}
 use Rattle.answers.specs.declared.Answer.TheVariants.{Cycles, Flag, Value, Done, Refused}
-use Rattle.answers.specs.Answers.{Performed, answered, cycles, flag, of_entry, of_service}
-use Rattle.calls.specs.Calls.{restarted, run, begun, refusal, perform}
+use Rattle.answers.specs.Answers.{Performed, cycles, flag, of_entry, of_service}
+use Rattle.calls.specs.Calls.{restarted, begun, refusal, perform}
 use Rattle.images.specs.Pushes.{calm}
 use Rattle.forms.specs.Gist.{gist}
-use Rattle.forms.specs.Plans.{Plan, Clean, exc_plan, rewound_plan, group2_plan, trace_plan, fp_unimp_plan, fp_disabled_plan, interrupt_plan}
+use Rattle.forms.specs.Plans.{Plan}
 use Rattle.forms.specs.Tests.{clean_test}
-use Rattle.forms.specs.Kept.{Good}
-use Rattle.forms.specs.Accepted.{accepted_s, accepted_m, accepted_kind, accepted_base, accepted_code, accepted_room, accepted_windows}
-use Rattle.forms.specs.Forms.{plan_of, plan_lent, SameRoom}
-use Rattle.forms.proofs.Forms.{entry_clean, entry_good, entry_room}
-use Rattle.forms.proofs.KindKept.{entry_kind}
-use Rattle.nest.specs.View.{Stacked, one, two, frames_of, Bank, user, interrupt, master, View, set_ptr, bank, set_top, with_sm, view}
-use Rattle.nest.specs.Reading.{view_kind}
-use Rattle.nest.specs.Nest.{Machine, Entered, refused, untaken, taken, Returned, Walked, Sound, Apart, BelowTop, No68000Error, ServedThen}
-use Rattle.nest.specs.Laws.{Ranges, Entry}
-use Rattle.entered.specs.Pointers.{regs_of}
-use Rattle.entered.specs.Bytes.{mem_of}
-use Rattle.entered.specs.Stacks.{stacks}
-use Rattle.entered.specs.Paper.{paper, outside, interrupts, paper_takes}
-use Rattle.entered.specs.Entered.{error_call, Inside, Law}
-use Rattle.entered.specs.Numbers.{Left, entry_left}
+use Rattle.forms.specs.Forms.{plan_of}
+use Rattle.nest.specs.View.{Bank, user, interrupt, master, View, set_ptr, bank, set_top}
+use Rattle.nest.specs.Nest.{Entered, refused, untaken, taken}
+use Rattle.entered.specs.Paper.{outside, interrupts, paper_takes}
+use Rattle.entered.specs.Entered.{Inside}
 
 -- ---- the machine
 

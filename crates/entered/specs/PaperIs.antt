@@ -1,28 +1,23 @@
 -- The frames written out from the paper are those of the closed form over the engine's own definitions, wherever no number refuses the call.
-use Rattle.std.specs.Prelude.{ℕ, zero, suc, ◌+◌, ◌-◌, ◌*◌, ◌/◌, ◌%◌, ◌<◌, ◌≡◌, refl, Bool, true, false, cond, not, ◌&&◌, ◌||◌, eqb, leb, get_or, replicate}
-use Rattle.std.proofs.Common.{sym, ap, ◌∙◌, arith, eqb-true, ne_eqb}
+use Rattle.std.specs.Prelude.{ℕ, zero, suc, ◌+◌, ◌-◌, ◌*◌, ◌/◌, ◌%◌, ◌<◌, ◌≡◌, refl, Bool, true, false, cond, not, eqb, get_or, replicate}
+use Rattle.std.proofs.Common.{sym, arith, eqb-true, ne_eqb}
 use Rattle.std.proofs.lemmas.Bool.{eqb-false}
-use Rattle.types.specs.Kinds.{pick, either, both, is_pre68020, is_ec020_plus, is040, is060}
+use Rattle.types.specs.Kinds.{pick}
 use Rattle.types.specs.Every.{at}
 use Rattle.cpu.specs.declared.Cpu.{Cpu}
-use Rattle.cpu.specs.Fields.{kind_of, pc_of, ppc_of, rewind_pc}
+use Rattle.cpu.specs.Fields.{pc_of, ppc_of, rewind_pc}
 use Rattle.status.specs.Status.{get_sr, m_is_set}
 use Rattle.pending.specs.Interrupts.{pending_level}
 use Rattle.memory.specs.declared.Bus.{Bus}
-use Rattle.memory.specs.World.{World, response_of, cpu_of}
+use Rattle.memory.specs.World.{response_of}
 use Rattle.formats.specs.Formats.{format_word, offset_word}
 use Rattle.steps.specs.Steps.{stacked_address, stacks_next, with_s, iack_vector}
-use Rattle.answers.specs.declared.Call.{Call}
-use Rattle.answers.specs.declared.Call.TheVariants.{TakeException, Trap, TakeGroup2Exception, ExceptionChk, ExceptionZeroDivide, ExceptionPrivilege, ExceptionTrace, ExceptionAddressError, ExceptionBusError, TakeFpUnimp060, TakeFpDisabled060, TakeAlineException, TakeFlineException, TakeTrapException, TakeBkptException, TakeIllegalException, TriggerAddressError, TriggerBusError, CheckTrace, SetIrq, CheckInterrupts, CheckAndServiceInterrupts, Read16, Read32, Write16, Write32, Push16, Push32, PrefetchFirst, PrefetchSecond}
-use Rattle.answers.specs.Matters.{matter_of}
-use Rattle.calls.specs.Calls.{refusal}
 use Rattle.forms.specs.Plans.{interrupt_vector}
-use Rattle.forms.specs.Accepted.{accepted_vector}
-use Rattle.nest.specs.View.{Frame, one, two, view, nonzero}
+use Rattle.nest.specs.View.{view, nonzero}
 use Rattle.entered.specs.Pointers.{regs_of, stacks_of}
 use Rattle.entered.specs.One.{stack_top}
-use Rattle.entered.specs.Stacks.{frame_at, short_at, group_at, address_at, bus_at, throw_at, interrupt_both, interrupt_at, stacks}
-use Rattle.entered.specs.Paper.{made, word_for, length_for, frame_for, error_for, address_format, bus_format, next, exception_for, group_for, level, vector_for, with_set, second_for, interrupt_for, paper}
+use Rattle.entered.specs.Stacks.{frame_at, throw_at}
+use Rattle.entered.specs.Paper.{made, word_for, next, level, vector_for, with_set, second_for}
 
 pub made_is : (c : Cpu) (n a w : ℕ) → frame_at c n a w ≡ made c n a w
 unfolding stack_top stacks_of regs_of view

@@ -1,26 +1,16 @@
 -- Rule 3 for the project's machine, from what is left: that a return and a walk meet their three laws.
-use Rattle.std.specs.Prelude.{ℕ, ◌*◌, ◌≤◌, ◌≡◌, refl, Bool, true, false, List, eqb, length}
-use Rattle.std.proofs.Common.{sym, ap, ◌∙◌, subst, arith, eqb-true}
+use Rattle.std.specs.Prelude.{ℕ, ◌≡◌, refl, Bool, true, false, eqb}
+use Rattle.std.proofs.Common.{arith, eqb-true}
 use Rattle.std.proofs.Math.Option.{Option, none, some}
 use Rattle.types.specs.Kinds.{pick}
 use Rattle.cpu.specs.declared.Cpu.{Cpu}
-use Rattle.memory.specs.declared.Bus.{Bus}
-use Rattle.memory.proofs.ByteLaws.{AllBytes}
 use Rattle.memory.specs.World.{World, cpu_of}
-use Rattle.refusals.specs.Refusals.{bad_store, bad_windows}
-use Rattle.images.specs.Pushes.{calm}
 use Rattle.answers.specs.declared.Call.{Call}
 use Rattle.calls.specs.Calls.{begun, refusal, perform}
 use Rattle.forms.specs.Plans.{Plan}
 use Rattle.forms.specs.Forms.{plan_of}
-use Rattle.nest.specs.View.{Row, Back, back, backs, peek, view}
-use Rattle.nest.specs.Nest.{refused, untaken, Returned, returned, Walked, Rule3}
-use Rattle.nest.specs.Laws.{Return, Laws}
-use Rattle.nest.proofs.Tale.{rule3}
-use Rattle.entered.specs.Pointers.{regs_of}
-use Rattle.entered.specs.Bytes.{mem_of, mem_same}
-use Rattle.entered.specs.Machines.{Direct, Room, Passes, InsideRoom, world_of, room_of, outcome, enter_by, by_plan, store_calm, windows_calm}
-use Rattle.entered.specs.Untaken.{Idle, call_idle, SameLent, call_room}
+use Rattle.nest.specs.Nest.{refused, untaken}
+use Rattle.entered.specs.Machines.{Room, room_of, outcome, by_plan}
 
 -- an entry accepted and not taken has no plan
 pub record Held (w : World) (c : Call) (r : Cpu) (s : Room) : Type 0 where

@@ -1,13 +1,10 @@
 -- Written by tools/generate.py from tools/manifest.txt: not edited by hand.
 -- A law for each way through a function, by tools/ways.py: its premises are how each test went and what each call ensures, in the
 -- order of the code.
-use Prim.Native.Nat.{ℕ, zero, suc, ◌+◌, ◌-◌, ◌*◌, ◌/◌, ◌%◌, ◌^◌, ◌<◌, ◌≤◌}
-use mathlib.Core.Path.{◌≡◌, refl}
+use Prim.Native.Nat.{ℕ, ◌+◌, ◌%◌}
+use mathlib.Core.Path.{◌≡◌}
 use mathlib.Core.Bool.{Bool, true, false}
 use mathlib.Core.List.{List}
-use lib.ListN.{length, get_or, set}
-use lib.Dec.{eqb, ltb, leb}
-use native.Mathlib.Numerals.{sub-one}
 use Rattle.access.specs.Access.{jump_vector, push_exception_frame68000, push_frame, raised}
 use Rattle.cpu.specs.Fields.{halted, in_exception, kind_of, note_fpiar, pc_of, ppc_of, rewind_pc, set_exception}
 use Rattle.cpu.specs.declared.Cpu.{Cpu}

@@ -10,9 +10,10 @@ use borrow.Author.Tests.{leb-true, leb-false, lt-ltb}
 use Rattle.memory.specs.World.{width_of}
 use Rattle.memory.specs.Bytes.{put_word, put_long}
 use Rattle.memory.specs.Log.{note_log}
-use Rattle.memory.proofs.ByteLaws.{put, put_length}
+use Rattle.memory.specs.ByteLaws.{put}
+use Rattle.memory.proofs.ByteLaws.{put_length}
 use Rattle.memory.proofs.LogLaws.{note_length}
-use Rattle.memory.proofs.AccessLaws.{write_code, kept}
+use Rattle.memory.specs.AccessLaws.{write_code, kept}
 use Rattle.frames.specs.declared.Field.{Field}
 use Rattle.frames.specs.declared.Frame.{Frame}
 use Rattle.frames.specs.Frames.{word, field_at}

@@ -1,5 +1,5 @@
 -- The fast way of an entry whose frame is data: what it says of the record, and store and log after it.
-use Rattle.std.specs.Prelude.{ℕ, ◌+◌, ◌≤◌, ◌≡◌, Bool, true, false, List, eqb, length}
+use Rattle.std.specs.Prelude.{ℕ, ◌+◌, ◌≤◌, ◌≡◌, true, false, List, eqb, length}
 use Rattle.types.specs.Kinds.{pick}
 use Rattle.frames.specs.declared.Frame.{Frame}
 use Rattle.frames.specs.Frames.{field_at}

@@ -1,6 +1,6 @@
 -- The frames of the rows: their bytes are those of the row, all of them guarded, and the log has room for their events.
-use Rattle.std.specs.Prelude.{ℕ, ◌+◌, ◌%◌, ◌<◌, ◌≤◌, ◌≡◌, refl, ◌⊎◌, Bool, true, false, not, eqb}
-use Rattle.std.proofs.Common.{sym, ap, ◌∙◌, inl, inr, arith, lit≤, lit<}
+use Rattle.std.specs.Prelude.{ℕ, ◌%◌, ◌<◌, ◌≤◌, ◌≡◌, refl, ◌⊎◌, Bool, true, false, not, eqb}
+use Rattle.std.proofs.Common.{sym, inl, inr, lit≤, lit<}
 use Rattle.types.specs.Kinds.{pick, either, is_pre68020, is040, is060}
 use Rattle.types.specs.Causes.{cause_number, cause_of}
 use Rattle.cpu.specs.declared.Cpu.{Cpu}
@@ -18,7 +18,6 @@ use Rattle.unfaulted.specs.Errors.{all_guarded}
 use Rattle.fast_plans.specs.declared.View.{View}
 use Rattle.fast_plans.specs.Views.{view_of}
 use Rattle.fast_laws.specs.Accepts.{false_true}
-use Rattle.fast_frames.specs.declared.rows.FrameRow.{FrameRow}
 use Rattle.fast_frames.specs.Rows.{row, bus_bytes, bus_row, disabled_row, row_of, bare_cpu, bus_frame_of, frame_of}
 use Rattle.fast_frames.specs.Entries.{Sized, entry_of}
 

@@ -3,7 +3,7 @@
 use Rattle.std.specs.Prelude.{ℕ, ◌%◌, ◌<◌, ◌≡◌, refl, ◌⊎◌, Bool, true, false, not, List, eqb, length}
 use Rattle.std.proofs.Common.{sym, ap, ◌∙◌, inl, inr, arith, eqb-true, lit≤, lit<}
 use Rattle.std.proofs.lemmas.Bool.{eqb-false}
-use Rattle.types.specs.Kinds.{pick, is060}
+use Rattle.types.specs.Kinds.{pick}
 use Rattle.types.specs.Vectors.{bus_error_vector}
 use Rattle.types.specs.Tables.{exception_cycles}
 use Rattle.types.specs.Causes.{cause_number, cause_of}
@@ -20,9 +20,9 @@ use Rattle.frames.specs.Frames.{bus_frame}
 use Rattle.access.specs.Access.{raised, push_frame, jump_vector, exception_bus_error}
 use Rattle.formats.specs.Formats.{format_word, disabled_frame}
 use Rattle.exceptions.specs.Exceptions.{stack_disabled, take_fp_disabled060}
-use Rattle.refusals.specs.Refusals.{bad_cycles, bad_kind, tests_of, first_number, refusal_of}
+use Rattle.refusals.specs.Refusals.{bad_cycles}
 use Rattle.answers.specs.declared.Call.TheVariants.{ExceptionBusError, TakeFpDisabled060}
-use Rattle.answers.specs.Matters.{of_lent, of_floating, matter_of}
+use Rattle.answers.specs.Matters.{of_lent, matter_of}
 use Rattle.answers.specs.Answers.{cycles, of_entry}
 use Rattle.calls.specs.Calls.{run, refusal}
 use Rattle.numbers.specs.declared.RawCall.{RawCall}
@@ -30,7 +30,6 @@ use Rattle.numbers.specs.Numbers.{flag}
 use Rattle.boundary.specs.Calls.{outcome, decode, of_performed, raw_call}
 use Rattle.unfaulted.specs.Closed.{closed}
 use Rattle.fast_plans.specs.declared.View.{View}
-use Rattle.fast_plans.specs.declared.Patch.{Patch}
 use Rattle.fast_plans.specs.declared.places.Spot.{Spot}
 use Rattle.fast.specs.declared.landings.Landing.{Landing}
 use Rattle.fast_plans.specs.Views.{view_of, accepts_of}
@@ -42,9 +41,9 @@ use Rattle.fast_laws.specs.Patched.{patch_of, Words, Fetched}
 use Rattle.fast_laws.specs.Accepts.{false_true, Accepted, accepted, not_refused, floating_fine}
 use Rattle.fast_laws.specs.Ways.{raw_known}
 use Rattle.fast_frames.specs.declared.rows.FrameRow.{FrameRow}
-use Rattle.fast_frames.specs.Rows.{row, bus_bytes, bus_frame_of, frame_of}
+use Rattle.fast_frames.specs.Rows.{bus_frame_of, frame_of}
 use Rattle.fast_frames.specs.Entries.{patch_for, written_of, land_of, place_of, enter_of, entry_of, go_of}
-use Rattle.fast_frames.specs.Laws.{Fitted, Bussed, Disabled, rowed, frame_fits, bare_frame}
+use Rattle.fast_frames.specs.Laws.{Bussed, Disabled, rowed, frame_fits, bare_frame}
 use Rattle.fast_frames.specs.Ways.{Entered, entered_by_lem, said}
 
 -- ---- what holds of the call not made and of the entry made holds of the call

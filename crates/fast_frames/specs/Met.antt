@@ -1,8 +1,8 @@
 -- A world and two calls that the fast way takes, so that the theorems of Matched speak of something.
-use Rattle.std.specs.Prelude.{ℕ, ◌+◌, ◌*◌, ◌%◌, ◌<◌, ◌≡◌, refl, true, List, [], ◌∷◌, replicate}
+use Rattle.std.specs.Prelude.{ℕ, ◌<◌, ◌≡◌, refl, true, List, [], replicate}
 use Rattle.std.proofs.Common.{lit<}
 use Rattle.types.specs.Kinds.{is_pre68020, is040, is060, is_prefetch_kind}
-use Rattle.cpu.specs.Fields.{set_a7, wdata_of}
+use Rattle.cpu.specs.Fields.{set_a7}
 use Rattle.cpu.specs.Fresh.{fresh_cpu, fresh_flow, fresh_regs, fresh_flags, fresh_queue, fresh_fault}
 use Rattle.memory.specs.declared.Core.{Core}
 use Rattle.memory.specs.Bytes.{put_long, put_word, get_long, get_word}
@@ -13,7 +13,7 @@ use Rattle.fast.specs.Landings.{meets, queued_of, vector_at, landing_of}
 use Rattle.fast_laws.specs.Patched.{Words}
 use Rattle.fast_frames.specs.Rows.{bus_bytes, bus_row, disabled_row, row_of}
 use Rattle.fast_frames.specs.Entries.{patch_for, written_of, land_of, place_of, enter_of, go_of}
-use Rattle.fast_frames.specs.Matched.{code_of, went_by}
+use Rattle.fast_frames.specs.Matched.{went_by}
 
 -- a fresh processor of a kind with A7 at 128, 256 bytes from 0 on and no window
 unfoldable pub board : ℕ → Core

@@ -1,5 +1,5 @@
 -- Which entries have their frame as data, and the frames.
-use Rattle.std.specs.Prelude.{ℕ, ◌%◌, Bool, true, false, not, eqb}
+use Rattle.std.specs.Prelude.{ℕ, ◌%◌, Bool, not, eqb}
 use Rattle.types.specs.Kinds.{pick, either, is_pre68020, is040, is060}
 use Rattle.types.specs.Vectors.{bus_error_vector, line1111}
 use Rattle.types.specs.Causes.{cause_number, cause_of}

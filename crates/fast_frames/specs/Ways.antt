@@ -1,5 +1,5 @@
 -- An entry whose frame is data: where the fast way makes it, it says what the frame and the jump of the plain call leave.
-use Rattle.std.specs.Prelude.{ℕ, zero, suc, ◌+◌, ◌-◌, ◌^◌, ◌<◌, ◌≤◌, ◌≡◌, Bool, true, false, ltb}
+use Rattle.std.specs.Prelude.{ℕ, zero, suc, ◌+◌, ◌-◌, ◌^◌, ◌<◌, ◌≡◌, Bool, true, false, ltb}
 use Rattle.std.proofs.Math.Path.{refl, ap}
 use Rattle.std.proofs.Common.{sym, ◌∙◌, arith}
 use mathlib.Core.List.{List}
@@ -12,13 +12,13 @@ use Rattle.status.specs.Banks.{enter_supervisor}
 use Rattle.memory.specs.declared.Bus.{Bus}
 use Rattle.memory.specs.declared.Core.{Core}
 use Rattle.memory.specs.World.{World, world}
-use Rattle.memory.proofs.LogLaws.{Event}
+use Rattle.memory.specs.LogLaws.{Event}
 use Rattle.frames.specs.declared.Frame.{Frame}
 use Rattle.frames.specs.Frames.{field_at}
 use Rattle.access.specs.Access.{raised, push_frame, jump_vector}
 use Rattle.answers.specs.Answers.{cycles, refused_by, value_of, count_of}
 use Rattle.numbers.specs.declared.RawCall.{RawCall}
-use Rattle.boundary.specs.Calls.{Outcome, outcome, of_performed, raw_call}
+use Rattle.boundary.specs.Calls.{outcome, of_performed, raw_call}
 use Rattle.unfaulted.specs.Closed.{closed, told, Piece, laid, last_value, clock_events, Entering, jumped, entry_events, arrived}
 use Rattle.unfaulted.specs.Pushes.{offset_of, pieces_of, length_pieces}
 use Rattle.unfaulted.specs.Written.{clocks_count_lem}
@@ -44,7 +44,7 @@ use Rattle.fast_laws.specs.Placed.{Spotted, spotted, Landed, landed_by, enters}
 use Rattle.fast_laws.specs.Tapes.{clocks_told, clocks_counted, jump_told, jump_counted}
 use Rattle.fast_laws.specs.Ways.{ended_step, same_world, Says, clear_of_lem}
 use Rattle.fast_frames.specs.declared.rows.FrameRow.{FrameRow}
-use Rattle.fast_frames.specs.Entries.{Sized, patch_for, first_number, framed_of, frame_log, written_of, land_of, place_of, enter_of}
+use Rattle.fast_frames.specs.Entries.{patch_for, first_number, framed_of, frame_log, written_of, land_of, place_of, enter_of}
 use Rattle.fast_frames.specs.Laws.{Fitted}
 
 -- ---- where the fast way makes an entry, it writes it

@@ -16,8 +16,8 @@ mod writes; // bytes and events at places that are there
 ghost use Rattle.std.specs.Prelude.{◌≡◌, ◌+◌, ◌<◌, ◌≤◌, length};
 ghost use Rattle.memory.specs.World.{width_of};
 ghost use Rattle.memory.specs.Log.{note_log};
-ghost use Rattle.memory.proofs.ByteLaws.{put};
-ghost use Rattle.memory.proofs.AccessLaws.{write_code, kept};
+ghost use Rattle.memory.specs.ByteLaws.{put};
+ghost use Rattle.memory.specs.AccessLaws.{write_code, kept};
 ghost use Rattle.unfaulted.specs.Closed.{told, laid, writes_of};
 ghost use Rattle.unfaulted.specs.Pushes.{offset_of, pieces_of};
 ghost use Rattle.fast.specs.Stacks.{Fits};

@@ -1,44 +1,35 @@
 -- Theorems about what specs/Grouped defines, and what rests on them.
-use Prim.Native.Nat.{ℕ, ◌+◌, ◌-◌, ◌*◌, ◌/◌, ◌^◌, ◌<◌}
-use Rattle.std.specs.Prelude.{◌≡◌, Bool, not, length}
-use Rattle.std.proofs.Math.Path.{refl, sym}
-use Rattle.std.proofs.Common.{ap, ◌∙◌, arith, lit<}
+use Prim.Native.Nat.{ℕ, ◌-◌, ◌<◌}
+use Rattle.std.specs.Prelude.{◌≡◌, length}
+use Rattle.std.proofs.Math.Path.{refl}
+use Rattle.std.proofs.Common.{ap, ◌∙◌, lit<}
 use Rattle.std.proofs.Math.Bool.{true, false}
 use mathlib.Core.List.{List}
-use Rattle.std.proofs.Math.Dec.{eqb}
-use Rattle.types.specs.Kinds.{pick, is_pre68020}
-use Rattle.types.specs.Tables.{exception_cycles}
-use Rattle.cpu.specs.declared.Cpu.{Cpu}
-use Rattle.cpu.specs.Fields.{kind_of, pc_of, ppc_of, set_wdata, set_a7, leave_stop}
-use Rattle.cpu.specs.Clocks.{clocks_of, set_clocks, prefetch_enabled}
+use Rattle.cpu.specs.Fields.{kind_of, pc_of, ppc_of, leave_stop}
+use Rattle.cpu.specs.Clocks.{clocks_of, prefetch_enabled}
 use Rattle.status.specs.Status.{get_sr}
-use Rattle.status.specs.Banks.{enter_supervisor}
 use Rattle.memory.specs.declared.Core.{Core}
 use Rattle.memory.specs.World.{world}
-use Rattle.formats.specs.Formats.{format_word, offset_word}
-use Rattle.exceptions.specs.Exceptions.{Entry, entry, take_group2, exception_trace}
+use Rattle.exceptions.specs.Exceptions.{Entry, take_group2, exception_trace}
 use Rattle.answers.specs.Answers.{cycles, of_entry}
 use Rattle.numbers.specs.declared.RawCall.{RawCall}
 use Rattle.boundary.specs.Calls.{of_performed, raw_call}
-use Rattle.unfaulted.specs.Closed.{closed, Piece, last_value, short_pieces, long_pieces, three_pieces, Entering, jumped, arrived, clocks_after, short_bytes, short_of, group2_bytes, group2_of}
+use Rattle.unfaulted.specs.Closed.{closed, clocks_after}
 use Rattle.unfaulted.proofs.Entries.{group2_closed, trace_closed}
 use Rattle.fast_plans.specs.declared.View.{View}
 use Rattle.fast_plans.specs.declared.Patch.{Patch}
-use Rattle.fast_plans.specs.declared.places.Spot.{Spot}
 use Rattle.fast.specs.declared.landings.Landing.{Landing}
 use Rattle.fast_plans.specs.declared.plans.Plan.{Plan}
 use Rattle.fast_plans.specs.Views.{view_of}
 use Rattle.fast_plans.specs.Places.{fetches_of, top_of}
 use Rattle.fast_plans.specs.Plans.{row, is_long, address_of, entry_plan}
-use Rattle.fast.specs.Stacks.{Tape, tape, waiting_of, lay_count, jump_count}
+use Rattle.fast.specs.Stacks.{waiting_of, lay_count, jump_count}
 use Rattle.fast.specs.Patches.{patch_by, enter_of, go_of}
-use Rattle.fast_plans.specs.Laws.{compose_fits}
-use Rattle.fast_laws.specs.Patched.{patch_cpu, Words, Fetched}
-use Rattle.fast_laws.specs.Accepts.{false_true, Accepted}
+use Rattle.fast_laws.specs.Patched.{Words, Fetched}
+use Rattle.fast_laws.specs.Accepts.{Accepted}
 use Rattle.fast_laws.specs.Supervised.{Plain, stop_clear, stop_fitting, stop_patched}
 use Rattle.fast_laws.proofs.Supervised.{plain_patched}
-use Rattle.fast_laws.specs.Tapes.{Framed, framed_short, framed_three, framed_long}
-use Rattle.fast_laws.specs.Ways.{waiting_none, fetched_in, spot_for, landing_for, Entered, entered_by_lem, Says, said, clear_of_lem, entering_of, fitting_of}
+use Rattle.fast_laws.specs.Ways.{waiting_none, fetched_in, spot_for, landing_for, Entered, entered_by_lem, Says, clear_of_lem, fitting_of}
 use Rattle.fast_laws.specs.Grouped.{Group, group_entering, group_same}
 
 -- ---- group 2

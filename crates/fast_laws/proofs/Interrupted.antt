@@ -14,7 +14,7 @@ use Rattle.cpu.specs.Clocks.{clocks_of, set_clocks, prefetch_enabled}
 use Rattle.status.specs.Banks.{enter_supervisor}
 use Rattle.memory.specs.declared.Bus.{Bus}
 use Rattle.memory.specs.declared.Core.{Core}
-use Rattle.memory.proofs.LogLaws.{Event}
+use Rattle.memory.specs.LogLaws.{Event}
 use Rattle.formats.specs.Formats.{offset_word}
 use Rattle.numbers.specs.declared.RawCall.{RawCall}
 use Rattle.boundary.specs.Calls.{outcome, of_performed, raw_call}

@@ -1,8 +1,8 @@
 -- Theorems about what specs/Matched defines, and what rests on them.
 use Prim.Native.Nat.{ℕ, ◌+◌, ◌%◌, ◌≤◌}
 use Rattle.std.proofs.Math.Path.{◌≡◌, refl, ap}
-use Rattle.std.proofs.Common.{sym, ◌∙◌, ltb-false, leb-true, eqb-true}
-use Rattle.std.specs.Prelude.{Bool, List, ltb, leb, length}
+use Rattle.std.proofs.Common.{sym, ◌∙◌, leb-true, eqb-true}
+use Rattle.std.specs.Prelude.{Bool, List, leb, length}
 use Rattle.std.proofs.Math.Bool.{true, false}
 use native.Mathlib.Omega.{arith}
 use Rattle.std.proofs.Math.Dec.{eqb, lit≤}
@@ -24,23 +24,14 @@ use Rattle.numbers.specs.Numbers.{bit}
 use Rattle.answers.specs.Answers.{flag, plain, of_entry, of_service, of_trace, refused_by, value_of, count_of}
 use Rattle.calls.specs.Calls.{run, refusal}
 use Rattle.numbers.specs.declared.RawCall.{RawCall}
-use Rattle.boundary.specs.declared.Decoded.TheVariants.{Known}
 use Rattle.boundary.specs.Calls.{outcome, decode, of_performed, raw_call}
 use Rattle.unfaulted.specs.Closed.{closed}
-use Rattle.fast_plans.specs.declared.View.{View}
-use Rattle.fast_plans.specs.declared.Patch.{Patch}
-use Rattle.fast_plans.specs.declared.places.Spot.{Spot}
-use Rattle.fast.specs.declared.landings.Landing.{Landing}
 use Rattle.fast_plans.specs.declared.plans.EntryRow.{EntryRow}
 use Rattle.fast_plans.specs.declared.plans.Plan.{Plan}
-use Rattle.fast_plans.specs.Views.{view_of, accepts_of}
-use Rattle.fast_plans.specs.Places.{spot_of}
-use Rattle.fast.specs.Landings.{landing_of}
-use Rattle.fast_plans.specs.Plans.{row, row_of, no_plan, halts, entry_plan, entry_of, takes, interrupt_plan, unimp_plan, unimp_of, plan_of}
-use Rattle.fast.specs.Stacks.{tape}
+use Rattle.fast_plans.specs.Views.{view_of}
+use Rattle.fast_plans.specs.Plans.{row, row_of, no_plan, halts, entry_of, takes, interrupt_plan, unimp_plan, unimp_of, plan_of}
 use Rattle.fast_plans.specs.Quiet.{is_quiet, quiet, calm_patch, still_patch, asks, checks, quiet_of}
-use Rattle.fast_plans.specs.Quiet.{no_patch}
-use Rattle.fast.specs.Patches.{patch_by, Ended, ended, written_of, land_of, place_of, enter_of, go_of}
+use Rattle.fast.specs.Patches.{Ended, enter_of, go_of}
 use Rattle.fast_laws.specs.Patched.{patch_of, calm_of, Words, Fetched}
 use Rattle.fast_laws.specs.Accepts.{false_true, Accepted, accepted, not_refused, floating_fine}
 use Rattle.fast_laws.specs.Ways.{Says, raw_known}

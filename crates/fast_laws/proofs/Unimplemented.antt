@@ -4,7 +4,6 @@ use Rattle.std.proofs.Math.Path.{refl}
 use Rattle.std.proofs.Common.{ap, ◌∙◌, lit<}
 use Rattle.types.specs.Vectors.{line1111}
 use Rattle.types.specs.Tables.{exception_cycles}
-use Rattle.cpu.specs.declared.Cpu.{Cpu}
 use Rattle.cpu.specs.Fields.{pc_of, set_wdata, set_a7, note_fpiar}
 use Rattle.cpu.specs.Clocks.{clocks_of, set_clocks, prefetch_enabled}
 use Rattle.status.specs.Status.{get_sr}

@@ -1,28 +1,18 @@
 -- THE FAST WAY SAYS WHAT THE PLAIN CALL SAYS: record, bus, store, log and answer after it are those of the call by number; and where it makes no
 -- entry it has touched neither store nor log.
-use Prim.Native.Nat.{ℕ, ◌+◌, ◌%◌, ◌≤◌}
+use Prim.Native.Nat.{ℕ, ◌%◌, ◌≤◌}
 use Rattle.std.proofs.Math.Path.{◌≡◌, refl, ap}
-use Rattle.std.proofs.Common.{sym, ◌∙◌, ltb-false, leb-true, eqb-true}
-use Rattle.std.specs.Prelude.{Bool, List, ltb, leb, length}
+use Rattle.std.proofs.Common.{sym, ◌∙◌, ltb-false, eqb-true}
+use Rattle.std.specs.Prelude.{Bool, List, ltb, length}
 use Rattle.std.proofs.Math.Bool.{true, false}
-use native.Mathlib.Omega.{arith}
 use Rattle.std.proofs.Math.Dec.{eqb, lit≤}
-use Rattle.std.proofs.lemmas.Bool.{eqb-false}
-use Rattle.types.specs.Kinds.{pick, both, is060}
-use Rattle.cpu.specs.Fields.{in_exception}
-use Rattle.pending.specs.Trace.{asks_trace, set_change_of_flow, check_trace}
-use Rattle.pending.specs.Interrupts.{set_irq, check_interrupts, has_cycles, pending_level, mask_level, takes_interrupt}
+use Rattle.types.specs.Kinds.{pick}
 use Rattle.memory.specs.declared.Core.{Core}
-use Rattle.memory.specs.Log.{with_events}
-use Rattle.memory.specs.World.{World, world, put_cpu}
-use Rattle.exceptions.specs.Exceptions.{take_exception, take_group2, trap, exception_trace, take_rewound}
-use Rattle.interrupts.specs.Interrupts.{check_and_service}
+use Rattle.memory.specs.World.{world}
 use Rattle.refusals.specs.Refusals.{bad_cycles}
 use Rattle.answers.specs.declared.Call.{Call}
-use Rattle.answers.specs.declared.Call.TheVariants.{TakeException, Trap, TakeGroup2Exception, ExceptionChk, ExceptionZeroDivide, ExceptionPrivilege, ExceptionTrace, TakeFpUnimp060, TakeAlineException, TakeFlineException, TakeTrapException, TakeBkptException, TakeIllegalException, CheckTrace, SetIrq, CheckInterrupts, CheckAndServiceInterrupts}
-use Rattle.answers.specs.Matters.{of_lent, matter_of}
+use Rattle.answers.specs.Matters.{matter_of}
 use Rattle.numbers.specs.Numbers.{bit}
-use Rattle.answers.specs.Answers.{flag, plain, of_entry, of_service, of_trace, refused_by, value_of, count_of}
 use Rattle.calls.specs.Calls.{run, refusal}
 use Rattle.numbers.specs.declared.RawCall.{RawCall}
 use Rattle.boundary.specs.declared.Decoded.TheVariants.{Known}
@@ -34,17 +24,17 @@ use Rattle.fast_plans.specs.declared.places.Spot.{Spot}
 use Rattle.fast.specs.declared.landings.Landing.{Landing}
 use Rattle.fast_plans.specs.declared.plans.EntryRow.{EntryRow}
 use Rattle.fast_plans.specs.declared.plans.Plan.{Plan}
-use Rattle.fast_plans.specs.Views.{view_of, accepts_of}
+use Rattle.fast_plans.specs.Views.{accepts_of}
 use Rattle.fast_plans.specs.Places.{spot_of}
 use Rattle.fast.specs.Landings.{landing_of}
-use Rattle.fast_plans.specs.Plans.{row, row_of, no_plan, halts, entry_plan, entry_of, takes, interrupt_plan, unimp_plan, unimp_of, plan_of}
+use Rattle.fast_plans.specs.Plans.{row_of, no_plan, halts, entry_plan, entry_of, plan_of}
 use Rattle.fast.specs.Stacks.{tape}
 use Rattle.fast_plans.specs.Quiet.{is_quiet, quiet, calm_patch, still_patch, asks, checks, quiet_of}
 use Rattle.fast_plans.specs.Quiet.{no_patch}
 use Rattle.fast.specs.Patches.{patch_by, Ended, ended, written_of, land_of, place_of, enter_of, go_of}
-use Rattle.fast_laws.specs.Patched.{patch_of, calm_of, Words, Fetched}
-use Rattle.fast_laws.specs.Accepts.{false_true, Accepted, accepted, not_refused, floating_fine}
-use Rattle.fast_laws.specs.Ways.{Says, raw_known}
+use Rattle.fast_laws.specs.Patched.{calm_of}
+use Rattle.fast_laws.specs.Accepts.{false_true, Accepted, not_refused}
+use Rattle.fast_laws.specs.Ways.{raw_known}
 
 -- ---- where no entry is made, nothing is touched
 

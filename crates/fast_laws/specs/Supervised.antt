@@ -1,18 +1,16 @@
 -- The record of an entry: the change to the supervisor's stack with M clear, and what the patch leaves.
-use Rattle.std.specs.Prelude.{ℕ, ◌*◌, ◌%◌, ◌<◌, ◌≡◌, ◌⊎◌, Bool, List, eqb, length, set, get_or}
-use Rattle.std.proofs.Math.Path.{refl, ap}
+use Rattle.std.specs.Prelude.{ℕ, ◌%◌, ◌<◌, ◌≡◌, ◌⊎◌, Bool, List, eqb, length, set, get_or}
+use Rattle.std.proofs.Math.Path.{refl}
 use Rattle.std.proofs.Common.{◌∙◌, inl, inr, arith}
 use Rattle.std.proofs.Math.Bool.{true, false}
-use Rattle.std.proofs.Math.Seq.{set-set, set-get_or, get_or-set_same, get_or-set_other}
+use Rattle.std.proofs.Math.Seq.{set-get_or, get_or-set_same, get_or-set_other}
 use Rattle.types.specs.Kinds.{pick, is060}
 use Rattle.cpu.specs.declared.Cpu.{Cpu}
 use Rattle.cpu.specs.Setters.{with_dar, with_sp, with_t1_flag, with_t0_flag, with_sflag}
-use Rattle.cpu.specs.Fields.{a7_of, set_wdata, set_a7, set_pc, start_vector, leave_stop, clear_stopped, note_fpiar}
-use Rattle.cpu.specs.Clocks.{set_clocks, first_word, second_word}
-use Rattle.status.specs.Status.{clear_trace, set_int_mask}
+use Rattle.cpu.specs.Fields.{a7_of, set_pc, start_vector, leave_stop, note_fpiar}
+use Rattle.cpu.specs.Clocks.{first_word, second_word}
+use Rattle.status.specs.Status.{clear_trace}
 use Rattle.status.specs.Banks.{enter_supervisor, set_sflag, restore_sp, put_s, backup_sp, sp_index}
-use Rattle.pending.specs.Interrupts.{clear_level, charged, charge_interrupt}
-use Rattle.steps.specs.Steps.{enter_level, close_interrupt}
 use Rattle.unfaulted.specs.Closed.{jumped}
 use Rattle.fast_plans.specs.declared.Patch.{Patch}
 use Rattle.fast_laws.specs.Patched.{fpiar_after, patch_cpu}

@@ -1,41 +1,26 @@
 -- `take_exception`, the wrappers that rewind, group 2 and the trace: each says what the fast way says.
-use Prim.Native.Nat.{ℕ, ◌+◌, ◌-◌, ◌*◌, ◌/◌, ◌^◌, ◌<◌}
-use Rattle.std.specs.Prelude.{◌≡◌, Bool, eqb, length}
+use Prim.Native.Nat.{ℕ, ◌+◌, ◌*◌, ◌/◌, ◌^◌, ◌<◌}
+use Rattle.std.specs.Prelude.{◌≡◌, Bool, eqb}
 use Rattle.std.proofs.Math.Path.{refl}
-use Rattle.std.proofs.Common.{ap, ◌∙◌, lit<}
+use Rattle.std.proofs.Common.{lit<}
 use Rattle.std.proofs.Math.Bool.{true, false}
-use mathlib.Core.List.{List}
 use native.Mathlib.Omega.{arith}
 use Rattle.types.specs.Kinds.{pick}
-use Rattle.types.specs.Tables.{exception_cycles}
-use Rattle.cpu.specs.Fields.{kind_of, pc_of, ppc_of, in_exception, set_wdata, set_a7}
-use Rattle.cpu.specs.Clocks.{clocks_of, set_clocks, prefetch_enabled}
+use Rattle.cpu.specs.Fields.{kind_of}
 use Rattle.status.specs.Status.{compose, get_sr}
-use Rattle.status.specs.Banks.{enter_supervisor}
 use Rattle.memory.specs.declared.Core.{Core}
-use Rattle.memory.specs.World.{world}
-use Rattle.steps.specs.Steps.{stacks_next as stacks_next_of, stacked_address}
+use Rattle.steps.specs.Steps.{stacks_next as stacks_next_of}
 use Rattle.formats.specs.Formats.{offset_word}
-use Rattle.exceptions.specs.Exceptions.{Entry, entry, take_exception, take_rewound}
-use Rattle.answers.specs.Answers.{cycles, of_entry}
-use Rattle.numbers.specs.declared.RawCall.{RawCall}
-use Rattle.boundary.specs.Calls.{of_performed, raw_call}
-use Rattle.unfaulted.specs.Closed.{closed, Piece, last_value, short_pieces, three_pieces, Entering, jumped, arrived, clocks_after, short_bytes, short_of}
-use Rattle.unfaulted.proofs.Entries.{take_closed, rewound_closed}
+use Rattle.unfaulted.specs.Closed.{last_value, short_pieces, three_pieces, short_bytes, short_of}
 use Rattle.fast_plans.specs.declared.View.{View}
-use Rattle.fast.specs.declared.landings.Landing.{Landing}
 use Rattle.fast_plans.specs.declared.plans.Plan.{Plan}
 use Rattle.fast_plans.specs.Views.{view_of}
-use Rattle.fast_plans.specs.Places.{fetches_of, top_of}
 use Rattle.fast_plans.specs.Plans.{row, is_long, address_of, entry_plan}
-use Rattle.fast.specs.Stacks.{Tape, tape, waiting_of, lay_count, jump_count}
-use Rattle.fast.specs.Patches.{patch_by, enter_of, go_of}
+use Rattle.fast.specs.Stacks.{Tape}
 use Rattle.fast_plans.specs.Laws.{compose_fits}
-use Rattle.fast_laws.specs.Patched.{patch_cpu, Words, Fetched}
-use Rattle.fast_laws.specs.Accepts.{Accepted}
-use Rattle.fast_laws.specs.Supervised.{Plain}
+use Rattle.fast_laws.specs.Patched.{Words}
 use Rattle.fast_laws.specs.Tapes.{Framed, framed_short, framed_three}
-use Rattle.fast_laws.specs.Ways.{fetched_in, spot_for, landing_for, Entered, entered_by_lem, Says, said, clear_of_lem, entering_of, fitting_of}
+use Rattle.fast_laws.specs.Ways.{spot_for}
 
 -- ---- the frame of `take_exception`
 

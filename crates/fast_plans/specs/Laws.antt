@@ -1,5 +1,5 @@
 -- What a plan keeps to, and what is known of a record that the fast way takes.
-use Rattle.std.specs.Prelude.{ℕ, ◌+◌, ◌-◌, ◌*◌, ◌/◌, ◌%◌, ◌<◌, ◌≤◌, ◌≡◌, refl, Bool, true, false, not, eqb, ltb}
+use Rattle.std.specs.Prelude.{ℕ, ◌+◌, ◌*◌, ◌/◌, ◌%◌, ◌<◌, ◌≤◌, ◌≡◌, refl, Bool, true, false, not, eqb, ltb}
 use Rattle.std.proofs.Common.{sym, arith, ltb-false}
 use Rattle.types.specs.Kinds.{pick, is060}
 use Rattle.cpu.specs.declared.Flags.{Flags}

@@ -1,29 +1,22 @@
 -- Theorems about what specs/Forms defines, and what rests on them.
-use Rattle.std.specs.Prelude.{ℕ, ◌+◌, ◌%◌, ◌≡◌, refl, Bool, true, false, length, List, [], ◌∷◌}
-use Rattle.std.proofs.Common.{sym, ap, ◌∙◌, subst, arith}
-use Rattle.std.proofs.Math.Option.{Option, none, some}
-use Rattle.types.specs.Kinds.{pick}
+use Rattle.std.specs.Prelude.{◌+◌, ◌%◌, ◌≡◌, refl, true, []}
+use Rattle.std.proofs.Common.{sym, ap, ◌∙◌, subst}
+use Rattle.std.proofs.Math.Option.{some}
 use Rattle.types.specs.Causes.{cause_number}
-use Rattle.cpu.specs.declared.Cpu.{Cpu}
-use Rattle.cpu.specs.Fields.{in_exception, is_faulted, a7_of, kind_of, ppc_of, vbr_of, checks_alignment, has_fc_override, fc_override_of}
+use Rattle.cpu.specs.Fields.{in_exception}
 use Rattle.pending.specs.Interrupts.{takes_interrupt}
-use Rattle.memory.specs.World.{World, put_cpu, cpu_of}
-use Rattle.refusals.specs.Refusals.{odd_base, bad_code}
+use Rattle.memory.specs.World.{World, cpu_of}
 use Rattle.exceptions.specs.Exceptions.{trap}
 use Rattle.answers.specs.declared.Call.{Call}
 use Rattle.answers.specs.declared.Call.TheVariants.{TakeException, Trap, TakeGroup2Exception, ExceptionChk, ExceptionZeroDivide, ExceptionPrivilege, ExceptionTrace, ExceptionAddressError, ExceptionBusError, TakeFpUnimp060, TakeFpDisabled060, TakeAlineException, TakeFlineException, TakeTrapException, TakeBkptException, TakeIllegalException, TriggerAddressError, TriggerBusError, CheckTrace, SetIrq, CheckInterrupts, CheckAndServiceInterrupts, Read16, Read32, Write16, Write32, Push16, Push32, PrefetchFirst, PrefetchSecond}
-use Rattle.frames.specs.declared.Frame.{Frame}
-use Rattle.answers.specs.Matters.{matter_of}
 use Rattle.answers.specs.Answers.{cycles, flag, of_entry, of_service}
-use Rattle.calls.specs.Calls.{restarted, run, begun, refusal, perform}
-use Rattle.images.specs.Pushes.{calm}
-use Rattle.forms.specs.Gist.{gist, gist_cpu, framed_by}
-use Rattle.forms.specs.Jumps.{jumped}
-use Rattle.forms.specs.Kept.{Good, Steady, AllSteady, planned_good, steady_gist, steady_enter, steady_leave, steady_same, steady_exception, steady_rewound, steady_traced, steady_fpiar, steady_bus, steady_level, steady_clear, steady_end, steady_close}
-use Rattle.forms.specs.Tests.{framed_length, framed_bus, Whole, Safe, AllSafe, clean_test, safe_same, safe_enter, safe_exception, safe_rewound, safe_traced, safe_fpiar, safe_bus, safe_level, safe_leave, safe_clear}
+use Rattle.calls.specs.Calls.{run, begun, refusal, perform}
+use Rattle.forms.specs.Gist.{gist}
+use Rattle.forms.specs.Kept.{Good, planned_good}
+use Rattle.forms.specs.Tests.{Whole, clean_test}
 use Rattle.forms.proofs.Tests.{clean_tested}
 use Rattle.forms.specs.Accepted.{accepted_store}
-use Rattle.forms.specs.Plans.{Push, Plan, turned, stack_all, planned, Clean, throwaways, settles, interrupt_by, exc_plan, rewound_plan, group2_plan, trace_plan, fp_unimp_plan, fp_disabled_plan, address_plan, bus_plan, interrupt_plan}
+use Rattle.forms.specs.Plans.{Plan, planned, Clean, exc_plan, rewound_plan, group2_plan, trace_plan, fp_unimp_plan, fp_disabled_plan, address_plan, bus_plan, interrupt_plan}
 use Rattle.forms.specs.Entries.{exc_form, rewound_form, group2_form, trace_form, fp_unimp_form, fp_disabled_form, address_form, bus_form}
 use Rattle.forms.proofs.Interrupts.{interrupt_form}
 use Rattle.forms.specs.Forms.{plan_of, is_some, no_plan_lem, unless, only_if, by_name, begun_gist, SafePlan, exc_safe, rewound_safe, group_safe, trace_safe, unimp_safe, disabled_safe, address_safe, bus_safe, interrupt_safe, named_safe, plan_lent, gist_whole, gist_length, SteadyPlan, exc_steady, rewound_steady, group_steady, trace_steady, unimp_steady, disabled_steady, address_steady, bus_steady, interrupt_steady, named_steady, good_gist, gist_good, SameRoom, room_trans, planned_room, gist_room}

@@ -1,30 +1,25 @@
 -- Theorems about what specs/Interrupts defines, and what rests on them.
-use Rattle.std.specs.Prelude.{ℕ, ◌+◌, ◌%◌, ◌^◌, ◌≡◌, Bool, true, false, [], ◌∷◌, eqb}
+use Rattle.std.specs.Prelude.{ℕ, ◌≡◌, Bool, true, false, [], eqb}
 use Rattle.std.proofs.Math.Path.{refl}
 use Rattle.std.proofs.Common.{sym, ap, ◌∙◌, subst}
 use Rattle.types.specs.Kinds.{pick, is_ec020_plus, is060}
 use Rattle.cpu.specs.declared.Cpu.{Cpu}
-use Rattle.cpu.specs.Fields.{kind_of, pc_of, a7_of, set_a7, lower_a7, clear_stopped}
-use Rattle.cpu.specs.Clocks.{internal_cycles}
-use Rattle.status.specs.Status.{get_sr, clear_trace, clear_m, m_is_set, set_int_mask}
-use Rattle.status.specs.Banks.{sp_index, backup_sp, restore_sp, put_s, set_sflag, set_sm_flag_nosp, set_sm_flag, enter_supervisor}
-use Rattle.pending.specs.Interrupts.{pending_level, takes_interrupt, clear_level, charge_interrupt, charged}
-use Rattle.memory.specs.Log.{counted}
-use Rattle.memory.specs.World.{World, Attempt, noted, stored, put_cpu, flush, response_of, acknowledged, cpu_of, with_cpu, step}
+use Rattle.cpu.specs.Fields.{kind_of, pc_of, a7_of, lower_a7, clear_stopped}
+use Rattle.status.specs.Status.{get_sr, m_is_set}
+use Rattle.pending.specs.Interrupts.{pending_level, takes_interrupt, clear_level, charge_interrupt}
+use Rattle.memory.specs.World.{World, Attempt, put_cpu, cpu_of, with_cpu, step}
 use Rattle.frames.specs.declared.Frame.{Frame}
-use Rattle.frames.specs.Frames.{field_at}
-use Rattle.access.specs.Access.{raised, write_at, push_frame, jump_vector}
-use Rattle.formats.specs.Formats.{format_word, offset_word, short_frame}
-use Rattle.steps.specs.Steps.{iack_vector, enter_level, with_s, close_interrupt}
-use Rattle.interrupts.specs.Interrupts.{vector_from, acknowledge_level, synced_acknowledge, rest68000, from68000, writes68010, rest68010, rest_other, first_frame, throwaway, second_frame, ended, dispatched, service_interrupt, serviced, check_and_service, push_interrupt68000, push_interrupt68010, push_interrupt_other}
-use Rattle.images.specs.Pushes.{calm}
-use Rattle.images.specs.Images.{Ready, new_a7, frame_bytes}
-use Rattle.forms.specs.Gist.{gist, gist_cpu, flush_gist, at7, framed_by, lower_form, stacked_form}
-use Rattle.forms.specs.Jumps.{jumped, jump_form, cycles_gist}
-use Rattle.forms.specs.Orders.{words6, words8, q6, first6, three_form, lowered_a7}
+use Rattle.access.specs.Access.{raised, jump_vector}
+use Rattle.formats.specs.Formats.{offset_word, short_frame}
+use Rattle.steps.specs.Steps.{enter_level, close_interrupt}
+use Rattle.interrupts.specs.Interrupts.{synced_acknowledge, writes68010, rest68010, first_frame, second_frame, ended, dispatched, service_interrupt, serviced, check_and_service, push_interrupt68000, push_interrupt68010, push_interrupt_other}
+use Rattle.images.specs.Images.{Ready}
+use Rattle.forms.specs.Gist.{gist, framed_by}
+use Rattle.forms.specs.Jumps.{jumped, jump_form}
+use Rattle.forms.specs.Orders.{words6, words8}
 use Rattle.forms.proofs.Orders.{four_form}
-use Rattle.forms.specs.Plans.{turned, stack_all, planned, AllReady, Clean, same, interrupt_vector, interrupt_frame, throwaways, settles, interrupt_by, interrupt_plan}
-use Rattle.forms.specs.Entries.{Seen, turn_form, seen_same}
+use Rattle.forms.specs.Plans.{turned, stack_all, planned, AllReady, Clean, interrupt_vector, interrupt_frame, throwaways, settles, interrupt_by, interrupt_plan}
+use Rattle.forms.specs.Entries.{turn_form}
 use Rattle.forms.specs.Interrupts.{synced_form, Framed, vector_at, first_68000, lowered_eight, lower_eight, first_other, seen_level, seen_close, second_form, begun_m, begun_kind, begun_vector, gist_m, gist_kind, gist_vector, entered_kind}
 
 first_68010 : (w y : World) (pc sr level : ℕ) → gist w ≡ y → Ready y (words8 sr pc (offset_word (vector_at y level)))

@@ -1,28 +1,23 @@
 -- Theorems about what specs/Orders defines, and what rests on them.
-use Prim.Native.Nat.{ℕ, ◌+◌, ◌-◌, ◌/◌, ◌%◌, ◌^◌, ◌≤◌, ◌<◌}
-use Rattle.std.specs.Prelude.{◌≡◌, Bool, eqb}
+use Prim.Native.Nat.{ℕ, ◌+◌, ◌/◌, ◌%◌, ◌^◌, ◌<◌}
+use Rattle.std.specs.Prelude.{◌≡◌}
 use Rattle.std.proofs.Math.Path.{refl, ap}
-use Rattle.std.proofs.Common.{sym, ◌∙◌, inr, le-ltb}
+use Rattle.std.proofs.Common.{◌∙◌}
 use Rattle.std.proofs.Math.Bool.{false}
-use mathlib.Core.List.{List, [], ◌∷◌}
+use mathlib.Core.List.{List, []}
 use native.Mathlib.Omega.{arith}
 use Rattle.std.proofs.Math.ListN.{length}
-use Rattle.types.specs.Kinds.{pick, is_pre68020, mask_address}
-use Rattle.cpu.specs.Fields.{kind_of, a7_of, address_of, is_faulted, checks_alignment, set_a7, lower_a7, minus32}
-use Rattle.memory.specs.declared.Bus.{Bus}
-use Rattle.memory.specs.Served.{served_of, place_of}
-use Rattle.memory.specs.World.{World, stored, put_cpu, width_of, served, cpu_of, with_cpu}
-use Rattle.memory.proofs.ByteLaws.{put, put_length, put_comm}
-use Rattle.memory.proofs.AccessLaws.{kept}
-use Rattle.memory.specs.ServedLaws.{served_means}
+use Rattle.cpu.specs.Fields.{kind_of, a7_of}
+use Rattle.memory.specs.Served.{place_of}
+use Rattle.memory.specs.World.{World, stored, cpu_of}
+use Rattle.memory.proofs.ByteLaws.{put_length}
+use Rattle.memory.specs.AccessLaws.{kept}
 use Rattle.frames.specs.declared.Frame.{Frame}
-use Rattle.frames.specs.Frames.{word, framed, field_at, is_counted, is_raw}
-use Rattle.steps.specs.Steps.{refuses_odd}
-use Rattle.access.specs.Access.{Raise, write_at, short_writes, push_exception_frame68000}
+use Rattle.frames.specs.Frames.{field_at, is_counted, is_raw}
+use Rattle.access.specs.Access.{Raise, write_at}
 use Rattle.images.specs.Pushes.{laid_field}
-use Rattle.images.specs.Images.{Shape, Ready, frame_bytes, field_address, laid, new_a7, bottom}
-use Rattle.images.proofs.Images.{at_offset}
-use Rattle.forms.specs.Gist.{gist, wrote_at, at7, a7_gist, a7_at7, guard_form, lower_form, framed_by, minus_below}
+use Rattle.images.specs.Images.{Ready, frame_bytes, field_address, laid, new_a7}
+use Rattle.forms.specs.Gist.{gist, at7, framed_by, minus_below}
 use Rattle.forms.specs.Orders.{words8, shape8, P, four_order, word_step, place_step}
 
 -- ---- the interrupt of kind 2: the same, then the format word

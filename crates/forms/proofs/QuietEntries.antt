@@ -1,29 +1,28 @@
 -- Theorems about what specs/QuietEntries defines, and what rests on them.
-use Rattle.std.specs.Prelude.{ℕ, suc, ◌≤◌, ◌<◌, ◌≡◌, refl, Bool, true, false, eqb, length}
+use Rattle.std.specs.Prelude.{ℕ, ◌≤◌, ◌<◌, ◌≡◌, refl, Bool, true, false, eqb, length}
 use Rattle.std.proofs.Common.{sym, ◌∙◌, arith}
 use Rattle.std.proofs.Math.Path.{subst}
-use Rattle.types.specs.Kinds.{pick, both, is_pre68020, is040, is060}
+use Rattle.types.specs.Kinds.{pick, both, is_pre68020}
 use Rattle.cpu.specs.declared.Cpu.{Cpu}
-use Rattle.cpu.specs.Fields.{kind_of, pc_of, ppc_of, is_faulted, in_exception, set_exception, rewind_pc, note_fpiar, leave_stop, clear_fc_override}
-use Rattle.cpu.specs.Clocks.{has_clocks, internal_cycles}
-use Rattle.status.specs.Status.{get_sr, clear_trace}
-use Rattle.status.specs.Banks.{backup_sp, restore_sp, put_s, set_sflag, enter_supervisor}
+use Rattle.cpu.specs.Fields.{kind_of, pc_of, ppc_of, in_exception, set_exception, rewind_pc, note_fpiar, leave_stop}
+use Rattle.cpu.specs.Clocks.{internal_cycles}
+use Rattle.status.specs.Status.{get_sr}
+use Rattle.status.specs.Banks.{enter_supervisor}
 use Rattle.memory.specs.World.{World, with_cpu, put_cpu, cpu_of}
 use Rattle.frames.specs.declared.Frame.{Frame}
-use Rattle.frames.specs.Frames.{address_frame, bus_frame, frame68000, frame8, frame2, frame0, frame4, frame7, frame11}
+use Rattle.frames.specs.Frames.{address_frame, bus_frame}
 use Rattle.steps.specs.Steps.{enter_bus_error, stacked_address, begin_entry, begin_trace}
 use Rattle.access.specs.Access.{raised, push_frame, push_exception_frame68000, jump_vector, exception_address_error, exception_bus_error}
 use Rattle.formats.specs.Formats.{format_word, offset_word, short_frame, long_frame, disabled_frame}
 use Rattle.exceptions.specs.Exceptions.{supervised, stack_short, finished, taken, take_exception, stack_group2, take_group2, exception_trace, take_rewound, stack_unimp, take_fp_unimp060, stack_disabled, take_fp_disabled060}
-use Rattle.bounds.specs.Skeleton.{pick_one}
 use Rattle.images.specs.Images.{Ready, most_store, new_a7}
 use Rattle.forms.specs.Gist.{gist, framed_by, stacked_form}
 use Rattle.forms.specs.Orders.{words6}
 use Rattle.forms.specs.Plans.{turned, stack_all, same, single, short_of, exc_plan, rewound_plan, group2_frame, group2_plan, trace_plan, fp_unimp_plan, fp_disabled_plan, address_plan, bus_plan}
-use Rattle.forms.specs.Tests.{Whole, Safe, stacks_test, reach_test, clean_test, whole_sound, test_allowed, turned_whole, turned_length, safe_enter, safe_exception, safe_rewound, safe_traced, safe_fpiar, safe_bus}
+use Rattle.forms.specs.Tests.{Whole, stacks_test, reach_test, clean_test, whole_sound, test_allowed, safe_enter, safe_exception, safe_rewound, safe_traced, safe_fpiar, safe_bus}
 use Rattle.forms.specs.Entries.{Alike, turn_form, short_stack, begun_alike, alike_status, alike_kind, alike_stacked, marked_status, marked_kind, marked_stacked, begin_gist, rewound_inside, framed2, group2_stack, trace_frame, trace_gist, seen_supervisor, seen_exception, seen_rewound, seen_trace, seen_fpiar, seen_bus}
 use Rattle.forms.specs.Interrupts.{still_form}
-use Rattle.forms.specs.Quiet.{Booked, gist_tale, book_less, tale_cycles}
+use Rattle.forms.specs.Quiet.{Booked, book_less}
 use Rattle.forms.specs.QuietFrames.{frame_test, both_true}
 use Rattle.forms.proofs.QuietFrames.{frame_tale, short_tale}
 use Rattle.forms.specs.QuietJumps.{jump_tale}

@@ -1,27 +1,21 @@
 -- Theorems about what specs/QuietFrames defines, and what rests on them.
-use Rattle.std.specs.Prelude.{ℕ, zero, suc, ◌+◌, ◌/◌, ◌%◌, ◌^◌, ◌<◌, ◌≡◌, Bool, true, not, eqb, length, get_or}
+use Rattle.std.specs.Prelude.{ℕ, suc, ◌+◌, ◌/◌, ◌%◌, ◌^◌, ◌<◌, ◌≡◌, Bool, true, length}
 use Rattle.std.proofs.Math.Path.{refl}
-use Rattle.std.proofs.Common.{sym, ap, ◌∙◌, subst, arith}
+use Rattle.std.proofs.Common.{subst, arith}
 use Rattle.std.proofs.Math.Bool.{false}
-use Rattle.std.proofs.Math.ListN.{length-set}
-use Rattle.std.proofs.Math.Seq.{get_or-set_same}
-use Rattle.types.specs.Kinds.{pick, either, both, is_pre68020, mask_address}
+use Rattle.types.specs.Kinds.{both}
 use Rattle.cpu.specs.declared.Cpu.{Cpu}
-use Rattle.cpu.specs.Fields.{kind_of, a7_of, address_of, is_faulted, checks_alignment, set_a7, lower_a7, minus32}
-use Rattle.cpu.specs.Clocks.{has_clocks}
+use Rattle.cpu.specs.Fields.{kind_of, a7_of, lower_a7, minus32}
 use Rattle.memory.specs.declared.Bus.{Bus}
-use Rattle.memory.specs.Served.{served_of}
-use Rattle.memory.specs.World.{World, with_cpu, width_of, raw_write, cpu_of}
-use Rattle.frames.specs.declared.Field.{Field}
+use Rattle.memory.specs.World.{World, with_cpu, cpu_of}
 use Rattle.frames.specs.declared.Frame.{Frame}
 use Rattle.frames.specs.Frames.{field_at, is_counted, is_raw}
-use Rattle.steps.specs.Steps.{refuses_odd}
-use Rattle.access.specs.Access.{write_at, stack_field, push_field, push_fields, push_frame, short_writes, push_exception_frame68000, trigger}
-use Rattle.images.specs.Images.{frame_bytes, field_address, new_a7, minus_minus, minus_plus}
-use Rattle.forms.specs.Gist.{gist, gist_cpu, minus_below}
+use Rattle.access.specs.Access.{write_at, push_frame, short_writes, push_exception_frame68000, trigger}
+use Rattle.images.specs.Images.{frame_bytes, new_a7}
+use Rattle.forms.specs.Gist.{gist, minus_below}
 use Rattle.forms.specs.Orders.{words6, words8}
 use Rattle.forms.specs.Tests.{field_test, fields_test}
-use Rattle.forms.specs.Quiet.{Booked, Scene, Tale, Turn, gist_tale, scene_get, scene_address, judge_none, book_less, both_both, tale_less, tale_raw, tale_write, tale_turn}
+use Rattle.forms.specs.Quiet.{Booked, Tale, gist_tale, tale_less, tale_turn}
 use Rattle.forms.specs.QuietFrames.{lower_turn, under, under_kind, fields_tale, frame_test, word_tale, under_top, above, at_bottom, first, tests6, tests8}
 
 -- a whole frame, from a world whose gist is y as long as no test failed

@@ -1,17 +1,13 @@
 -- THE CLOSED TEST IS EXACT: for every direct entry that is accepted and taken, `clean_test` holds exactly if no event of the call has a
 -- code of 16 or more and the record comes out not faulted.
-use Rattle.std.specs.Prelude.{◌+◌, ◌*◌, ◌%◌, ◌≤◌, ◌≡◌, refl, ◌↔◌, Bool, true, false, length}
-use Rattle.std.proofs.Common.{sym, ◌∙◌, subst, arith}
-use Rattle.std.proofs.Math.Option.{some}
-use Rattle.types.specs.Causes.{cause_number}
+use Rattle.std.specs.Prelude.{◌+◌, ◌≤◌, ◌≡◌, refl, ◌↔◌, Bool, true, false, length}
+use Rattle.std.proofs.Common.{subst, arith}
 use Rattle.cpu.specs.Fields.{is_faulted}
 use Rattle.cpu.specs.Clocks.{has_clocks}
 use Rattle.memory.specs.World.{World, cpu_of}
-use Rattle.exceptions.specs.Exceptions.{trap}
 use Rattle.answers.specs.declared.Call.{Call}
 use Rattle.answers.specs.declared.Call.TheVariants.{TakeException, Trap, TakeGroup2Exception, ExceptionChk, ExceptionZeroDivide, ExceptionPrivilege, ExceptionTrace, ExceptionAddressError, ExceptionBusError, TakeFpUnimp060, TakeFpDisabled060, TakeAlineException, TakeFlineException, TakeTrapException, TakeBkptException, TakeIllegalException, TriggerAddressError, TriggerBusError, CheckTrace, SetIrq, CheckInterrupts, CheckAndServiceInterrupts, Read16, Read32, Write16, Write32, Push16, Push32, PrefetchFirst, PrefetchSecond}
 use Rattle.answers.specs.Matters.{matter_of}
-use Rattle.answers.specs.Answers.{Performed, cycles, flag, of_entry, of_service}
 use Rattle.calls.specs.Calls.{restarted, run, begun, refusal, perform}
 use Rattle.bounds.specs.Ledger.{one}
 use Rattle.bounds.specs.Levels.{clash}
@@ -19,8 +15,7 @@ use Rattle.images.specs.Images.{most_store}
 use Rattle.forms.specs.Gist.{gist}
 use Rattle.forms.specs.Plans.{Plan}
 use Rattle.forms.specs.Tests.{Whole, clean_test}
-use Rattle.forms.specs.Accepted.{accepted_store, accepted_log}
-use Rattle.forms.specs.Forms.{plan_of, is_some, no_plan_lem, unless, only_if, begun_gist, plan_lent, gist_whole, gist_length}
+use Rattle.forms.specs.Forms.{gist_whole, gist_length}
 use Rattle.forms.specs.Quiet.{Booked, Loud, Quiet}
 use Rattle.forms.specs.QuietEntries.{Placed}
 

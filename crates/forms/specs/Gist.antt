@@ -13,8 +13,9 @@ use Rattle.memory.specs.Log.{counted}
 use Rattle.memory.specs.Served.{served_of, place_of}
 use Rattle.memory.specs.World.{World, world, noted, stored, with_cpu, put_cpu, width_of, served, written, flush, raw_write, try_write, cpu_of}
 use Rattle.memory.specs.Bytes.{put_word, put_long}
-use Rattle.memory.proofs.ByteLaws.{put, put_length}
-use Rattle.memory.proofs.AccessLaws.{kept}
+use Rattle.memory.specs.ByteLaws.{put}
+use Rattle.memory.proofs.ByteLaws.{put_length}
+use Rattle.memory.specs.AccessLaws.{kept}
 use Rattle.frames.specs.declared.Field.{Field}
 use Rattle.frames.specs.declared.Frame.{Frame}
 use Rattle.frames.specs.Frames.{field_at, is_counted, is_raw}

@@ -13,8 +13,9 @@ use Rattle.cpu.specs.Fields.{kind_of, a7_of, address_of, is_faulted, checks_alig
 use Rattle.memory.specs.declared.Bus.{Bus}
 use Rattle.memory.specs.Served.{served_of, place_of}
 use Rattle.memory.specs.World.{World, stored, put_cpu, width_of, served, cpu_of, with_cpu}
-use Rattle.memory.proofs.ByteLaws.{put, put_length, put_comm}
-use Rattle.memory.proofs.AccessLaws.{kept}
+use Rattle.memory.specs.ByteLaws.{put}
+use Rattle.memory.proofs.ByteLaws.{put_length, put_comm}
+use Rattle.memory.specs.AccessLaws.{kept}
 use Rattle.memory.specs.ServedLaws.{served_means}
 use Rattle.frames.specs.declared.Frame.{Frame}
 use Rattle.frames.specs.Frames.{word, framed, field_at, is_counted, is_raw}

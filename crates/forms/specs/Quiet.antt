@@ -16,7 +16,7 @@ use Rattle.memory.specs.Log.{note_log, counted}
 use Rattle.memory.proofs.LogLaws.{note_length, note_keeps, note_code}
 use Rattle.memory.specs.Served.{served_of, place_of}
 use Rattle.memory.proofs.ByteLaws.{put_length}
-use Rattle.memory.proofs.AccessLaws.{kept}
+use Rattle.memory.specs.AccessLaws.{kept}
 use Rattle.memory.specs.World.{World, Attempt, reply, noted, stored, with_cpu, put_cpu, width_of, served, written, read_value, flush, raw_write, raw_read, try_write, try_read, cpu_of}
 use Rattle.steps.specs.Steps.{refuses_odd}
 use Rattle.access.specs.Access.{bus_error, address_error, read_or, prefetch_read, checked_read, read_at, wrote, checked_write, write_at, trigger}

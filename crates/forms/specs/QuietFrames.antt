@@ -1,5 +1,5 @@
 -- The frames of an entry beside their tests: what log and record show after them is what `fields_test` says.
-use Rattle.std.specs.Prelude.{ℕ, zero, suc, ◌+◌, ◌/◌, ◌%◌, ◌^◌, ◌<◌, ◌≡◌, Bool, true, not, eqb, length, get_or}
+use Rattle.std.specs.Prelude.{ℕ, zero, suc, ◌+◌, ◌%◌, ◌^◌, ◌<◌, ◌≡◌, Bool, true, not, eqb, length, get_or}
 use Rattle.std.proofs.Math.Path.{refl}
 use Rattle.std.proofs.Common.{sym, ap, ◌∙◌, subst, arith}
 use Rattle.std.proofs.Math.Bool.{false}
@@ -16,12 +16,12 @@ use Rattle.frames.specs.declared.Field.{Field}
 use Rattle.frames.specs.declared.Frame.{Frame}
 use Rattle.frames.specs.Frames.{field_at, is_counted, is_raw}
 use Rattle.steps.specs.Steps.{refuses_odd}
-use Rattle.access.specs.Access.{write_at, stack_field, push_field, push_fields, push_frame, short_writes, push_exception_frame68000, trigger}
+use Rattle.access.specs.Access.{write_at, stack_field, push_field, push_fields, trigger}
 use Rattle.images.specs.Images.{frame_bytes, field_address, new_a7, minus_minus, minus_plus}
-use Rattle.forms.specs.Gist.{gist, gist_cpu, minus_below}
+use Rattle.forms.specs.Gist.{gist_cpu}
 use Rattle.forms.specs.Orders.{words6, words8}
 use Rattle.forms.specs.Tests.{field_test, fields_test}
-use Rattle.forms.specs.Quiet.{Booked, Scene, Tale, Turn, gist_tale, scene_get, scene_address, judge_none, book_less, both_both, tale_less, tale_raw, tale_write, tale_turn}
+use Rattle.forms.specs.Quiet.{Booked, Scene, Tale, Turn, scene_get, scene_address, judge_none, book_less, both_both, tale_less, tale_raw, tale_write, tale_turn}
 
 -- ---- one field
 

@@ -1,34 +1,27 @@
 -- The interrupt call beside its closed test: one frame, two, and the two orders of the bus.
-use Rattle.std.specs.Prelude.{ℕ, suc, ◌+◌, ◌/◌, ◌%◌, ◌^◌, ◌<◌, ◌≡◌, refl, Bool, true, false, not, List, [], ◌∷◌, eqb, length}
-use Rattle.std.proofs.Common.{sym, ap, ◌∙◌, subst, arith}
-use Rattle.types.specs.Kinds.{pick, both, is_ec020_plus, is060}
+use Rattle.std.specs.Prelude.{ℕ, suc, ◌≡◌, refl, Bool, true, false, []}
+use Rattle.std.proofs.Common.{arith}
 use Rattle.cpu.specs.declared.Cpu.{Cpu}
-use Rattle.cpu.specs.Fields.{kind_of, pc_of, a7_of, is_faulted, lower_a7, minus32, clear_stopped}
+use Rattle.cpu.specs.Fields.{is_faulted, clear_stopped}
 use Rattle.cpu.specs.Clocks.{has_clocks, internal_cycles}
-use Rattle.status.specs.Status.{get_sr, clear_trace, clear_m, m_is_set, set_int_mask}
+use Rattle.status.specs.Status.{clear_trace, clear_m, set_int_mask}
 use Rattle.status.specs.Banks.{backup_sp, restore_sp, put_s, set_sflag, set_sm_flag_nosp, set_sm_flag, enter_supervisor}
-use Rattle.pending.specs.Interrupts.{pending_level, takes_interrupt, clear_level, charge_interrupt, charged}
+use Rattle.pending.specs.Interrupts.{clear_level, charge_interrupt, charged}
 use Rattle.memory.specs.declared.Bus.{Bus}
-use Rattle.memory.specs.World.{World, Attempt, with_cpu, put_cpu, flush, response_of, acknowledged, cpu_of}
+use Rattle.memory.specs.World.{World, with_cpu, put_cpu, flush, response_of, acknowledged, cpu_of}
 use Rattle.frames.specs.declared.Frame.{Frame}
 use Rattle.frames.specs.Frames.{field_at, is_counted, is_raw}
-use Rattle.steps.specs.Steps.{enter_level, with_s, close_interrupt}
-use Rattle.access.specs.Access.{raised, write_at, push_frame, jump_vector}
-use Rattle.formats.specs.Formats.{format_word, offset_word, short_frame}
-use Rattle.interrupts.specs.Interrupts.{vector_from, acknowledge_level, synced_acknowledge, rest68000, from68000, writes68010, rest68010, rest_other, first_frame, throwaway, second_frame, ended, dispatched, service_interrupt, serviced, check_and_service, push_interrupt68000, push_interrupt68010, push_interrupt_other}
-use Rattle.bounds.specs.Skeleton.{pick_one}
-use Rattle.bounds.specs.Levels.{clash}
-use Rattle.images.specs.Images.{new_a7, frame_bytes, field_address}
-use Rattle.forms.specs.Gist.{gist, framed_by, minus_below}
-use Rattle.forms.specs.Orders.{words6, words8}
-use Rattle.forms.specs.Plans.{Push, turned, stack_all, interrupt_vector, interrupt_frame, throwaways, settles, interrupt_by, interrupt_plan}
-use Rattle.forms.specs.Tests.{AllSafe, field_test, fields_test, stacks_test, reach_test, clean_test, framed_whole, framed_length, safe_level, safe_leave}
-use Rattle.forms.specs.Entries.{turn_form}
-use Rattle.forms.specs.Interrupts.{Framed, vector_at, second_form, seen_level, seen_throw, begun_m, begun_kind, begun_vector, gist_m, gist_kind, gist_vector, entered_kind}
-use Rattle.forms.specs.Quiet.{Booked, Tale, gist_tale, book_less, tale_less, tale_note, tale_flush, tale_cycles, tale_turn}
-use Rattle.forms.specs.QuietFrames.{frame_test, under, under_top, under_kind, lower_turn, fields_tale, tests6, both_true, first}
-use Rattle.forms.specs.QuietJumps.{jump_tale}
-use Rattle.forms.specs.QuietEntries.{Placed, placed_turn, whole_regs}
+use Rattle.steps.specs.Steps.{enter_level, close_interrupt}
+use Rattle.formats.specs.Formats.{short_frame}
+use Rattle.interrupts.specs.Interrupts.{vector_from, acknowledge_level, synced_acknowledge, ended, serviced}
+use Rattle.images.specs.Images.{frame_bytes, field_address}
+use Rattle.forms.specs.Gist.{framed_by}
+use Rattle.forms.specs.Orders.{words8}
+use Rattle.forms.specs.Plans.{throwaways}
+use Rattle.forms.specs.Tests.{AllSafe, field_test, fields_test, framed_whole, framed_length, safe_leave}
+use Rattle.forms.specs.Quiet.{Booked, Tale, tale_note, tale_flush, tale_cycles}
+use Rattle.forms.specs.QuietFrames.{frame_test}
+use Rattle.forms.specs.QuietEntries.{Placed}
 
 -- ---- the acknowledge
 

@@ -1,33 +1,31 @@
 -- Theorems about what specs/Images defines, and what rests on them.
 use Prim.Native.Nat.{ℕ, zero, suc, ◌+◌, ◌-◌, ◌%◌, ◌^◌, ◌≤◌, ◌<◌}
-use Rattle.std.specs.Prelude.{◌≡◌, List, eqb, get_or, set}
+use Rattle.std.specs.Prelude.{◌≡◌, List, eqb, get_or}
 use Rattle.std.proofs.Math.Path.{refl, ap}
-use Rattle.std.proofs.Common.{sym, ◌∙◌, length-set, get_or-set_same}
+use Rattle.std.proofs.Common.{sym, ◌∙◌}
 use Rattle.std.proofs.Math.Bool.{Bool, true, false}
 use Rattle.std.proofs.Math.Logic.{inl, inr}
 use native.Mathlib.Omega.{arith}
-use borrow.Author.Tests.{ltb-true, ltb-false, le-ltb, ne_eqb}
+use borrow.Author.Tests.{ltb-true, ltb-false}
 use Rattle.std.proofs.Math.Dec.{ltb}
 use Rattle.std.proofs.Math.ListN.{length}
 use Rattle.types.specs.Kinds.{pick, is_pre68020, mask_address, address_bits}
 use Rattle.cpu.specs.declared.Cpu.{Cpu}
-use Rattle.cpu.specs.declared.Flow.{Flow}
 use Rattle.cpu.specs.declared.Regs.{Regs}
-use Rattle.cpu.specs.Fields.{kind_of, a7_of, address_of, is_faulted, checks_alignment, set_a7, lower_a7, minus32}
-use Rattle.memory.specs.declared.Core.{Core}
+use Rattle.cpu.specs.Fields.{kind_of, a7_of, address_of, is_faulted, checks_alignment, lower_a7, minus32}
 use Rattle.memory.specs.declared.Bus.{Bus}
 use Rattle.memory.specs.Served.{served_of, place_of}
-use Rattle.memory.specs.World.{World, world, put_cpu, width_of, served, fetched, read_value, cpu_of, with_cpu}
+use Rattle.memory.specs.World.{World, put_cpu, width_of, served, fetched, read_value, cpu_of, with_cpu}
 use Rattle.memory.specs.Runs.{Outside, Apart}
-use Rattle.memory.proofs.ByteLaws.{put, get, Fits, put_length, put_keeps, read_back, read_other}
-use Rattle.memory.proofs.AccessLaws.{kept}
-use Rattle.memory.specs.ServedLaws.{Clear, start, size, served_means, served_if}
+use Rattle.memory.specs.ByteLaws.{get}
+use Rattle.memory.specs.AccessLaws.{kept}
+use Rattle.memory.specs.ServedLaws.{Clear, served_means}
 use Rattle.frames.specs.declared.Field.{Field}
 use Rattle.frames.specs.declared.Frame.{Frame}
 use Rattle.frames.specs.Frames.{field_at, is_counted, is_raw}
 use Rattle.steps.specs.Steps.{refuses_odd}
 use Rattle.access.specs.Access.{Raise, stack_field, push_field, push_fields, push_frame}
-use Rattle.images.specs.Pushes.{calm, served_same, place_same, Kept, Left, laid_field, field_left}
+use Rattle.images.specs.Pushes.{calm, served_same, place_same, laid_field, field_left}
 use Rattle.images.specs.Images.{frame_bytes, field_address, laid, minus_minus, minus_none, minus_below, Allowed, Sound, Framed, laid_field_length, lowered_a7, lowered_regs, lowered_precise, lowered_flow_lem, kind_of_lem, served_of_lem, address_of_lem, bytes_below, address_offset, mask_below, no_wrap, place_above, field_keeps, field_other, field_back, new_a7, bottom, Shape, Ready, SameByte, Image, clash}
 
 -- one push: A7 is lowered by the width and the field laid there

@@ -1,13 +1,10 @@
 -- Theorems about what specs/Lengths defines, and what rests on them.
-use Rattle.std.specs.Prelude.{ℕ, zero, suc, ◌+◌, ◌-◌, ◌<◌, ◌≡◌, refl, Bool, true, false, List, [], ◌∷◌, eqb, ltb, leb, length, get_or}
-use Rattle.std.proofs.Common.{sym, ap, ◌∙◌, arith}
-use Rattle.types.specs.Kinds.{pick, is_pre68020, is040, is060}
-use Rattle.types.specs.Tables.{format_length, takes_format, frame_length}
+use Rattle.std.specs.Prelude.{ℕ, ◌<◌, ◌≡◌, Bool, eqb}
+use Rattle.std.proofs.Common.{◌∙◌}
+use Rattle.types.specs.Kinds.{is_pre68020, is040, is060}
 use Rattle.cpu.specs.declared.Cpu.{Cpu}
 use Rattle.cpu.specs.Fields.{kind_of}
-use Rattle.frames.specs.declared.Frame.{Frame}
-use Rattle.frames.specs.Frames.{field_at, frame68000, frame8, frame2, frame0, frame4, frame7, frame11, address_frame, bus_frame}
-use Rattle.images.specs.Images.{frame_bytes}
+use Rattle.frames.specs.Frames.{address_frame, bus_frame}
 use Rattle.images.specs.Lengths.{length_of, length_68000, length_8, length_2, length_0, length_4, length_7, length_11, bus_format, address_format, error_length, bus_table, address_table, either_length}
 
 -- the frame of a bus error has the length of the table, 14 on kind 1

@@ -1,20 +1,12 @@
 -- Theorems about what specs/Shapes defines, and what rests on them.
-use Rattle.std.specs.Prelude.{ℕ, ◌%◌, ◌≤◌, ◌<◌, ◌≡◌, refl, Bool, true, false, eqb, length}
-use Rattle.std.proofs.Common.{arith, lt-ltb}
-use Rattle.types.specs.Kinds.{pick, either, is_pre68020, is040, is060}
-use Rattle.types.specs.Every.{every, at}
+use Rattle.std.specs.Prelude.{ℕ, refl, Bool, eqb}
+use Rattle.std.proofs.Common.{arith}
+use Rattle.types.specs.Kinds.{is_pre68020, is040, is060}
 use Rattle.cpu.specs.declared.Cpu.{Cpu}
-use Rattle.cpu.specs.Fields.{kind_of, clear_fc_override}
-use Rattle.status.specs.Status.{clear_trace}
-use Rattle.status.specs.Banks.{enter_supervisor, set_sflag, restore_sp, put_s, backup_sp}
-use Rattle.memory.specs.Served.{served_of}
-use Rattle.memory.specs.World.{World, put_cpu, width_of, cpu_of, step}
-use Rattle.frames.specs.declared.Field.{Field}
-use Rattle.frames.specs.declared.Frame.{Frame}
-use Rattle.frames.specs.Frames.{word, field_at, frame68000, frame8, frame2, frame0, frame4, frame7, frame11, address_frame, bus_frame, is_counted, is_raw}
-use Rattle.steps.specs.Steps.{enter_bus_error}
-use Rattle.images.specs.Images.{field_address, new_a7, most_store, Sound, Shape, Ready}
-use Rattle.images.specs.Lengths.{length_of, length_68000, length_8, length_2, length_0, length_4, length_7, length_11}
+use Rattle.cpu.specs.Fields.{kind_of}
+use Rattle.frames.specs.Frames.{field_at, frame8, address_frame, bus_frame, is_counted}
+use Rattle.images.specs.Images.{Shape}
+use Rattle.images.specs.Lengths.{length_8}
 use Rattle.images.specs.Shapes.{short_enough, shape_68000, shape_2, shape_0, shape_4, shape_7, shape_11, either_shape}
 
 shape_8 : (sr ppc v : ℕ) → Shape (frame8 sr ppc v)

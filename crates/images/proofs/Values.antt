@@ -1,22 +1,14 @@
 -- Theorems about what specs/Values defines, and what rests on them.
-use Rattle.std.specs.Prelude.{ℕ, zero, suc, ◌+◌, ◌-◌, ◌*◌, ◌/◌, ◌%◌, ◌^◌, ◌≤◌, ◌<◌, ◌≡◌, refl, Bool, true, false, List, [], ◌∷◌, ◌++◌, eqb, ltb, leb, length, get_or, replicate}
-use Rattle.std.proofs.Common.{sym, ap, ◌∙◌, arith, lt-ltb}
-use Rattle.types.specs.Kinds.{pick, both, is_pre68020, is040, is060}
-use Rattle.cpu.specs.declared.Cpu.{Cpu}
-use Rattle.cpu.specs.Fields.{kind_of, ppc_of, ir_of, wdata_of, has_fc_override, fc_override_of}
-use Rattle.status.specs.Status.{get_sr, compose}
+use Rattle.std.specs.Prelude.{ℕ, ◌+◌, ◌^◌, ◌<◌, ◌≡◌, Bool, false}
+use Rattle.cpu.specs.Fields.{ppc_of, wdata_of}
 use Rattle.status.specs.Banks.{enter_supervisor}
-use Rattle.memory.proofs.ByteLaws.{Fits}
 use Rattle.memory.specs.World.{World, read_value, cpu_of, step}
-use Rattle.frames.specs.declared.Field.{Field}
-use Rattle.frames.specs.declared.Frame.{Frame}
-use Rattle.frames.specs.Frames.{word, long, framed, gap_word, field_at, frame68000, frame8, frame2, frame0, frame4, frame7, frame11, write_data, address_frame, bus_frame, is_counted}
+use Rattle.frames.specs.Frames.{field_at, address_frame, bus_frame, is_counted}
 use Rattle.steps.specs.Steps.{enter_bus_error}
 use Rattle.access.specs.Access.{Raise, push_frame, exception_bus_error, exception_address_error}
-use Rattle.images.specs.Images.{frame_bytes, bottom, Ready, Image, field_value}
+use Rattle.images.specs.Images.{frame_bytes, bottom, Ready, field_value}
 use Rattle.images.specs.Jumps.{Reachable}
 use Rattle.images.proofs.Jumps.{bus_image, address_image}
-use Rattle.frames.specs.Codes.{function_code, is_supervisor, state_code, fault_code, fault_word, size020, ssw020, is_cause, size040, ssw040, wb3s, cause_bit, size060, fslw060}
 use Rattle.images.specs.Values.{bus_fits, address_fits}
 
 module _ (t : Raise) (w : World) (a : ℕ) (write instruction : Bool) (hp : ppc_of (cpu_of w) < 2 ^ 32) (ha : a < 2 ^ 32) where

@@ -1,17 +1,14 @@
 -- Cores that meet the premises, two of them with frames that reach past the top of 24 address bits.
-use Rattle.std.specs.Prelude.{ℕ, ◌+◌, ◌≤◌, ◌<◌, ◌^◌, ◌≡◌, refl, Bool, true, false, List, [], ◌∷◌, eqb, ltb, leb, length, get_or, replicate, set}
+use Rattle.std.specs.Prelude.{ℕ, ◌+◌, ◌<◌, ◌^◌, ◌≡◌, refl, true, false, [], eqb, ltb, replicate}
 use Rattle.std.proofs.Common.{arith, lt-ltb, le-ltb}
-use Rattle.types.specs.Kinds.{pick, is_pre68020, is_prefetch_kind, mask_address, address_bits}
-use Rattle.types.specs.Every.{every, at}
-use Rattle.cpu.specs.declared.Cpu.{Cpu}
-use Rattle.cpu.specs.Fields.{kind_of, a7_of, address_of, is_faulted, checks_alignment, set_a7, minus32, vbr_of}
+use Rattle.types.specs.Kinds.{pick, is_pre68020, mask_address, address_bits}
+use Rattle.types.specs.Every.{at}
+use Rattle.cpu.specs.Fields.{kind_of, a7_of, is_faulted, set_a7, minus32}
 use Rattle.cpu.specs.Fresh.{fresh_cpu, fresh_flow, fresh_regs}
-use Rattle.memory.specs.Served.{meets, clear_of, windows_in_use, in_store, served_of, place_of}
-use Rattle.memory.specs.World.{World, world, served}
-use Rattle.frames.specs.declared.Frame.{Frame}
-use Rattle.frames.specs.declared.Field.{Field}
+use Rattle.memory.specs.Served.{clear_of, windows_in_use, in_store, served_of}
+use Rattle.memory.specs.World.{World, world}
 use Rattle.frames.specs.Frames.{word, field_at, frame0, frame8, frame11, is_counted}
-use Rattle.images.specs.Images.{frame_bytes, Ready, Sound, bottom, ready_whole}
+use Rattle.images.specs.Images.{frame_bytes, Ready, bottom, ready_whole}
 
 -- a fresh record of kind k with A7 as said, no window, and n bytes from base on
 unfoldable pub example : ℕ → ℕ → ℕ → ℕ → World

@@ -1,6 +1,6 @@
 -- The image of a frame whose accesses are served: A7, the fields at their offsets, and every other byte as it was.
 use Prim.Native.Nat.{ℕ, zero, suc, ◌+◌, ◌-◌, ◌%◌, ◌^◌, ◌≤◌, ◌<◌}
-use Rattle.std.specs.Prelude.{◌≡◌, List, eqb, get_or, set}
+use Rattle.std.specs.Prelude.{◌≡◌, List, eqb, get_or}
 use Rattle.std.proofs.Math.Path.{refl, ap}
 use Rattle.std.proofs.Common.{sym, ◌∙◌, length-set, get_or-set_same}
 use Rattle.std.proofs.Math.Bool.{Bool, true, false}
@@ -13,21 +13,19 @@ use Rattle.types.specs.Kinds.{pick, is_pre68020, mask_address, address_bits}
 use Rattle.cpu.specs.declared.Cpu.{Cpu}
 use Rattle.cpu.specs.declared.Flow.{Flow}
 use Rattle.cpu.specs.declared.Regs.{Regs}
-use Rattle.cpu.specs.Fields.{kind_of, a7_of, address_of, is_faulted, checks_alignment, set_a7, lower_a7, minus32}
-use Rattle.memory.specs.declared.Core.{Core}
+use Rattle.cpu.specs.Fields.{kind_of, a7_of, is_faulted, set_a7, lower_a7, minus32}
 use Rattle.memory.specs.declared.Bus.{Bus}
 use Rattle.memory.specs.Served.{served_of, place_of}
-use Rattle.memory.specs.World.{World, world, put_cpu, width_of, served, fetched, read_value, cpu_of, with_cpu}
+use Rattle.memory.specs.World.{World, width_of, served, fetched, read_value, cpu_of}
 use Rattle.memory.specs.Runs.{Outside, Apart}
-use Rattle.memory.proofs.ByteLaws.{put, get, Fits, put_length, put_keeps, read_back, read_other}
-use Rattle.memory.proofs.AccessLaws.{kept}
+use Rattle.memory.specs.ByteLaws.{put, get, Fits}
+use Rattle.memory.proofs.ByteLaws.{put_length, put_keeps, read_back, read_other}
+use Rattle.memory.specs.AccessLaws.{kept}
 use Rattle.memory.specs.ServedLaws.{Clear, start, size, served_means, served_if}
 use Rattle.frames.specs.declared.Field.{Field}
 use Rattle.frames.specs.declared.Frame.{Frame}
 use Rattle.frames.specs.Frames.{field_at, is_counted, is_raw}
-use Rattle.steps.specs.Steps.{refuses_odd}
-use Rattle.access.specs.Access.{Raise, stack_field, push_field, push_fields, push_frame}
-use Rattle.images.specs.Pushes.{calm, served_same, place_same, Kept, Left, laid_field, field_left}
+use Rattle.images.specs.Pushes.{calm, served_same, place_same, laid_field}
 
 -- the bytes of the first k fields of a frame, counted ones too: the offset of field k from the new A7
 unfoldable pub frame_bytes : Frame → ℕ → ℕ

@@ -1,27 +1,20 @@
 -- The jump to a vector whose reads are served stores nothing, so that the image of a frame stands after the whole entry.
-use Rattle.std.specs.Prelude.{ℕ, zero, suc, ◌+◌, ◌*◌, ◌%◌, ◌^◌, ◌<◌, ◌≡◌, refl, Bool, true, false, List, eqb, length}
+use Rattle.std.specs.Prelude.{ℕ, ◌+◌, ◌*◌, ◌%◌, ◌^◌, ◌≡◌, refl, Bool, true, false, eqb, length}
 use Rattle.std.proofs.Common.{sym, ◌∙◌}
 use Rattle.std.proofs.Math.Path.{ap}
-use Rattle.types.specs.Kinds.{pick, is_pre68020, is_prefetch_kind, mask_address}
+use Rattle.types.specs.Kinds.{pick, is_pre68020, mask_address}
 use Rattle.cpu.specs.declared.Cpu.{Cpu}
 use Rattle.cpu.specs.declared.Flow.{Flow}
-use Rattle.cpu.specs.Fields.{kind_of, pc_of, vbr_of, a7_of, address_of, is_faulted, in_exception, cause_number_of, checks_alignment, set_pc, set_exception, start_vector, odd_pc, minus32}
+use Rattle.cpu.specs.Fields.{kind_of, pc_of, vbr_of, address_of, is_faulted, checks_alignment, set_pc, set_exception, start_vector, odd_pc}
 use Rattle.status.specs.Status.{keep_resume}
-use Rattle.status.specs.Banks.{enter_supervisor}
 use Rattle.cpu.specs.Laws.{clocks_kept}
 use Rattle.cpu.specs.Clocks.{prefetch_enabled, one_fetched, internal_cycles, set_clocks, clocks_of, clear_prefetch, first_word, second_word}
-use Rattle.memory.specs.declared.Core.{Core}
-use Rattle.memory.specs.declared.Bus.{Bus}
 use Rattle.memory.specs.Log.{counted}
-use Rattle.memory.specs.Runs.{Apart}
-use Rattle.memory.specs.World.{World, world, Attempt, reply, noted, put_cpu, width_of, served, read_value, flush, release, raw_read, try_read, cpu_of, with_cpu, step}
-use Rattle.frames.specs.declared.Frame.{Frame}
-use Rattle.frames.specs.Frames.{bus_frame, address_frame}
-use Rattle.steps.specs.Steps.{refuses_odd, vector_address, begin_bus, begin_address, enter_bus_error, close_bus}
-use Rattle.access.specs.Access.{Raise, bus_error, address_error, read_or, prefetch_read, kept_first, first_from, prefetch_first, kept_second, second_from, prefetch_second, checked_read, read_at, vector_read, refill, jump_to, jump_vector, push_frame, exception_bus_error, exception_address_error, raise_bus, raise_address, trigger}
-use Rattle.images.specs.Pushes.{calm, served_same, place_same, Kept, kept_trans, Left, flush_left}
-use Rattle.images.specs.Images.{frame_bytes, Shape, Ready, Image, Still, still_trans, read_same, image_still, new_a7, bottom}
-use Rattle.images.specs.Lengths.{length_of, error_length, bus_format, address_format}
+use Rattle.memory.specs.World.{World, Attempt, reply, noted, put_cpu, width_of, served, read_value, flush, release, raw_read, try_read, cpu_of, with_cpu, step}
+use Rattle.steps.specs.Steps.{refuses_odd, vector_address, close_bus}
+use Rattle.access.specs.Access.{Raise, read_or, prefetch_read, kept_first, first_from, prefetch_first, kept_second, second_from, prefetch_second, checked_read, read_at, vector_read, refill, jump_to, jump_vector}
+use Rattle.images.specs.Pushes.{calm, served_same, kept_trans, Left, flush_left}
+use Rattle.images.specs.Images.{Still, still_trans, read_same}
 
 -- flow, registers, windows and store are the same
 abbrev pub Idle : World → World → Type 0

@@ -1,12 +1,10 @@
 -- The lengths of the error frames, and that they are those of the table.
-use Rattle.std.specs.Prelude.{ℕ, zero, suc, ◌+◌, ◌-◌, ◌<◌, ◌≡◌, refl, Bool, true, false, List, [], ◌∷◌, eqb, ltb, leb, length, get_or}
-use Rattle.std.proofs.Common.{sym, ap, ◌∙◌, arith}
+use Rattle.std.specs.Prelude.{ℕ, zero, suc, ◌<◌, ◌≡◌, refl, Bool, true, false, List, [], ◌∷◌, eqb}
+use Rattle.std.proofs.Common.{arith}
 use Rattle.types.specs.Kinds.{pick, is_pre68020, is040, is060}
 use Rattle.types.specs.Tables.{format_length, takes_format, frame_length}
-use Rattle.cpu.specs.declared.Cpu.{Cpu}
-use Rattle.cpu.specs.Fields.{kind_of}
 use Rattle.frames.specs.declared.Frame.{Frame}
-use Rattle.frames.specs.Frames.{field_at, frame68000, frame8, frame2, frame0, frame4, frame7, frame11, address_frame, bus_frame}
+use Rattle.frames.specs.Frames.{field_at, frame68000, frame8, frame2, frame0, frame4, frame7, frame11}
 use Rattle.images.specs.Images.{frame_bytes}
 
 -- the length of a frame in bytes

@@ -1,19 +1,17 @@
 -- What one field of a frame leaves when its access is served: registers, flow and windows as they were, and its bytes.
-use Rattle.std.specs.Prelude.{ℕ, zero, suc, ◌+◌, ◌-◌, ◌%◌, ◌^◌, ◌≤◌, ◌<◌, ◌≡◌, refl, Bool, true, false, List, eqb, length, get_or}
-use Rattle.std.proofs.Common.{sym, ap, ◌∙◌, arith}
+use Rattle.std.specs.Prelude.{ℕ, zero, suc, ◌%◌, ◌≡◌, refl, Bool, true, false, List, eqb}
+use Rattle.std.proofs.Common.{sym, ap, ◌∙◌}
 use Rattle.types.specs.Kinds.{pick, is_pre68020, mask_address}
-use Rattle.cpu.specs.declared.Cpu.{Cpu}
 use Rattle.cpu.specs.declared.Flow.{Flow}
-use Rattle.cpu.specs.declared.Regs.{Regs}
-use Rattle.cpu.specs.Fields.{kind_of, a7_of, address_of, is_faulted, checks_alignment, set_wdata}
+use Rattle.cpu.specs.Fields.{a7_of, address_of, is_faulted, checks_alignment, set_wdata}
 use Rattle.cpu.specs.Clocks.{has_clocks, clocks_of, set_clocks}
-use Rattle.memory.specs.declared.Core.{Core}
 use Rattle.memory.specs.declared.Bus.{Bus}
 use Rattle.memory.specs.Log.{counted}
 use Rattle.memory.specs.Served.{meets, clear_of, windows_in_use, in_store, served_of, place_of}
-use Rattle.memory.specs.World.{World, world, noted, stored, with_cpu, put_cpu, width_of, served, written, flush, raw_write, try_write, cpu_of}
-use Rattle.memory.proofs.ByteLaws.{put}
-use Rattle.memory.proofs.AccessLaws.{kept, write_store}
+use Rattle.memory.specs.World.{World, noted, stored, with_cpu, put_cpu, width_of, served, written, flush, raw_write, try_write, cpu_of}
+use Rattle.memory.specs.ByteLaws.{put}
+use Rattle.memory.specs.AccessLaws.{kept}
+use Rattle.memory.proofs.AccessLaws.{write_store}
 use Rattle.frames.specs.declared.Field.{Field}
 use Rattle.frames.specs.Frames.{is_counted, is_raw}
 use Rattle.steps.specs.Steps.{refuses_odd}

@@ -2,7 +2,7 @@
 -- written field is raw. So an error frame is ready where its written fields are served.
 use Rattle.std.specs.Prelude.{ℕ, ◌%◌, ◌≤◌, ◌<◌, ◌≡◌, refl, Bool, true, false, eqb, length}
 use Rattle.std.proofs.Common.{arith, lt-ltb}
-use Rattle.types.specs.Kinds.{pick, either, is_pre68020, is040, is060}
+use Rattle.types.specs.Kinds.{pick, either, is_pre68020}
 use Rattle.types.specs.Every.{every, at}
 use Rattle.cpu.specs.declared.Cpu.{Cpu}
 use Rattle.cpu.specs.Fields.{kind_of, clear_fc_override}
@@ -15,7 +15,7 @@ use Rattle.frames.specs.declared.Frame.{Frame}
 use Rattle.frames.specs.Frames.{word, field_at, frame68000, frame8, frame2, frame0, frame4, frame7, frame11, address_frame, bus_frame, is_counted, is_raw}
 use Rattle.steps.specs.Steps.{enter_bus_error}
 use Rattle.images.specs.Images.{field_address, new_a7, most_store, Sound, Shape, Ready}
-use Rattle.images.specs.Lengths.{length_of, length_68000, length_8, length_2, length_0, length_4, length_7, length_11}
+use Rattle.images.specs.Lengths.{length_of, length_68000, length_2, length_0, length_4, length_7, length_11}
 
 -- each error frame has the shape
 pub short_enough : (f : Frame) (n : ℕ) → 0 < f.count → is_counted (field_at f 0) ≡ false → length_of f ≡ n → n ≤ 92 → Shape f

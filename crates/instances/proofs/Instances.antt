@@ -1,12 +1,5 @@
 -- Theorems about what specs/Instances defines, and what rests on them.
-use Rattle.std.specs.Prelude.{ℕ, ◌≡◌, refl, true, false, List, length}
-use Rattle.std.proofs.Common.{arith}
-use Rattle.types.specs.declared.FaultCause.TheVariants.{Absent, PageFault}
-use Rattle.answers.specs.declared.Call.TheVariants.{ExceptionBusError}
-use Rattle.instances.specs.Start.{auto, start}
-use Rattle.instances.specs.Rows.{P1, P2, P3, P4, P5, P6, P7, P8, P9, P10, P11, Also, EntersInEachOrder, Leaves, user}
-use Rattle.instances.specs.Computed.{computed}
-use Rattle.instances.specs.Words.{Fine, field}
+use Rattle.instances.specs.Rows.{P1, P2, P3, P4, P5, P6, P7, P8, P9, P10, P11, Also}
 use Rattle.instances.specs.Entries.{p1, p2, p3, p4, p9, p10, p11, also}
 use Rattle.instances.specs.Instances.{p5, p6, p7, p8}
 

@@ -10,7 +10,7 @@ use Rattle.status.specs.Status.{compose, get_sr, decompose, m_under_s, set_sr_no
 use Rattle.memory.specs.Bytes.{put_word, put_long, get_word, get_long}
 use Rattle.memory.specs.Log.{note_log, counted}
 use Rattle.memory.specs.Served.{meets, clear_of, windows_in_use, in_store, served_of, place_of}
-use Rattle.memory.specs.World.{World, put_cpu, with_cpu, stored, noted, served, written, fetched, raw_write, try_write, read_value, raw_read, try_read, flush, release, response_of, acknowledged}
+use Rattle.memory.specs.World.{World, put_cpu, stored, noted, served, written, fetched, raw_write, try_write, read_value, raw_read, try_read, flush, release, response_of, acknowledged}
 use Rattle.frames.specs.Codes.{function_code, is_supervisor, state_code, fault_code, size020, ssw020, is_cause, size040, ssw040, wb3s, cause_bit, size060, fslw060}
 use Rattle.access.specs.Access.{read_or, prefetch_read, kept_first, first_from, prefetch_first, kept_second, second_from, prefetch_second, checked_read, read_at, wrote, checked_write, write_at, stack_field, push_field, push_fields, short_writes, push_exception_frame68000, vector_read, refill, jump_to, jump_vector, push_frame, exception_bus_error, raise_bus, trigger}
 use Rattle.frames.specs.Frames.{field_at, frame4, frame7, frame11, write_data, bus_frame, is_counted, is_raw}

@@ -4,10 +4,9 @@ use Rattle.std.proofs.Common.{arith}
 use Rattle.types.specs.declared.FaultCause.TheVariants.{Absent, PageFault}
 use Rattle.answers.specs.declared.Call.TheVariants.{ExceptionBusError}
 use Rattle.instances.specs.Start.{auto, start}
-use Rattle.instances.specs.Rows.{P1, P2, P3, P4, P5, P6, P7, P8, P9, P10, P11, Also, EntersInEachOrder, Leaves, user}
+use Rattle.instances.specs.Rows.{P5, P6, P7, P8, EntersInEachOrder, Leaves, user}
 use Rattle.instances.specs.Computed.{computed}
 use Rattle.instances.specs.Words.{Fine, field}
-use Rattle.instances.specs.Entries.{p1, p2, p3, p4, p9, p10, p11, also}
 
 vector_255 : EntersInEachOrder 511 255
 unfolding computed

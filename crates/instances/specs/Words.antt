@@ -1,5 +1,5 @@
 -- What a bus error entry leaves on a store of 65,536 bytes, whatever they are: a field of its frame, by the theorems of `images`.
-use Rattle.std.specs.Prelude.{ℕ, suc, ◌+◌, ◌%◌, ◌^◌, ◌≤◌, ◌<◌, ◌≡◌, Bool, true, false, List, length}
+use Rattle.std.specs.Prelude.{ℕ, suc, ◌+◌, ◌%◌, ◌^◌, ◌<◌, ◌≡◌, Bool, true, false, List, length}
 use Rattle.std.proofs.Math.Path.{refl}
 use Rattle.std.proofs.Common.{arith}
 use Rattle.types.specs.declared.FaultCause.{FaultCause}

@@ -1,18 +1,17 @@
 -- Theorems about what specs/ErrorEntries defines, and what rests on them.
-use Rattle.std.specs.Prelude.{ℕ, ◌+◌, ◌-◌, ◌*◌, ◌/◌, ◌%◌, ◌^◌, ◌≤◌, ◌<◌, ◌≡◌, refl, Bool, true, false, cond, eqb}
-use Rattle.std.proofs.Common.{sym, ap, ◌∙◌, subst, arith}
-use Rattle.std.proofs.Math.Option.{Option, none, some}
-use Rattle.types.specs.Kinds.{pick, is_pre68020, is040, is060}
+use Rattle.std.specs.Prelude.{ℕ, ◌%◌, ◌<◌, refl, Bool, true, false}
+use Rattle.std.proofs.Common.{sym, arith}
+use Rattle.std.proofs.Math.Option.{none}
 use Rattle.types.specs.Causes.{cause_number}
 use Rattle.types.specs.declared.FaultCause.{FaultCause}
 use Rattle.cpu.specs.declared.Cpu.{Cpu}
-use Rattle.cpu.specs.Fields.{kind_of, pc_of, ppc_of, ir_of, wdata_of, has_fc_override, fc_override_of}
+use Rattle.cpu.specs.Fields.{kind_of, pc_of, ppc_of, ir_of, wdata_of}
 use Rattle.status.specs.Status.{get_sr}
 use Rattle.status.specs.Banks.{enter_supervisor}
 use Rattle.memory.specs.World.{World, cpu_of}
 use Rattle.frames.specs.declared.Frame.{Frame}
-use Rattle.frames.specs.Frames.{write_data, address_frame, bus_frame, frame68000, frame8, frame2, frame0, frame4, frame7, frame11}
-use Rattle.frames.specs.Codes.{function_code, is_supervisor, state_code, fault_code, fault_word, ssw020, ssw040, wb3s, fslw060}
+use Rattle.frames.specs.Frames.{bus_frame}
+use Rattle.frames.specs.Codes.{fault_word}
 use Rattle.steps.specs.Steps.{enter_bus_error}
 use Rattle.forms.specs.Gist.{gist}
 use Rattle.forms.specs.Plans.{planned, Clean, same, single, address_plan, bus_plan}
@@ -28,13 +27,13 @@ use Rattle.manual.specs.Differences.{own, differences, field_differs}
 use Rattle.manual.specs.Calls.{event, state_by, code_of, fault_by}
 use Rattle.manual.specs.Cells.{Holding}
 use Rattle.manual.specs.Statement.{Agrees}
-use Rattle.manual.specs.Plain.{of, first, early}
+use Rattle.manual.specs.Plain.{of}
 use Rattle.manual.specs.Errors.{fault}
 use Rattle.manual.proofs.Errors.{first_bus_error, first_address_error, second_bus_error, second_address_error, third_bus_error, third_address_error, fourth_bus_error, fourth_address_error, sixth_bus_error, sixth_address_error}
 use Rattle.manual.specs.Errors.{at as with_fault}
-use Rattle.manual.specs.PartLaws.{impossible, Tests, forty, sixty, s_bit_lem}
+use Rattle.manual.specs.PartLaws.{impossible, Tests}
 use Rattle.manual.specs.Lengths.{bus_bytes, address_bytes, bus_error_own_length, address_error_own_length}
-use Rattle.manual.specs.Entries.{Sized, Turn, End, turn_supervisor, turn_bus, end_same, one_agrees, by_frame, size14, size58, size_error2, size_error0, size_error4, size_error7, size_error11}
+use Rattle.manual.specs.Entries.{Turn, End, turn_supervisor, turn_bus, end_same, one_agrees, by_frame}
 use Rattle.manual.specs.ErrorEntries.{code_small, bus_by, address_by, bus_is, address_is, bus_size, address_size}
 
 module _ (s : State) (sr : s.status < 0x10000) (op : s.opcode < 0x10000) (a : ℕ) (write i : Bool) (code datum : ℕ) (l : code < 8) where

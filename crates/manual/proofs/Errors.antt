@@ -1,26 +1,25 @@
 -- Theorems about what specs/Errors defines, and what rests on them.
-use Rattle.std.specs.Prelude.{ℕ, ◌+◌, ◌-◌, ◌*◌, ◌/◌, ◌%◌, ◌^◌, ◌<◌, ◌≡◌, Bool, cond, not, ◌&&◌, ◌||◌, leb}
+use Rattle.std.specs.Prelude.{ℕ, ◌+◌, ◌-◌, ◌*◌, ◌%◌, ◌<◌, Bool, cond, ◌&&◌}
 use Rattle.std.proofs.Math.Path.{refl}
-use Rattle.std.proofs.Common.{sym, ◌∙◌, ap, arith, eqb-true}
+use Rattle.std.proofs.Common.{arith}
 use Rattle.std.proofs.Math.Bool.{true, false}
-use Rattle.std.proofs.Math.Option.{Option, none, some}
+use Rattle.std.proofs.Math.Option.{some}
 use Rattle.std.proofs.Math.Dec.{eqb}
-use Rattle.types.specs.Kinds.{pick, both}
+use Rattle.types.specs.Kinds.{pick}
 use Rattle.types.specs.Causes.{cause_number}
 use Rattle.types.specs.declared.FaultCause.{FaultCause}
 use Rattle.types.specs.declared.FaultCause.TheVariants.{Absent, PointerA, PointerB, Indirect, PageFault, WriteProtect, SupervisorProtect, TableWalkBusError, AccessBusError}
-use Rattle.frames.specs.declared.Frame.{Frame}
 use Rattle.frames.specs.Frames.{field_at, is_counted, frame68000, frame8, frame2, frame0, frame4, frame7, frame11}
-use Rattle.frames.specs.Codes.{size020, ssw020, is_cause, size040, ssw040, wb3s, cause_bit, size060, fslw060}
+use Rattle.frames.specs.Codes.{ssw020, is_cause, ssw040, wb3s, cause_bit, fslw060}
 use Rattle.images.specs.Images.{frame_bytes}
 use Rattle.manual.specs.Parts.{Family, mc68000, mc68010, mc68020, mc68030, mc68040, mc68060}
-use Rattle.manual.specs.State.{State, Fault}
-use Rattle.manual.specs.Vectors.{Class, bus_error, address_error}
-use Rattle.manual.specs.Formats.{Field, Name, word, long, in_word, in_long, flag, only, is_byte, function_code, fault_address, high_byte, byte_transfer, data_output, size, write_back3_size, write_back3_type, transfer_type, transfer_type_of, translation, plain_bus}
-use Rattle.manual.specs.Formats.{size020 as size_b, size040 as size7, size060 as size4}
+use Rattle.manual.specs.State.{State}
+use Rattle.manual.specs.Vectors.{bus_error, address_error}
+use Rattle.manual.specs.Formats.{word, long, in_word, in_long, flag, only, function_code, fault_address, high_byte, byte_transfer, data_output, size, write_back3_size, write_back3_type, transfer_type, transfer_type_of}
+use Rattle.manual.specs.Formats.{size020 as size_b, size040 as size7}
 use Rattle.manual.specs.Exceptions.{fields_of}
-use Rattle.manual.specs.Differences.{Via, by_vector, own, differences, field_differs, not_zero}
-use Rattle.manual.specs.Cells.{look, in_frame, Cell, Holding, is, same_some, part, part_of}
+use Rattle.manual.specs.Differences.{own, differences, field_differs}
+use Rattle.manual.specs.Cells.{look, in_frame, Holding, is}
 use Rattle.manual.specs.Plain.{of}
 use Rattle.manual.specs.Errors.{fits, at, fault, zero_cell, open_cell, q020, q040, q020_is, q020_said, q040_is, q040_said}
 

@@ -1,5 +1,5 @@
 -- Theorems about what specs/Holds defines, and what rests on them.
-use Rattle.std.specs.Prelude.{ℕ, ◌+◌, ◌%◌, ◌<◌, ◌≡◌, Bool, cond, length, get_or}
+use Rattle.std.specs.Prelude.{ℕ, ◌+◌, ◌%◌, ◌<◌, ◌≡◌, Bool, cond}
 use Rattle.std.proofs.Math.Path.{refl}
 use Rattle.std.proofs.Common.{sym, ap, ◌∙◌, subst, arith}
 use Rattle.std.proofs.Math.Bool.{true, false}
@@ -7,8 +7,7 @@ use Rattle.std.proofs.Math.Option.{Option, none, some}
 use Rattle.types.specs.Kinds.{pick, is060}
 use Rattle.types.specs.Causes.{cause_number}
 use Rattle.cpu.specs.declared.Cpu.{Cpu}
-use Rattle.cpu.specs.Fields.{kind_of, pc_of, ppc_of, a7_of, in_exception, rewind_pc}
-use Rattle.status.specs.Status.{get_sr}
+use Rattle.cpu.specs.Fields.{kind_of, pc_of, ppc_of, in_exception, rewind_pc}
 use Rattle.pending.specs.Interrupts.{takes_interrupt}
 use Rattle.memory.specs.World.{World, cpu_of}
 use Rattle.steps.specs.Steps.{stacked_address, stacks_next}
@@ -17,23 +16,21 @@ use Rattle.answers.specs.declared.Call.TheVariants.{TakeException, Trap, TakeGro
 use Rattle.answers.specs.Matters.{matter_of}
 use Rattle.calls.specs.Calls.{begun, restarted, refusal, perform}
 use Rattle.images.specs.Pushes.{calm}
-use Rattle.forms.specs.Gist.{gist, gist_cpu, a7_gist}
+use Rattle.forms.specs.Gist.{gist, gist_cpu}
 use Rattle.forms.specs.Plans.{Plan, planned, Clean, exc_plan, rewound_plan, group2_plan, trace_plan, fp_unimp_plan, fp_disabled_plan, address_plan, bus_plan, interrupt_vector, interrupt_plan}
-use Rattle.forms.specs.Tests.{Whole, clean_test}
+use Rattle.forms.specs.Tests.{clean_test}
 use Rattle.forms.specs.Forms.{plan_of, is_some, no_plan_lem, unless, only_if}
 use Rattle.forms.proofs.Forms.{entry_form, entry_clean}
 use Rattle.forms.specs.Accepted.{accepted_s, accepted_m, accepted_vector, accepted_kind, accepted_floating}
-use Rattle.nest.specs.View.{Store, peek, view}
 use Rattle.nest.specs.Nest.{Sound}
 use Rattle.entered.specs.Pointers.{regs_of, Fit}
-use Rattle.entered.specs.Bytes.{mem, mem_gist}
 use Rattle.entered.specs.Entered.{Inside}
 use Rattle.entered.proofs.Entered.{whole_of}
 use Rattle.manual.specs.Parts.{Family, family_of}
 use Rattle.manual.specs.State.{State}
 use Rattle.manual.specs.Vectors.{Class, instruction, trap, group2, interrupt, bus_error, address_error, fp_unimplemented, fp_disabled, class_of}
 use Rattle.manual.specs.Differences.{by_vector, own, differences}
-use Rattle.manual.specs.Calls.{Event, event, by_number, is_group2, fault_of, operand_of, state_by, state_of, event_of, no_fault}
+use Rattle.manual.specs.Calls.{Event, event, by_number, is_group2, state_by, state_of, event_of, no_fault}
 use Rattle.manual.specs.Statement.{Agrees}
 use Rattle.manual.specs.PartLaws.{Tests, sixty, tests_of_lem}
 use Rattle.manual.specs.Entries.{trap_agrees, privilege_agrees, rewound_agrees, group_agrees, trace_agrees, vector_agrees, unimplemented_agrees, disabled_agrees}

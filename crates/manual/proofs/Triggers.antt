@@ -1,15 +1,14 @@
 -- Theorems about what specs/Triggers defines, and what rests on them.
-use Rattle.std.specs.Prelude.{ℕ, zero, suc, ◌*◌, ◌/◌, ◌%◌, ◌<◌, ◌≡◌, Bool, true, false, ◌⊎◌, eqb}
+use Rattle.std.specs.Prelude.{ℕ, ◌<◌, ◌≡◌, Bool, true, false}
 use Rattle.std.proofs.Math.Path.{refl, sym, ap, subst}
-use Rattle.std.proofs.Common.{◌∙◌, inl, inr, arith}
+use Rattle.std.proofs.Common.{◌∙◌}
 use Rattle.std.proofs.Math.Option.{some}
-use Rattle.types.specs.Kinds.{pick, both, is_pre68020, mask_status}
+use Rattle.types.specs.Kinds.{pick}
 use Rattle.types.specs.Causes.{cause_number}
 use Rattle.types.specs.declared.FaultCause.{FaultCause}
 use Rattle.cpu.specs.declared.Cpu.{Cpu}
-use Rattle.cpu.specs.Fields.{kind_of, pc_of, ppc_of, ir_of, wdata_of, a7_of, vbr_of, is_faulted, in_exception, checks_alignment, cause_number_of, has_fc_override, fc_override_of, set_exception, restore_registers, clear_cause}
-use Rattle.status.specs.Status.{get_sr, s_of, m_under_s, decompose, set_sr_noint_nosp, restore_sr, keep_resume}
-use Rattle.status.proofs.Laws.{drop_m, status_restored}
+use Rattle.cpu.specs.Fields.{kind_of, ppc_of, ir_of, wdata_of, is_faulted, in_exception, cause_number_of, has_fc_override, fc_override_of, set_exception, restore_registers, clear_cause}
+use Rattle.status.specs.Status.{get_sr, keep_resume}
 use Rattle.memory.specs.World.{World, put_cpu, cpu_of, step}
 use Rattle.frames.specs.declared.Frame.{Frame}
 use Rattle.frames.specs.Codes.{is_supervisor, state_code, fault_code}
@@ -28,22 +27,18 @@ use Rattle.images.specs.Images.{Ready}
 use Rattle.forms.specs.Gist.{gist, gist_cpu, framed_by}
 use Rattle.images.specs.Jumps.{Reachable}
 use Rattle.forms.specs.Jumps.{jumped}
-use Rattle.forms.specs.Plans.{Plan, planned, turned, stack_all, AllReady, Clean, single, same, address_plan, bus_plan}
+use Rattle.forms.specs.Plans.{planned, turned, stack_all, AllReady, Clean, single, same, address_plan, bus_plan}
 use Rattle.forms.specs.Entries.{turn_form, seen_bus, address_form, bus_form}
 use Rattle.forms.specs.Accepted.{accepted_kind, accepted_base}
-use Rattle.nest.specs.View.{view}
 use Rattle.nest.specs.Nest.{Sound}
-use Rattle.entered.specs.Pointers.{regs_of, stacks_of, Fit}
-use Rattle.entered.specs.One.{EntersAt, Enters}
-use Rattle.entered.specs.Turns.{enters_bus}
+use Rattle.entered.specs.Pointers.{regs_of}
 use Rattle.manual.specs.Parts.{Family, family_of}
-use Rattle.manual.specs.State.{State}
 use Rattle.manual.specs.Vectors.{bus_error, address_error}
 use Rattle.manual.specs.Differences.{own, differences}
-use Rattle.manual.specs.Calls.{Event, event, state_of}
+use Rattle.manual.specs.Calls.{event, state_of}
 use Rattle.manual.specs.Statement.{Agrees}
-use Rattle.manual.specs.PartLaws.{Tests, tests_of_lem, impossible}
-use Rattle.manual.specs.Entries.{Turn, turn_bus, end_exception}
+use Rattle.manual.specs.PartLaws.{Tests, tests_of_lem}
+use Rattle.manual.specs.Entries.{end_exception}
 use Rattle.manual.proofs.ErrorEntries.{bus_by_lem, address_agrees}
 use Rattle.manual.specs.Holds.{InDomain, agrees_gist}
 use Rattle.manual.specs.Triggers.{restored, trigger_plan, even_base, restored_fits, restored_kind, resumed, turn_inside}

@@ -1,5 +1,5 @@
 -- The record as the manuals' programming model, and the exception that a call is.
-use Rattle.std.specs.Prelude.{ℕ, ◌+◌, ◌%◌, Bool, true, false, cond, ◌||◌, eqb, get_or}
+use Rattle.std.specs.Prelude.{ℕ, ◌+◌, ◌%◌, Bool, false, cond, ◌||◌, eqb, get_or}
 use Rattle.std.proofs.Math.Option.{Option, none, some}
 use Rattle.types.specs.Causes.{cause_number}
 use Rattle.cpu.specs.declared.Cpu.{Cpu}

@@ -1,7 +1,7 @@
 -- THE TABLE of differences from the manuals. A row names the parts, how the exception is called for, the exception, what differs, and when; behind it
 -- stands what a program that runs there would notice. docs/DIFFERENCES.md is written from it.
 -- `Holds` proves that nothing else differs in a direct entry that starts sound and is served, `Shown` that each row does.
-use Rattle.std.specs.Prelude.{ℕ, Bool, true, false, cond, not, ◌&&◌, ◌||◌, List, [], ◌∷◌, eqb, leb}
+use Rattle.std.specs.Prelude.{ℕ, Bool, true, false, not, ◌&&◌, ◌||◌, List, [], ◌∷◌, eqb, leb}
 use Rattle.std.proofs.Math.Option.{Option, none, some}
 use Rattle.manual.specs.Parts.{Family, mc68000, mc68010, mc68020, mc68030, mc68040, mc68060, number, has_master}
 use Rattle.manual.specs.State.{State, is_set}

@@ -1,14 +1,14 @@
 -- An interrupt in the master state: two frames. What lies at A7, A7, status and PC.
-use Rattle.std.specs.Prelude.{ℕ, ◌+◌, ◌-◌, ◌*◌, ◌/◌, ◌%◌, ◌^◌, ◌≤◌, ◌<◌, ◌≡◌, Bool, false, cond, List, [], ◌∷◌}
+use Rattle.std.specs.Prelude.{ℕ, ◌+◌, ◌*◌, ◌%◌, ◌^◌, ◌≤◌, ◌<◌, ◌≡◌, false, cond, []}
 use Rattle.std.proofs.Math.Path.{refl, sym, ap}
-use Rattle.std.proofs.Common.{◌∙◌, subst, inl, inr}
+use Rattle.std.proofs.Common.{◌∙◌, inl, inr}
 use Rattle.std.proofs.Math.Bool.{true}
-use Rattle.std.proofs.Math.Option.{Option, none, some}
+use Rattle.std.proofs.Math.Option.{Option, some}
 use native.Mathlib.Omega.{arith}
 use Rattle.types.specs.Kinds.{mask_address}
 use Rattle.cpu.specs.declared.Cpu.{Cpu}
 use Rattle.cpu.specs.Fields.{kind_of, pc_of, vbr_of, a7_of, address_of, set_a7, set_pc, start_vector, minus32}
-use Rattle.status.specs.Status.{get_sr, compose}
+use Rattle.status.specs.Status.{get_sr}
 use Rattle.status.specs.Banks.{backup_sp, restore_sp, set_sm_flag_nosp, set_sm_flag}
 use Rattle.memory.specs.World.{World, put_cpu, stored, cpu_of}
 use Rattle.memory.specs.Runs.{Outside}

@@ -1,29 +1,26 @@
 -- Each family of entries agrees with the manuals, but where a row stands: the plan's frame, its length, the status, the vector.
-use Rattle.std.specs.Prelude.{ℕ, ◌+◌, ◌-◌, ◌*◌, ◌/◌, ◌%◌, ◌^◌, ◌≤◌, ◌<◌, ◌≡◌, Bool, true, false, not, ◌&&◌, ◌||◌, List, [], ◌∷◌, eqb, ltb, replicate}
+use Rattle.std.specs.Prelude.{ℕ, ◌+◌, ◌*◌, ◌/◌, ◌%◌, ◌^◌, ◌≤◌, ◌<◌, ◌≡◌, Bool, true, false, not, ◌&&◌, ◌||◌, [], eqb, replicate}
 use Rattle.std.proofs.Math.Path.{refl, sym, ap}
-use Rattle.std.proofs.Common.{◌∙◌, subst, arith, eqb-true}
+use Rattle.std.proofs.Common.{◌∙◌, subst, arith}
 use Rattle.std.proofs.Math.Bool.{cond}
 use Rattle.std.proofs.Math.Option.{Option, none, some}
 use Rattle.std.proofs.Math.Dec.{leb}
 use Rattle.types.specs.Every.{at}
 use Rattle.types.proofs.Laws.{pick_holds}
-use Rattle.types.specs.Kinds.{pick, is_pre68020, is040, is060, mask_address}
-use Rattle.types.specs.Causes.{cause_number}
-use Rattle.types.specs.declared.FaultCause.{FaultCause}
+use Rattle.types.specs.Kinds.{pick, mask_address}
 use Rattle.cpu.specs.declared.Cpu.{Cpu}
-use Rattle.cpu.specs.Fields.{kind_of, pc_of, ppc_of, ir_of, vbr_of, a7_of, wdata_of, has_fc_override, fc_override_of, set_exception, rewind_pc, note_fpiar, leave_stop, clear_fc_override}
+use Rattle.cpu.specs.Fields.{kind_of, pc_of, ppc_of, vbr_of, a7_of, set_exception, rewind_pc, note_fpiar, leave_stop, clear_fc_override}
 use Rattle.status.specs.Status.{get_sr, compose, clear_trace}
 use Rattle.status.specs.Banks.{backup_sp, restore_sp, put_s, set_sflag, enter_supervisor}
 use Rattle.memory.specs.World.{World, cpu_of}
 use Rattle.frames.specs.declared.Frame.{Frame}
-use Rattle.frames.specs.Frames.{field_at, is_counted, write_data, address_frame, bus_frame, frame68000, frame8, frame2, frame0, frame4, frame7, frame11}
-use Rattle.frames.specs.Codes.{function_code, is_supervisor, state_code, fault_code, fault_word, ssw020, ssw040, wb3s, fslw060}
+use Rattle.frames.specs.Frames.{field_at, is_counted, frame68000, frame8, frame2, frame0, frame4, frame7, frame11}
 use Rattle.steps.specs.Steps.{enter_bus_error, stacked_address, stacks_next}
 use Rattle.formats.specs.Formats.{format_word, offset_word, short_frame, long_frame, disabled_frame}
 use Rattle.images.specs.Images.{Shape, frame_bytes, new_a7}
 use Rattle.forms.specs.Gist.{gist, gist_cpu}
-use Rattle.forms.specs.Orders.{words6, words8}
-use Rattle.forms.specs.Plans.{Plan, turned, planned, Clean, same, single, short_of, exc_plan, rewound_plan, group2_frame, group2_plan, trace_plan, fp_unimp_plan, fp_disabled_plan, address_plan, bus_plan}
+use Rattle.forms.specs.Orders.{words6}
+use Rattle.forms.specs.Plans.{turned, planned, Clean, same, single, short_of, exc_plan, rewound_plan, group2_frame, group2_plan, trace_plan, fp_unimp_plan, fp_disabled_plan}
 use Rattle.nest.specs.View.{View, set_top, with_sm, nonzero, peek, view}
 use Rattle.nest.specs.Nest.{Sound}
 use Rattle.nest.specs.Banks.{select, with_a7}
@@ -34,22 +31,18 @@ use Rattle.entered.specs.Bytes.{mem}
 use Rattle.entered.specs.One.{Enters, Keeps, keeps_same, one_of, stack_top}
 use Rattle.entered.specs.Does.{status_fits}
 use Rattle.entered.specs.Turns.{enters_supervisor, enters_exception, enters_rewound, enters_trace, enters_fpiar, enters_bus, keeps_end}
-use Rattle.manual.specs.Parts.{Family, mc68000, mc68010, mc68020, mc68030, mc68040, mc68060, lines_of, has_master}
+use Rattle.manual.specs.Parts.{Family, mc68000, mc68010, mc68020, mc68030, mc68040, mc68060, has_master}
 use Rattle.manual.specs.State.{State, Fault, is_set, entered, supervisor_pointer, down, on_pins}
-use Rattle.manual.specs.State.{function_code as code_by}
 use Rattle.manual.specs.Vectors.{Class, instruction, trap, group2, interrupt, bus_error, address_error, protocol, configuration, fp_unimplemented, fp_disabled, vector_at, class_of}
 use Rattle.manual.specs.Exceptions.{fields_of, top_fields, throws_away, first_frame, pointer_after, isp_after, msp_after, status_after}
-use Rattle.manual.specs.Formats.{Field}
 use Rattle.manual.specs.Differences.{Via, by_vector, own, way, differences, field_differs, under_differs, length_differs, status_differs, pc_differs, pins_differ}
-use Rattle.manual.specs.Calls.{Event, event, state_by, code_of, fault_by, no_fault}
+use Rattle.manual.specs.Calls.{Event, event, state_by}
 use Rattle.manual.specs.Cells.{Holding}
 use Rattle.manual.specs.Statement.{Reads, Each, Agrees}
 use Rattle.manual.specs.Single.{Still, Same3, same_3, holding_found, one_stacks, one_pointer, one_reads, one_status, one_pc}
 use Rattle.manual.specs.Plain.{of, first, early, plain, twelve, instruction_cells, trap_cells, group2_cells, vector_group2, vector_interrupt, vector_under, vector_bus_error, vector_address_error, vector_protocol, vector_configuration, unimplemented_cells, disabled_cells}
-use Rattle.manual.specs.Errors.{fault}
-use Rattle.manual.specs.Errors.{at as with_fault}
-use Rattle.manual.specs.PartLaws.{Tests, Three, three_are, impossible, both_true, forty, sixty, pointer_is, entered_status, bus_status, vector_is, pins_are}
-use Rattle.manual.specs.Lengths.{plain_bytes, group2_bytes, bus_bytes, address_bytes, is_interrupt, has_protocol, has_configuration, rule, rules, instruction_by_vector_length, instruction_own_length, trap_by_vector_length, trap_own_length, group2_own_length, group2_by_vector_length, bus_error_own_length, address_error_own_length, bus_error_by_vector_length, address_error_by_vector_length, protocol_length, configuration_length, unimplemented_length, disabled_length, interrupt_by_vector_length, status_is_lem, interrupt_first, no_throw}
+use Rattle.manual.specs.PartLaws.{Tests, Three, three_are, impossible, both_true, sixty, pointer_is, entered_status, bus_status, vector_is, pins_are}
+use Rattle.manual.specs.Lengths.{plain_bytes, group2_bytes, is_interrupt, has_protocol, has_configuration, rule, rules, instruction_by_vector_length, instruction_own_length, trap_by_vector_length, trap_own_length, group2_own_length, group2_by_vector_length, bus_error_by_vector_length, address_error_by_vector_length, protocol_length, configuration_length, unimplemented_length, disabled_length, interrupt_by_vector_length, status_is_lem, interrupt_first, no_throw}
 
 -- ---- one frame, any plan
 

@@ -1,39 +1,23 @@
 -- Both error entries agree with the manuals, but where a row stands.
-use Rattle.std.specs.Prelude.{ℕ, ◌+◌, ◌-◌, ◌*◌, ◌/◌, ◌%◌, ◌^◌, ◌≤◌, ◌<◌, ◌≡◌, refl, Bool, true, false, cond, eqb}
-use Rattle.std.proofs.Common.{sym, ap, ◌∙◌, subst, arith}
-use Rattle.std.proofs.Math.Option.{Option, none, some}
-use Rattle.types.specs.Kinds.{pick, is_pre68020, is040, is060}
-use Rattle.types.specs.Causes.{cause_number}
-use Rattle.types.specs.declared.FaultCause.{FaultCause}
+use Rattle.std.specs.Prelude.{ℕ, ◌-◌, ◌%◌, ◌<◌, ◌≡◌, refl, Bool, true, false, cond, eqb}
+use Rattle.std.proofs.Common.{sym, ap, ◌∙◌, arith}
+use Rattle.std.proofs.Math.Option.{some}
+use Rattle.types.specs.Kinds.{pick}
 use Rattle.cpu.specs.declared.Cpu.{Cpu}
-use Rattle.cpu.specs.Fields.{kind_of, pc_of, ppc_of, ir_of, wdata_of, has_fc_override, fc_override_of}
+use Rattle.cpu.specs.Fields.{kind_of, ppc_of, ir_of, wdata_of, has_fc_override, fc_override_of}
 use Rattle.status.specs.Status.{get_sr}
-use Rattle.status.specs.Banks.{enter_supervisor}
-use Rattle.memory.specs.World.{World, cpu_of}
 use Rattle.frames.specs.declared.Frame.{Frame}
 use Rattle.frames.specs.Frames.{write_data, address_frame, bus_frame, frame68000, frame8, frame2, frame0, frame4, frame7, frame11}
 use Rattle.frames.specs.Codes.{function_code, is_supervisor, state_code, fault_code, fault_word, ssw020, ssw040, wb3s, fslw060}
-use Rattle.steps.specs.Steps.{enter_bus_error}
-use Rattle.forms.specs.Gist.{gist}
-use Rattle.forms.specs.Plans.{planned, Clean, same, single, address_plan, bus_plan}
-use Rattle.nest.specs.Nest.{Sound}
-use Rattle.entered.specs.Pointers.{regs_of, Fit}
-use Rattle.entered.specs.Does.{status_fits}
 use Rattle.manual.specs.Parts.{Family, mc68000, mc68010, mc68020, mc68030, mc68040, mc68060}
-use Rattle.manual.specs.State.{State, Fault, is_set}
+use Rattle.manual.specs.State.{is_set}
 use Rattle.manual.specs.State.{function_code as code_by}
-use Rattle.manual.specs.Vectors.{bus_error, address_error}
-use Rattle.manual.specs.Exceptions.{fields_of, top_fields}
-use Rattle.manual.specs.Differences.{own, differences, field_differs}
-use Rattle.manual.specs.Calls.{event, state_by, code_of, fault_by}
-use Rattle.manual.specs.Cells.{Holding}
-use Rattle.manual.specs.Statement.{Agrees}
-use Rattle.manual.specs.Plain.{of, first, early}
+use Rattle.manual.specs.Calls.{code_of}
+use Rattle.manual.specs.Plain.{first, early}
 use Rattle.manual.specs.Errors.{fault}
-use Rattle.manual.specs.Errors.{at as with_fault}
-use Rattle.manual.specs.PartLaws.{impossible, Tests, forty, sixty, s_bit_lem}
-use Rattle.manual.specs.Lengths.{bus_bytes, address_bytes, bus_error_own_length, address_error_own_length}
-use Rattle.manual.specs.Entries.{Sized, Turn, End, turn_supervisor, turn_bus, end_same, one_agrees, by_frame, size14, size58, size_error2, size_error0, size_error4, size_error7, size_error11}
+use Rattle.manual.specs.PartLaws.{Tests, forty, sixty, s_bit_lem}
+use Rattle.manual.specs.Lengths.{bus_bytes, address_bytes}
+use Rattle.manual.specs.Entries.{Sized, size14, size58, size_error2, size_error0, size_error4, size_error7, size_error11}
 
 -- ---- function codes
 

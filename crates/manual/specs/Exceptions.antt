@@ -1,11 +1,11 @@
 -- Which exception stacks which frame, which address it stacks, and what it leaves: status, stack pointer, vector. The tables of exceptions and
 -- formats: M68000UM 6.3.9, MC68020UM table 6-5, MC68030UM table 8-6, M68040UM table 8-5, MC68060UM table 8-4 (recalled).
-use Rattle.std.specs.Prelude.{ℕ, ◌+◌, ◌-◌, ◌*◌, ◌%◌, Bool, true, false, cond, ◌&&◌, List, [], ◌∷◌}
-use Rattle.std.proofs.Math.Option.{Option, none, some}
+use Rattle.std.specs.Prelude.{ℕ, ◌+◌, ◌-◌, ◌%◌, Bool, false, cond, ◌&&◌, List, []}
+use Rattle.std.proofs.Math.Option.{Option, some}
 use Rattle.manual.specs.Parts.{Family, mc68000, mc68010, mc68020, mc68030, mc68040, mc68060, has_master}
-use Rattle.manual.specs.State.{State, Fault, is_set, entered, interrupted, supervisor_pointer, down}
+use Rattle.manual.specs.State.{State, is_set, entered, interrupted, supervisor_pointer, down}
 use Rattle.manual.specs.Vectors.{Class, instruction, trap, group2, interrupt, bus_error, address_error, protocol, configuration, fp_unimplemented, fp_disabled}
-use Rattle.manual.specs.Formats.{Field, unsaid, format_word, short68000, error68000, format0, format2, format4_disabled, format4_access, format7, format8, format9, format_b}
+use Rattle.manual.specs.Formats.{Field, format_word, short68000, error68000, format0, format2, format4_disabled, format4_access, format7, format8, format9, format_b}
 
 pub data Format : Type 0 where
   short errors : Format  -- the 68000's: 6 and 14 bytes

@@ -1,11 +1,10 @@
 -- Trace and the double fault, as the manuals have them, and that `check_trace` and a trigger inside an entry do so.
-use Rattle.std.specs.Prelude.{ℕ, ◌+◌, ◌*◌, ◌/◌, ◌%◌, ◌^◌, ◌<◌, ◌≡◌, refl, Bool, true, false, cond, ◌&&◌, ◌||◌, eqb}
+use Rattle.std.specs.Prelude.{ℕ, ◌+◌, ◌*◌, ◌/◌, ◌%◌, ◌^◌, ◌≡◌, refl, Bool, true, false, ◌&&◌, ◌||◌, eqb}
 use Rattle.std.proofs.Common.{sym, ap, ◌∙◌, arith}
-use Rattle.std.proofs.Math.Option.{Option, some}
 use Rattle.types.specs.Kinds.{pick}
 use Rattle.cpu.specs.Fields.{is_faulted, in_exception, halted}
-use Rattle.pending.specs.Trace.{asks_trace, set_change_of_flow, check_trace}
-use Rattle.memory.specs.World.{World, put_cpu, with_cpu, cpu_of}
+use Rattle.pending.specs.Trace.{asks_trace, check_trace}
+use Rattle.memory.specs.World.{World, put_cpu, cpu_of}
 use Rattle.access.specs.Access.{raise_bus, trigger}
 use Rattle.answers.specs.declared.Call.TheVariants.{CheckTrace, TriggerBusError}
 use Rattle.numbers.specs.Numbers.{bit}

@@ -1,6 +1,6 @@
 -- THE FRAMES as the manuals draw them: offset, width, bits, field, and its value where the manual defines one. No value: the manual calls the
 -- field internal, unused or unspecified, or it depends on what a call does not say (written `unsaid`).
-use Rattle.std.specs.Prelude.{ℕ, ◌+◌, ◌-◌, ◌*◌, ◌%◌, Bool, true, false, cond, not, ◌&&◌, ◌||◌, List, [], ◌∷◌, eqb}
+use Rattle.std.specs.Prelude.{ℕ, ◌+◌, ◌*◌, ◌%◌, Bool, true, false, cond, not, ◌&&◌, ◌||◌, List, [], ◌∷◌, eqb}
 use Rattle.std.proofs.Math.Option.{Option, none, some}
 use Rattle.manual.specs.State.{Fault}
 

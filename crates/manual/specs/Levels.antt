@@ -1,57 +1,40 @@
 -- The interrupt call agrees with the manuals: one frame, or two in the master state. No row but the vector base and the pins stands for it.
-use Rattle.std.specs.Prelude.{ℕ, zero, suc, ◌+◌, ◌-◌, ◌*◌, ◌/◌, ◌%◌, ◌^◌, ◌≤◌, ◌<◌, ◌≡◌, Bool, not, ◌&&◌, ◌||◌, List, [], ◌∷◌, ltb, get_or}
+use Rattle.std.specs.Prelude.{ℕ, zero, suc, ◌+◌, ◌-◌, ◌*◌, ◌/◌, ◌%◌, ◌^◌, ◌<◌, ◌≡◌, Bool, not, ◌||◌, [], ltb, get_or}
 use Rattle.std.proofs.Math.Path.{refl, sym, ap, subst}
 use Rattle.std.proofs.Common.{◌∙◌, eqb-true}
 use Rattle.std.proofs.Math.Bool.{true, false, cond}
-use Rattle.std.proofs.Math.Option.{Option, none, some}
+use Rattle.std.proofs.Math.Option.{none, some}
 use native.Mathlib.Omega.{arith}
 use Rattle.std.proofs.lemmas.Bool.{eqb-false}
 use Rattle.std.proofs.Math.Dec.{eqb}
-use Rattle.types.specs.Kinds.{pick, either, is_ec020_plus, is060, mask_address}
-use Rattle.types.specs.Vectors.{spurious_interrupt}
+use Rattle.types.specs.Kinds.{pick}
 use Rattle.cpu.specs.declared.Cpu.{Cpu}
-use Rattle.cpu.specs.Fields.{kind_of, pc_of, ppc_of, vbr_of, a7_of, clear_stopped, minus32}
-use Rattle.status.specs.Status.{get_sr, compose, clear_trace, clear_m, set_int_mask, m_is_set}
+use Rattle.cpu.specs.Fields.{kind_of, pc_of, vbr_of, a7_of, clear_stopped}
+use Rattle.status.specs.Status.{get_sr, compose, clear_trace, clear_m, set_int_mask}
 use Rattle.status.specs.Banks.{backup_sp, restore_sp, put_s, set_sflag, set_sm_flag_nosp, enter_supervisor}
 use Rattle.pending.specs.Interrupts.{pending_level, mask_level, takes_interrupt, clear_level, charge_interrupt, charged}
 use Rattle.memory.specs.declared.Bus.{Bus}
 use Rattle.memory.specs.World.{World, response_of, cpu_of}
-use Rattle.frames.specs.declared.Frame.{Frame}
 use Rattle.frames.specs.Frames.{field_at, is_counted}
 use Rattle.steps.specs.Steps.{iack_vector, enter_level}
 use Rattle.steps.specs.Steps.{with_s as engine_s}
-use Rattle.formats.specs.Formats.{format_word, offset_word, short_frame}
-use Rattle.images.specs.Images.{frame_bytes, new_a7}
-use Rattle.forms.specs.Gist.{gist, gist_cpu}
-use Rattle.forms.specs.Orders.{words6, words8}
-use Rattle.forms.specs.Plans.{Plan, turned, planned, Clean, same, interrupt_vector, interrupt_frame, throwaways, settles, interrupt_by, interrupt_plan}
-use Rattle.nest.specs.View.{Regs, View, Bank, set_ptr, sr_mask, master, bank_of, nonzero, view, peek}
-use Rattle.nest.specs.View.{interrupt as interrupt_bank}
-use Rattle.nest.specs.Nest.{Sound}
-use Rattle.nest.specs.Banks.{select, with_a7, with_flags, up_a7}
+use Rattle.images.specs.Images.{frame_bytes}
+use Rattle.forms.specs.Orders.{words8}
+use Rattle.forms.specs.Plans.{interrupt_vector}
+use Rattle.nest.specs.View.{Regs, set_ptr, bank_of, nonzero, view}
+use Rattle.nest.specs.Banks.{select, with_flags}
 use Rattle.nest.specs.Laws.{lower}
-use Rattle.nest.specs.Written.{long_at}
-use Rattle.entered.specs.Pointers.{regs_of, stacks_of, view_of, Fit, clear_m_stacks}
-use Rattle.entered.specs.Bytes.{mem}
-use Rattle.entered.specs.One.{one_of, lowers, turned_stacks, top_of, stack_top}
-use Rattle.entered.specs.Two.{two_of}
-use Rattle.entered.specs.Does.{status_fits}
-use Rattle.entered.specs.Turns.{enters_level, keeps_close}
-use Rattle.manual.specs.Parts.{Family, mc68000, mc68010, mc68020, mc68030, mc68040, mc68060, has_master}
-use Rattle.manual.specs.State.{State, Fault, is_set, interrupted, supervisor_pointer, down, mask}
-use Rattle.manual.specs.Vectors.{interrupt, acknowledged, takes_level}
-use Rattle.manual.specs.Exceptions.{fields_of, throwaway, throws_away, top_fields, pointer_after, isp_after, msp_after, status_after, first_frame, length_of, with_s}
-use Rattle.manual.specs.Differences.{own, differences, field_differs, under_differs, length_differs, status_differs}
-use Rattle.manual.specs.Calls.{event, state_by, response_for}
-use Rattle.manual.specs.Formats.{Field}
-use Rattle.manual.specs.Cells.{part_of, in_frame, Holding}
-use Rattle.manual.specs.Statement.{Reads, Each, Apart, Agrees}
-use Rattle.manual.specs.Single.{Still, Same3, same_3, Within, holding_found, holding_within}
-use Rattle.manual.specs.Double.{two_pointer, two_stacks_lem, two_a7, two_reads, two_status, two_pc, two_under}
-use Rattle.manual.specs.Plain.{of, first, early, second, level, interrupt_cells, under_cells, throwaway_cells}
-use Rattle.manual.specs.PartLaws.{Tests, impossible, mask_bits, sixty, no_m, sound_m, sound_mask, clear_none, sixty_is}
-use Rattle.manual.specs.Lengths.{plain_bytes, interrupt_own_length}
-use Rattle.manual.specs.Entries.{Sized, End, still_same, still_supervisor, settled_agrees, flags_status, pointer_of, usp_of, vector_of_lem, pins_of, kind_gist, size6, size8}
+use Rattle.entered.specs.Pointers.{stacks_of, clear_m_stacks}
+use Rattle.entered.specs.Turns.{keeps_close}
+use Rattle.manual.specs.Parts.{Family, mc68000, mc68010, mc68020, mc68030, mc68040, mc68060}
+use Rattle.manual.specs.State.{Fault, down, mask}
+use Rattle.manual.specs.Vectors.{acknowledged, takes_level}
+use Rattle.manual.specs.Calls.{state_by, response_for}
+use Rattle.manual.specs.Single.{Still, Same3}
+use Rattle.manual.specs.Plain.{first, level}
+use Rattle.manual.specs.PartLaws.{impossible, mask_bits}
+use Rattle.manual.specs.Lengths.{plain_bytes}
+use Rattle.manual.specs.Entries.{Sized, End, still_supervisor, size6, size8}
 
 -- ---- the vector, and when an interrupt is taken
 

@@ -11,7 +11,7 @@ use Rattle.cpu.specs.Groups.{with_regs, with_flags}
 use Rattle.cpu.specs.Fields.{kind_of, a7_of}
 use Rattle.cpu.specs.Fresh.{fresh_cpu}
 use Rattle.status.specs.Status.{get_sr, put_back_sr}
-use Rattle.status.proofs.Laws.{drop_m}
+use Rattle.status.specs.Laws.{drop_m}
 use Rattle.memory.specs.World.{World, world, cpu_of}
 use Rattle.answers.specs.declared.Call.TheVariants.{TriggerBusError, ExceptionBusError}
 use Rattle.answers.specs.Answers.{plain}

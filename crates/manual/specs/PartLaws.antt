@@ -1,5 +1,5 @@
 -- What follows from the part: the engine's tests of the kind, the stack in use, the status, the vector's address and the pins.
-use Rattle.std.specs.Prelude.{ℕ, zero, suc, ◌+◌, ◌-◌, ◌*◌, ◌/◌, ◌%◌, ◌^◌, ◌≤◌, ◌<◌, ◌≡◌, refl, Bool, true, false, cond, not, ◌&&◌, ◌||◌, List, [], ◌∷◌, eqb, ltb, leb, get_or, replicate}
+use Rattle.std.specs.Prelude.{ℕ, zero, suc, ◌+◌, ◌-◌, ◌*◌, ◌/◌, ◌%◌, ◌^◌, ◌<◌, ◌≡◌, refl, Bool, true, false, cond, not, ◌&&◌, ◌||◌, [], eqb, ltb, leb, replicate}
 use Rattle.std.proofs.Common.{sym, ap, ◌∙◌, subst, arith, eqb-true, leb-false}
 use Rattle.std.proofs.Math.Option.{Option, none, some}
 use Rattle.std.specs.Int.Bits.{bit_and}
@@ -8,17 +8,17 @@ use Rattle.types.specs.Kinds.{pick, is_pre68020, is_ec020_plus, is040, is060, ma
 use Rattle.types.specs.Every.{at}
 use Rattle.cpu.specs.declared.Cpu.{Cpu}
 use Rattle.cpu.specs.Fields.{kind_of}
-use Rattle.status.specs.Status.{get_sr, compose, clear_trace, clear_m, set_int_mask}
-use Rattle.status.specs.Banks.{backup_sp, restore_sp, put_s, set_sflag, set_sm_flag_nosp, set_sm_flag, enter_supervisor}
-use Rattle.steps.specs.Steps.{enter_bus_error, enter_level}
+use Rattle.status.specs.Status.{get_sr, compose, clear_trace, clear_m}
+use Rattle.status.specs.Banks.{backup_sp, restore_sp, put_s, set_sflag, enter_supervisor}
+use Rattle.steps.specs.Steps.{enter_bus_error}
 use Rattle.cpu.specs.Fields.{clear_fc_override}
-use Rattle.nest.specs.View.{Regs, View, sr_mask, under, m_bit, bank_of, ptr, set_ptr, top, set_top, with_sm, nonzero, view}
+use Rattle.nest.specs.View.{View, sr_mask, under, m_bit, bank_of, ptr, set_ptr, top, set_top, with_sm, nonzero, view}
 use Rattle.nest.specs.Nest.{Sound}
 use Rattle.nest.specs.Reading.{view_kind, view_m}
 use Rattle.entered.specs.Pointers.{regs_of, stacks_of, view_of}
 use Rattle.entered.specs.One.{stack_top}
 use Rattle.manual.specs.Parts.{Family, mc68000, mc68010, mc68020, mc68030, mc68040, mc68060, family_of, lines_of, has_master}
-use Rattle.manual.specs.State.{State, is_set, entered, interrupted, supervisor_pointer, on_pins}
+use Rattle.manual.specs.State.{State, is_set, entered, interrupted, on_pins}
 use Rattle.manual.specs.Vectors.{Class, instruction, trap, group2, interrupt, bus_error, address_error, protocol, configuration, fp_unimplemented, fp_disabled, vector_at}
 use Rattle.manual.specs.Differences.{Via, by_vector, own, differences, pc_differs, pins_differ}
 use Rattle.manual.specs.Plain.{of, first, early, second}

@@ -1,6 +1,6 @@
 -- The parts that Motorola's manuals cover, by the numbers of `CpuType`. Kind 0 is no part. Kind 10, the SCC68070, is Philips': no manual of
 -- Motorola covers it.
-use Rattle.std.specs.Prelude.{ℕ, Bool, cond, ◌||◌, List, [], ◌∷◌, eqb, get_or}
+use Rattle.std.specs.Prelude.{ℕ, Bool, cond, ◌||◌, [], ◌∷◌, eqb, get_or}
 use Rattle.std.proofs.Math.Option.{Option, none, some}
 
 -- by manual: M68000UM covers the 68000 and 68010, MC68020UM the 68020 and 68EC020, MC68030UM the 68030, MC68EC030UM the 68EC030, M68040UM the 68040,

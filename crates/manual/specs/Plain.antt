@@ -1,9 +1,9 @@
 -- The frames of exceptions that are no errors hold what the manuals' tables say, but where a row of the table of differences stands.
-use Rattle.std.specs.Prelude.{ℕ, ◌+◌, ◌-◌, ◌*◌, ◌/◌, ◌%◌, ◌^◌, ◌<◌, ◌≡◌, refl, Bool, cond, ◌||◌, eqb, leb}
+use Rattle.std.specs.Prelude.{ℕ, ◌+◌, ◌*◌, ◌/◌, ◌%◌, ◌^◌, ◌<◌, ◌≡◌, refl, Bool, cond, ◌||◌, eqb, leb}
 use Rattle.std.proofs.Math.Path.{sym}
 use Rattle.std.proofs.Common.{◌∙◌, arith}
 use Rattle.std.proofs.Math.Bool.{true, false}
-use Rattle.std.proofs.Math.Option.{Option, none, some}
+use Rattle.std.proofs.Math.Option.{none, some}
 use Rattle.types.specs.Kinds.{pick}
 use Rattle.frames.specs.declared.Frame.{Frame}
 use Rattle.frames.specs.Frames.{field_at, is_counted}
@@ -12,7 +12,7 @@ use Rattle.images.specs.Images.{frame_bytes}
 use Rattle.forms.specs.Orders.{words6, words8}
 use Rattle.manual.specs.Parts.{Family, mc68000, mc68010, mc68020, mc68030, mc68040, mc68060}
 use Rattle.manual.specs.State.{State}
-use Rattle.manual.specs.Vectors.{Class, instruction, trap, group2, interrupt, bus_error, address_error, protocol, configuration, fp_unimplemented, fp_disabled}
+use Rattle.manual.specs.Vectors.{instruction, trap, group2, interrupt, bus_error, address_error, protocol, configuration, fp_unimplemented, fp_disabled}
 use Rattle.manual.specs.Exceptions.{fields_of, throwaway, top_fields}
 use Rattle.manual.specs.Differences.{Via, by_vector, own, differences, field_differs, under_differs}
 use Rattle.manual.specs.Cells.{look, in_frame, Holding, is}

@@ -1,13 +1,13 @@
 -- A return that is accepted restores what RTE restores: the status under the part's bits, the stacked address as PC, the stack pointer raised by the bytes of the
 -- format; after a frame of format 1 the frame on the stack that its status selects. And the formats taken are the manuals' but for the rows.
-use Rattle.std.specs.Prelude.{ℕ, ◌+◌, ◌*◌, ◌/◌, ◌%◌, ◌^◌, ◌<◌, ◌≡◌, Bool, cond, not, ◌&&◌, ◌||◌, List, [], ◌∷◌, ltb, leb, length, get_or, replicate}
+use Rattle.std.specs.Prelude.{ℕ, ◌+◌, ◌*◌, ◌/◌, ◌%◌, ◌<◌, ◌≡◌, Bool, cond, not, ◌&&◌, ◌||◌, List, [], ◌∷◌, length, get_or, replicate}
 use Rattle.std.proofs.Math.Path.{refl}
 use Rattle.std.proofs.Common.{sym, ap, ◌∙◌, subst, arith}
 use Rattle.std.proofs.Math.Bool.{true, false}
 use Rattle.std.proofs.Math.Option.{Option, none, some}
 use borrow.Author.Tests.{eqb-true, eqb-false}
 use Rattle.std.proofs.Math.Dec.{eqb}
-use Rattle.types.specs.Kinds.{pick, either, both, is040, is060, has_t0, has_m, mask_status}
+use Rattle.types.specs.Kinds.{pick, is040, is060, has_t0, has_m, mask_status}
 use Rattle.types.specs.Tables.{format_length, takes_format, frame_length}
 use Rattle.types.specs.Every.{every, at}
 use Rattle.cpu.specs.declared.Cpu.{Cpu}
@@ -18,15 +18,14 @@ use Rattle.memory.specs.declared.Core.{Core}
 use Rattle.memory.specs.Served.{place_of}
 use Rattle.memory.specs.World.{put_cpu}
 use Rattle.unwind.specs.declared.frames.Frame.{Frame}
-use Rattle.unwind.specs.declared.returns.Back.{Back}
 use Rattle.unwind.specs.Frames.{Sight, byte_address, byte_of, word_of, long_of, head_of, all_served, refused_frame, taken_frame, sized_frame, format_frame, odd_pointer, frame_of}
-use Rattle.unwind.specs.Returns.{in_user, take_frame, row_of, refused_back, done_back, second_back, first_back, back}
+use Rattle.unwind.specs.Returns.{in_user, take_frame, refused_back, done_back, second_back, first_back, back}
 use Rattle.unwind.specs.Unwind.{refusal, sight_of, returned, return_from}
 use Rattle.unwind.proofs.Laws.{take_status}
 use Rattle.nest.specs.View.{settle, view}
 use Rattle.entered.specs.Pointers.{regs_of, Fit}
 use Rattle.rule3.specs.Taken.{take_view, take_fit, take_kind}
-use Rattle.manual.specs.Parts.{Family, mc68000, mc68010, mc68020, mc68030, mc68040, mc68060, family_of, number}
+use Rattle.manual.specs.Parts.{Family, family_of, number}
 use Rattle.manual.specs.Returns.{Untaken, rte_bytes, return_differences, in_rows, implemented}
 use Rattle.manual.specs.Plain.{first}
 use Rattle.manual.specs.PartLaws.{impossible, same, same_is, both_true, tests_of_lem}

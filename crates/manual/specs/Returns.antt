@@ -1,7 +1,6 @@
 -- RTE as the manuals have it: which formats a part takes, how many bytes, and what is restored. M68000PRM, RTE; M68000UM 6.3.9, MC68020UM 6.3,
 -- MC68030UM 8.4, M68040UM 8.4, MC68060UM 8.4 (recalled). Any other format makes a format error, vector 14; in the user state RTE is a privilege violation.
-use Rattle.std.specs.Prelude.{ℕ, ◌+◌, ◌*◌, ◌/◌, ◌%◌, Bool, true, false, cond, ◌&&◌, ◌||◌, List, [], ◌∷◌, eqb, get_or}
-use Rattle.std.proofs.Math.Option.{Option, none, some}
+use Rattle.std.specs.Prelude.{ℕ, ◌+◌, ◌*◌, ◌/◌, ◌%◌, Bool, false, cond, ◌&&◌, ◌||◌, List, [], ◌∷◌, eqb, get_or}
 use Rattle.manual.specs.Parts.{Family, mc68000, mc68010, mc68020, mc68030, mc68040, mc68060, number}
 
 -- bytes by format, from 0 on; 0: not taken. The 68000 has no format word and takes 6

@@ -1,11 +1,11 @@
 -- EACH ROW of the table of differences is one: a smallest input, on each kind that it names, and there the manual's value and ours, computed from `perform`.
-use Rattle.std.specs.Prelude.{ℕ, zero, suc, ◌+◌, ◌*◌, ◌%◌, ◌≡◌, refl, Bool, true, false, cond, not, ◌&&◌, ◌||◌, List, [], ◌∷◌, eqb, leb, set, replicate, get_or, length}
+use Rattle.std.specs.Prelude.{ℕ, zero, suc, ◌+◌, ◌%◌, ◌≡◌, refl, Bool, true, false, cond, not, ◌&&◌, ◌||◌, List, [], ◌∷◌, eqb, set, replicate, get_or}
 use Rattle.std.proofs.Math.Option.{Option, none, some}
 use Rattle.types.specs.Kinds.{mask_address}
 use Rattle.types.specs.declared.FaultCause.TheVariants.{Absent, AccessBusError}
 use Rattle.cpu.specs.declared.Cpu.{Cpu}
 use Rattle.cpu.specs.Setters.{with_sp, with_mmu_fc_override}
-use Rattle.cpu.specs.Fields.{kind_of, pc_of, a7_of, set_a7, set_pc, set_wdata}
+use Rattle.cpu.specs.Fields.{pc_of, a7_of, set_a7, set_pc, set_wdata}
 use Rattle.cpu.specs.Fresh.{fresh_cpu}
 use Rattle.status.specs.Status.{get_sr, put_back_sr}
 use Rattle.pending.specs.Interrupts.{set_irq}

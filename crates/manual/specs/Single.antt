@@ -1,15 +1,14 @@
 -- An entry of one frame, whatever its frame: what lies in the store, A7, status and PC.
-use Rattle.std.specs.Prelude.{ℕ, ◌+◌, ◌-◌, ◌*◌, ◌/◌, ◌%◌, ◌^◌, ◌≤◌, ◌<◌, ◌≡◌, Bool, false, cond, List, [], ◌∷◌}
+use Rattle.std.specs.Prelude.{ℕ, ◌+◌, ◌*◌, ◌%◌, ◌^◌, ◌≤◌, ◌<◌, ◌≡◌, Bool, false, cond, List, [], ◌∷◌}
 use Rattle.std.proofs.Math.Path.{refl, sym, ap}
-use Rattle.std.proofs.Common.{◌∙◌, subst}
+use Rattle.std.proofs.Common.{◌∙◌}
 use Rattle.std.proofs.Math.Bool.{true}
 use Rattle.std.proofs.Math.Option.{Option, none, some}
 use native.Mathlib.Omega.{arith}
 use Rattle.types.specs.Kinds.{mask_address}
 use Rattle.cpu.specs.declared.Cpu.{Cpu}
-use Rattle.cpu.specs.declared.Flags.{Flags}
 use Rattle.cpu.specs.Fields.{kind_of, pc_of, vbr_of, a7_of, address_of, set_a7, set_pc, start_vector, minus32}
-use Rattle.status.specs.Status.{get_sr, compose}
+use Rattle.status.specs.Status.{get_sr}
 use Rattle.memory.specs.World.{World, put_cpu, stored, cpu_of}
 use Rattle.frames.specs.declared.Frame.{Frame}
 use Rattle.steps.specs.Steps.{vector_address}
@@ -28,7 +27,6 @@ use Rattle.entered.specs.Bytes.{mem, long_read, turned_mem, jumped_mem}
 use Rattle.entered.specs.Heads.{framed_image}
 use Rattle.entered.specs.One.{Enters, Keeps, one_of, turned_stacks, turned_fit, turned_kind, turned_gist, jumped_stacks, framed_stacks, framed_kind, top_of, lowers, stack_top}
 use Rattle.manual.specs.Formats.{Field}
-use Rattle.manual.specs.Differences.{Row, Via}
 use Rattle.manual.specs.Cells.{part_of, read_at, in_frame, Cell, Holding, frame_back}
 use Rattle.manual.specs.Statement.{Reads, Each}
 

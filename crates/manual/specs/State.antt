@@ -1,5 +1,5 @@
 -- The programming model as the manuals have it, M68000PRM section 1, and what the outside gives an exception: numbers only.
-use Rattle.std.specs.Prelude.{ℕ, ◌+◌, ◌-◌, ◌*◌, ◌/◌, ◌%◌, ◌^◌, Bool, true, false, cond, ◌&&◌, eqb}
+use Rattle.std.specs.Prelude.{ℕ, ◌+◌, ◌-◌, ◌*◌, ◌/◌, ◌%◌, ◌^◌, Bool, cond, ◌&&◌, eqb}
 use Rattle.std.proofs.Math.Option.{Option}
 use Rattle.manual.specs.Parts.{Family, has_master}
 

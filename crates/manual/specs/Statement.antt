@@ -1,7 +1,7 @@
 -- WHAT IS CLAIMED of an entry: the frame at A7, the frame under it, A7, status and PC are the manual's, wherever it defines them and no row of the table of
 -- differences stands. Bytes are those of the store; its addresses are those that the kind masks, and `pins` says when these are the part's.
-use Rattle.std.specs.Prelude.{ℕ, ◌+◌, ◌%◌, ◌≤◌, ◌<◌, ◌≡◌, Bool, true, false, cond, ◌&&◌, ◌⊎◌, List, [], ◌∷◌}
-use Rattle.std.proofs.Math.Option.{Option, some}
+use Rattle.std.specs.Prelude.{ℕ, ◌+◌, ◌%◌, ◌≤◌, ◌≡◌, Bool, true, false, cond, ◌&&◌, ◌⊎◌, List, [], ◌∷◌}
+use Rattle.std.proofs.Math.Option.{some}
 use Rattle.types.specs.Kinds.{mask_address}
 use Rattle.cpu.specs.Fields.{kind_of, pc_of, a7_of}
 use Rattle.status.specs.Status.{get_sr}

@@ -1,51 +1,31 @@
 -- THE TRIGGERS. One that no number refuses, on a record that runs, outside an entry where it is a bus error, puts back status and registers as they were
 -- before the instruction; then it leaves what the manuals define for the error in that state, but for the rows of the table of differences.
 use Rattle.std.specs.Prelude.{ℕ, zero, suc, ◌*◌, ◌/◌, ◌%◌, ◌<◌, ◌≡◌, Bool, true, false, ◌⊎◌, eqb}
-use Rattle.std.proofs.Math.Path.{refl, sym, ap, subst}
-use Rattle.std.proofs.Common.{◌∙◌, inl, inr, arith}
-use Rattle.std.proofs.Math.Option.{some}
+use Rattle.std.proofs.Math.Path.{refl, subst}
+use Rattle.std.proofs.Common.{inl, inr, arith}
 use Rattle.types.specs.Kinds.{pick, both, is_pre68020, mask_status}
-use Rattle.types.specs.Causes.{cause_number}
-use Rattle.types.specs.declared.FaultCause.{FaultCause}
 use Rattle.cpu.specs.declared.Cpu.{Cpu}
-use Rattle.cpu.specs.Fields.{kind_of, pc_of, ppc_of, ir_of, wdata_of, a7_of, vbr_of, is_faulted, in_exception, checks_alignment, cause_number_of, has_fc_override, fc_override_of, set_exception, restore_registers, clear_cause}
+use Rattle.cpu.specs.Fields.{kind_of, pc_of, a7_of, vbr_of, checks_alignment, set_exception, restore_registers}
 use Rattle.status.specs.Status.{get_sr, s_of, m_under_s, decompose, set_sr_noint_nosp, restore_sr, keep_resume}
-use Rattle.status.proofs.Laws.{drop_m, status_restored}
+use Rattle.status.specs.Laws.{drop_m}
+use Rattle.status.proofs.Laws.{status_restored}
 use Rattle.memory.specs.World.{World, put_cpu, cpu_of, step}
-use Rattle.frames.specs.declared.Frame.{Frame}
-use Rattle.frames.specs.Codes.{is_supervisor, state_code, fault_code}
-use Rattle.frames.specs.Frames.{write_data, bus_frame}
+use Rattle.frames.specs.Frames.{bus_frame}
 use Rattle.refusals.specs.Refusals.{odd_base}
-use Rattle.steps.specs.Steps.{begin_bus, begin_address, close_bus, enter_bus_error}
-use Rattle.access.specs.Access.{raise_bus, raise_address, raised, exception_bus_error, exception_address_error}
-use Rattle.access.specs.Access.{bus_error as bus}
-use Rattle.bounds.specs.Levels.{Domain}
-use Rattle.bounds.proofs.Again.{again}
-use Rattle.answers.specs.declared.Call.TheVariants.{TriggerBusError, TriggerAddressError, ExceptionBusError, ExceptionAddressError}
-use Rattle.answers.specs.Answers.{plain}
-use Rattle.calls.specs.Calls.{run, begun, restarted, refusal, perform}
-use Rattle.images.specs.Pushes.{calm}
-use Rattle.images.specs.Images.{Ready}
-use Rattle.forms.specs.Gist.{gist, gist_cpu, framed_by}
-use Rattle.images.specs.Jumps.{Reachable}
-use Rattle.forms.specs.Jumps.{jumped}
-use Rattle.forms.specs.Plans.{Plan, planned, turned, stack_all, AllReady, Clean, single, same, address_plan, bus_plan}
-use Rattle.forms.specs.Entries.{turn_form, seen_bus, address_form, bus_form}
-use Rattle.forms.specs.Accepted.{accepted_kind, accepted_base}
+use Rattle.steps.specs.Steps.{begin_address, enter_bus_error}
+use Rattle.forms.specs.Gist.{gist, gist_cpu}
+use Rattle.forms.specs.Plans.{Plan, single}
 use Rattle.nest.specs.View.{view}
-use Rattle.nest.specs.Nest.{Sound}
 use Rattle.entered.specs.Pointers.{regs_of, stacks_of, Fit}
 use Rattle.entered.specs.One.{EntersAt, Enters}
 use Rattle.entered.specs.Turns.{enters_bus}
-use Rattle.manual.specs.Parts.{Family, family_of}
 use Rattle.manual.specs.State.{State}
-use Rattle.manual.specs.Vectors.{bus_error, address_error}
-use Rattle.manual.specs.Differences.{own, differences}
-use Rattle.manual.specs.Calls.{Event, event, state_of}
+use Rattle.manual.specs.Differences.{differences}
+use Rattle.manual.specs.Calls.{Event}
 use Rattle.manual.specs.Statement.{Agrees}
-use Rattle.manual.specs.PartLaws.{Tests, tests_of_lem, impossible}
-use Rattle.manual.specs.Entries.{Turn, turn_bus, end_exception}
-use Rattle.manual.specs.Holds.{InDomain, agrees_gist}
+use Rattle.manual.specs.PartLaws.{impossible}
+use Rattle.manual.specs.Entries.{Turn, turn_bus}
+use Rattle.manual.specs.Holds.{InDomain}
 
 -- status and registers as saved before the instruction; where S is clear M is cleared, as the Rust does, which no manual has (docs/DIFFERENCES.md)
 abbrev pub restored : World → World

@@ -1,8 +1,8 @@
 -- Exception vectors: which number is which exception, and where its vector lies. M68000UM table 6-2, MC68020UM table 6-1, MC68030UM table 8-1,
 -- M68040UM table 8-1, MC68060UM table 8-1 (recalled). What an exception is named after here is how it is processed.
-use Rattle.std.specs.Prelude.{ℕ, ◌+◌, ◌*◌, ◌%◌, Bool, true, false, cond, not, ◌&&◌, ◌||◌, eqb, ltb, leb}
+use Rattle.std.specs.Prelude.{ℕ, ◌+◌, ◌*◌, ◌%◌, Bool, cond, not, ◌&&◌, ◌||◌, eqb, ltb, leb}
 use Rattle.std.proofs.Math.Option.{Option, none, some}
-use Rattle.manual.specs.Parts.{Family, mc68000, mc68010, mc68020, mc68030, mc68040, mc68060, number}
+use Rattle.manual.specs.Parts.{Family, number}
 use Rattle.manual.specs.State.{State, mask}
 
 pub data Class : Type 0 where

@@ -1,4 +1,4 @@
--- What an access leaves, served or not: the store, the log, and what is read then.
+-- Theorems about what specs/AccessLaws defines, and what rests on them.
 use Rattle.std.specs.Prelude.{ℕ, zero, suc, ◌+◌, ◌-◌, ◌%◌, ◌^◌, ◌≤◌, ◌<◌, ◌≡◌, Bool, get_or}
 use Rattle.std.proofs.Math.Path.{refl}
 use Rattle.std.proofs.Common.{sym, ap, ◌∙◌, le-ltb}
@@ -13,16 +13,12 @@ use Rattle.memory.specs.Log.{counted}
 use Rattle.memory.specs.Served.{meets, clear_of, windows_in_use, in_store, served_of, place_of}
 use Rattle.memory.specs.World.{World, noted, stored, width_of, served, written, fetched, raw_write, read_value, raw_read}
 use Rattle.memory.specs.Runs.{Outside, Apart}
-use Rattle.memory.proofs.ByteLaws.{put, get, Fits, put_length, put_keeps, put_comm, read_back, read_other, AllBytes, put_small}
-use Rattle.memory.proofs.LogLaws.{Logged, noted_one}
+use Rattle.memory.specs.ByteLaws.{put, get, Fits, AllBytes}
+use Rattle.memory.proofs.ByteLaws.{put_length, put_keeps, put_comm, read_back, read_other, put_small}
+use Rattle.memory.specs.LogLaws.{Logged}
+use Rattle.memory.proofs.LogLaws.{noted_one}
 use Rattle.memory.specs.ServedLaws.{Clear, served_means}
-
--- the event code of a write and of a read
-abbrev pub write_code : Bool → ℕ
-write_code g = pick g 4 3
-
-abbrev pub read_code : Bool → ℕ
-read_code g = pick g 2 1
+use Rattle.memory.specs.AccessLaws.{kept, left, read_code, write_code}
 
 module _ (w : World) (a : ℕ) (g : Bool) where
   -- a write that is not served is logged with 16 more, and changes nothing else
@@ -85,14 +81,6 @@ module _ (w : World) (a : ℕ) (g : Bool) where
       go true g = at (write_code g) (written w a g v)
       go false true = noted_one w 20 a v
       go false false = noted_one w 19 a v
-
--- what a write stores: all of a long, the low 16 bits of a word
-abbrev pub kept : Bool → ℕ → ℕ
-kept g v = pick g v (v % 0x10000)
-
--- what a write leaves of the store s
-abbrev pub left : World → ℕ → Bool → ℕ → List ℕ → List ℕ
-left w a g v s = pick (served w a g) (put g s (place_of w.core.bus a) (kept g v)) s
 
 written_put : (w : World) (a : ℕ) (g : Bool) (v : ℕ) → written w a g v ≡ put g w.store (place_of w.core.bus a) (kept g v)
 unfolding written

@@ -1,29 +1,13 @@
--- What a word or a long written into a list of bytes leaves there. A law says the width by `g`: true a long, false a word.
-use Rattle.std.specs.Prelude.{ℕ, zero, suc, ◌+◌, ◌/◌, ◌%◌, ◌^◌, ◌≤◌, ◌<◌, ◌≡◌, refl, Bool, true, false, List, [], ◌∷◌, length, get_or, set}
+-- Theorems about what specs/ByteLaws defines, and what rests on them.
+use Rattle.std.specs.Prelude.{ℕ, zero, suc, ◌+◌, ◌≤◌, ◌<◌, ◌≡◌, refl, Bool, true, false, List, [], ◌∷◌, length, get_or, set}
 use Rattle.std.proofs.Common.{◌∙◌, inl, inr, arith, add-one}
 use Rattle.std.proofs.Math.Numerals.{add-two}
 use Rattle.std.proofs.lemmas.List.Edits.{sets}
 use Rattle.std.proofs.Math.Seq.{length-sets}
-use Rattle.types.specs.Kinds.{pick}
 use Rattle.memory.specs.Bytes.{put_word, put_long, get_word, get_long}
 use Rattle.memory.specs.World.{width_of}
 use Rattle.memory.specs.Runs.{Outside, Apart, sets_keeps, sets_holds, sets_comm}
-
--- a write and a read of either width
-abbrev pub put : Bool → List ℕ → ℕ → ℕ → List ℕ
-put g s p v = pick g (put_long s p v) (put_word s p v)
-
-abbrev pub get : Bool → List ℕ → ℕ → ℕ
-get g s p = pick g (get_long s p) (get_word s p)
-
--- the values of a width
-abbrev pub Fits : Bool → ℕ → Type 0
-Fits g v = v < pick g (2 ^ 32) 0x10000
-
--- the bytes of a value, the highest first
-abbrev pub bytes_of : Bool → ℕ → List ℕ
-bytes_of true v = v / 0x10000 / 256 ∷ v / 0x10000 % 256 ∷ v % 0x10000 / 256 ∷ v % 0x10000 % 256 ∷ []
-bytes_of false v = v / 256 ∷ v % 256 ∷ []
+use Rattle.memory.specs.ByteLaws.{AllBytes, Fits, bytes_of, get, put}
 
 length_bytes : (g : Bool) (v : ℕ) → length (bytes_of g v) ≡ width_of g
 length_bytes true v = refl
@@ -80,10 +64,6 @@ read_other g h s p q v (inr a) = get_same h (put g s p v) s q q (λ i j k l e f.
 -- two writes that share no byte commute
 pub put_comm : (g h : Bool) (s : List ℕ) (p q v w : ℕ) → Apart p (width_of g) q (width_of h) → put g (put h s q w) p v ≡ put h (put g s p v) q w
 put_comm g h s p q v w a = simp put_bytes (sets_comm (bytes_of g v) (bytes_of h w) s p q (rw (length_bytes g v, length_bytes h w) a))
-
--- a list of bytes
-abbrev pub AllBytes : List ℕ → Type 0
-AllBytes s = (i : ℕ) → get_or s i 0 < 256
 
 set_byte : (s : List ℕ) (p x : ℕ) → x < 256 → AllBytes s → AllBytes (set s p x)
 set_byte [] p x h k i = k i

@@ -1,4 +1,4 @@
--- What the log says after some events, and which events flush, acknowledge and release add.
+-- Theorems about what specs/LogLaws defines, and what rests on them.
 use Rattle.std.specs.Prelude.{ℕ, suc, ◌+◌, ◌*◌, ◌%◌, ◌^◌, ◌≤◌, ◌<◌, ◌≡◌, Bool, true, false, List, [], ◌∷◌, ◌++◌, ltb, length, get_or, set, drop, take}
 use Rattle.std.proofs.Math.Path.{refl}
 use Rattle.std.proofs.Common.{◌∙◌, add-one, lt-ltb, le-ltb, length-append, length-drop, take_at, drop-drop}
@@ -11,10 +11,7 @@ use Rattle.cpu.specs.Clocks.{has_clocks, clocks_of, set_clocks}
 use Rattle.memory.specs.Log.{note_log, counted}
 use Rattle.memory.specs.World.{World, noted, with_cpu, put_cpu, flush, release, response_of, acknowledged}
 use Rattle.memory.specs.Runs.{Outside, sets_keeps, sets_holds}
-
--- the words of an event
-abbrev pub words : ℕ → ℕ → ℕ → List ℕ
-words c a v = c ∷ a ∷ v ∷ []
+use Rattle.memory.specs.LogLaws.{Event, Logged, Spells, replay, spell, words}
 
 -- without room for its three words an event is not written
 pub note_full : (n : ℕ) (l : List ℕ) (c a v : ℕ) → length l ≤ n * 3 + 2 → note_log n l c a v ≡ l
@@ -56,20 +53,6 @@ note_place n l c a v h = note_holds n l c a v 1 h (omega arith)
 pub note_value : (n : ℕ) (l : List ℕ) (c a v : ℕ) → n * 3 + 2 < length l → get_or (note_log n l c a v) (n * 3 + 2) 0 ≡ v
 note_value n l c a v h = note_holds n l c a v 2 h (omega arith)
 
-pub record Event : Type 0 where
-  pub code : ℕ
-  pub place : ℕ
-  pub value : ℕ
-
--- the log that the events leave, the last event first; and the words that they spell, in their order
-unfoldable pub replay : List ℕ → List Event → List ℕ
-replay l [] = l
-replay l (e ∷ es) = note_log (length es % 2 ^ 32) (replay l es) e.code e.place e.value
-
-unfoldable pub spell : List Event → List ℕ
-spell [] = []
-spell (e ∷ es) = spell es ++ words e.code e.place e.value
-
 -- three words an event
 pub length_spell : (es : List Event) → length (spell es) ≡ length es * 3
 unfolding spell
@@ -93,16 +76,6 @@ replay_spell l (e ∷ es) h k =
     let room : 3 ≤ length (drop (length es * 3) l) = simp length-drop (omega arith) in
     let next : length es * 3 + 3 ≡ suc (length es) * 3 = omega arith in
     rw (low, replay_spell l es (omega arith) (omega arith), note_room (length es) (spell es) (drop (length es * 3) l) e.code e.place e.value (length_spell es) room, drop-drop, next)
-
--- the events es, and no others, were logged on the way to w, into a log that held l
-pub record Spells (l : List ℕ) (es : List Event) (w : World) : Type 0 where
-  pub count : w.core.bus.events ≡ length es % 2 ^ 32
-  pub log : w.log ≡ replay l es
-
--- from w to x just this event was logged
-pub record Logged (w x : World) (c a v : ℕ) : Type 0 where
-  pub log : x.log ≡ note_log w.core.bus.events w.log c a v
-  pub bus : x.core.bus ≡ counted w.core.bus
 
 -- one event more
 pub spells_more : (l : List ℕ) (es : List Event) (w x : World) (c a v : ℕ) → Spells l es w → Logged w x c a v → Spells l (record { code = c; place = a; value = v } ∷ es) x

@@ -4,3 +4,6 @@ pub mod Log
 pub mod World
 pub mod Runs
 pub mod ServedLaws
+pub mod ByteLaws
+pub mod LogLaws
+pub mod AccessLaws

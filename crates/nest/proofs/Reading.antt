@@ -1,11 +1,11 @@
 -- Theorems about what specs/Reading defines, and what rests on them.
-use Rattle.std.specs.Prelude.{◌≡◌, Bool, false, cond, ◌&&◌, [], ◌∷◌, eqb}
+use Rattle.std.specs.Prelude.{◌≡◌, false, [], ◌∷◌}
 use Rattle.std.proofs.Math.Path.{refl, sym, ap}
 use Rattle.std.proofs.Common.{◌∙◌, arith}
 use Rattle.std.proofs.Math.Bool.{true}
-use Rattle.std.proofs.Math.Option.{Option, none, some}
-use Prim.Native.Nat.{ℕ, zero, suc, ◌+◌, ◌-◌, ◌/◌, ◌%◌, ◌≤◌, ◌<◌}
-use Rattle.nest.specs.View.{Regs, Bytes, Row, Frame, Stacked, one, two, row_of, frames_of, wrap, addr, under, s_bit, m_bit, aligned, short, frame_len, Bank, user, interrupt, master, bank_of, View, ptr, set_ptr, bank, top, set_top, with_sm, nonzero, banked, view, opt, word, long, served, Taken, settle, sized, full_frame, short_frame, odd, frame, back}
+use Rattle.std.proofs.Math.Option.{some}
+use Prim.Native.Nat.{ℕ, ◌+◌, ◌/◌, ◌%◌, ◌<◌}
+use Rattle.nest.specs.View.{Bytes, Frame, Stacked, one, two, row_of, frames_of, wrap, addr, under, s_bit, m_bit, Bank, interrupt, master, bank_of, View, ptr, set_ptr, bank, top, with_sm, settle}
 use Rattle.nest.specs.Nest.{Holds, here, there}
 use Rattle.nest.specs.Laws.{lower, Pushed, Shape, EntryOne, EntryTwo, Does}
 use Rattle.nest.specs.Reading.{FitsOne, FitsTwo, Fits, bank_set_ptr, ptr_set_ptr, kind_set_ptr, s_set_ptr, lower_raise, lower_even, taken_of, frame_reads, frame_covers, ptr_with_sm, undo, Ready}

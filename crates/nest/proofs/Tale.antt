@@ -1,11 +1,11 @@
 -- Theorems about what specs/Tale defines, and what rests on them.
-use Rattle.std.specs.Prelude.{◌≡◌, true, ℕ, ◌+◌, ◌%◌, ◌<◌}
+use Rattle.std.specs.Prelude.{◌≡◌, true, ℕ, ◌%◌, ◌<◌}
 use Rattle.std.proofs.Math.Path.{refl, sym, ap, subst}
 use Rattle.std.proofs.Common.{◌∙◌, arith}
 use mathlib.Core.List.{List, [], ◌∷◌, ◌++◌}
 use Rattle.std.proofs.Math.Option.{Option, some, some-injective}
 use Rattle.std.proofs.Math.ListN.{length}
-use Rattle.nest.specs.View.{Regs, Bytes, peek, Frame, Stacked, one, two, row_of, frames_of, under, Bank, user, interrupt, master, View, ptr, set_ptr, bank, top, set_top, nonzero, banked, view, opt, Back, back, backs}
+use Rattle.nest.specs.View.{Regs, Bytes, peek, Frame, Stacked, one, two, row_of, frames_of, under, Bank, user, interrupt, master, View, ptr, set_ptr, bank, top, set_top, nonzero, banked, view, opt, Back, back}
 use Rattle.nest.specs.Nest.{Machine, Entered, refused, untaken, taken, Returned, denied, returned, Page, rows, live, Holds, here, there, restored_by, Apart, BelowTop, AllServed, Sound, SameStacks, Step, entry, return, handlers, State, kind_of, depth, bytes_of, page, after_entry, after_return, exec, run, begin, Along, Always, AtTaken, StartsSound, ServedThen, No68000Error, Keeps, HandlersKeep, HandlersLeave, ServedLater, LiveApart, LiveBelowTop, Premises, restored, after, Values, values_at, Told, Alike, SameTale, end, Rule3}
 use Rattle.nest.specs.Laws.{Does, Ranges, Entry, Return, Laws}
 use Rattle.nest.specs.Reading.{Fits, fits_kind, fits_local, fits_back, view_a7, view_kind, view_s, view_m, Ready}

@@ -1,17 +1,14 @@
 -- Theorems about what specs/Bytes defines, and what rests on them.
-use Rattle.std.specs.Prelude.{ℕ, zero, suc, ◌≤◌, ◌<◌, ◌≡◌, refl, true, replicate}
-use Rattle.std.proofs.Math.Path.{ap}
-use Rattle.std.proofs.Common.{◌∙◌, arith}
+use Rattle.std.specs.Prelude.{ℕ, ◌≤◌, ◌<◌, ◌≡◌, replicate}
 use mathlib.Core.List.{List, [], ◌∷◌, ◌++◌}
 use Rattle.nest.specs.Nest.{rows, restored_by}
 use Rattle.lines.specs.Commands.{ret_name}
-use Rattle.prints.specs.Prints.{more}
-use Rattle.sessions.specs.Sessions.{Session, say, step}
-use Rattle.sessions.specs.Printed.{lines_of, steps, started, printed}
+use Rattle.sessions.specs.Sessions.{Session}
+use Rattle.sessions.specs.Printed.{started, printed}
 use Rattle.printed.specs.Steps.{Meets, book_of, depth_of}
-use Rattle.printed.specs.Told.{rows_text, returns_text, Told}
+use Rattle.printed.specs.Told.{rows_text, returns_text}
 use Rattle.printed.proofs.Told.{tells}
-use Rattle.printed.specs.Lines.{with_feed, text, walk_line, all_feedless, lines_append, lines_text_lem, walk_is, walk_feedless}
+use Rattle.printed.specs.Lines.{with_feed, text, walk_line}
 use Rattle.printed.specs.Bytes.{printed_from, lines_in, PrintsBook, d, in_bytes}
 
 -- THE THEOREM: from any session, for any input that a line feed ends, whose lines meet the premises of rule 3 and leave 1 to 4096

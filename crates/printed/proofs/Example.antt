@@ -1,15 +1,10 @@
 -- Theorems about what specs/Example defines, and what rests on them.
-use Rattle.std.specs.Prelude.{ℕ, ◌≡◌, refl, List, [], ◌∷◌, ◌++◌, replicate}
+use Rattle.std.specs.Prelude.{ℕ, ◌≡◌, List, [], ◌++◌}
 use Rattle.std.proofs.Common.{ap, ◌∙◌}
-use Rattle.nest.specs.Nest.{Line}
-use Rattle.lines.specs.Commands.{ret_name}
-use Rattle.prints.specs.Prints.{decimal_of}
 use Rattle.sessions.specs.Printed.{started, printed}
-use Rattle.printed.specs.Lines.{with_feed, text, walk_line}
 use Rattle.printed.specs.Bytes.{printed_from}
 use Rattle.printed.specs.Texts.{bytes_of}
-use Rattle.printed.specs.Computed.{played}
-use Rattle.printed.specs.Worked.{line, lines_text, Computes}
+use Rattle.printed.specs.Worked.{lines_text}
 use Rattle.printed.proofs.Worked.{prints}
 use Rattle.printed.specs.Example.{before, book, computes, so_far, input_is, output_is}
 

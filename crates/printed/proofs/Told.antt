@@ -1,7 +1,7 @@
 -- Theorems about what specs/Told defines, and what rests on them.
 use Rattle.std.specs.Prelude.{ℕ, zero, suc, ◌*◌, ◌≤◌, ◌<◌, ◌≡◌, refl, Bool, true, false, List, [], ◌∷◌, ◌++◌, eqb, replicate}
 use Rattle.std.proofs.Math.Path.{sym, ap}
-use Rattle.std.proofs.Common.{◌∙◌, subst, append_assoc, append-nil, arith, eqb-true, le-ltb}
+use Rattle.std.proofs.Common.{◌∙◌, subst, append_assoc, append-nil, arith, le-ltb}
 use Rattle.std.proofs.Math.Option.{Option, none, some}
 use Rattle.std.proofs.lemmas.List.{length-replicate}
 use Rattle.types.specs.Kinds.{pick}
@@ -9,7 +9,6 @@ use Rattle.cpu.specs.declared.Cpu.{Cpu}
 use Rattle.cpu.specs.Fields.{pc_of, a7_of}
 use Rattle.status.specs.Status.{get_sr}
 use Rattle.memory.specs.World.{World, put_cpu, with_cpu, cpu_of}
-use Rattle.unwind.specs.declared.returns.Row.{Row}
 use Rattle.unwind.specs.declared.Returned.{Returned}
 use Rattle.unwind.specs.Rows.{trail_from, Reads, walk_reads}
 use Rattle.unwind.specs.Returns.{Walk as Walked}
@@ -20,13 +19,11 @@ use Rattle.nest.specs.Nest.{rows, Values, values_at, restored_by, restored, afte
 use Rattle.nest.specs.Nest.{Returned as Given, returned as given, Told as NestTold}
 use Rattle.entered.specs.Pointers.{regs_of}
 use Rattle.entered.specs.Machines.{room_of}
-use Rattle.rule3.specs.Rows.{numbered, rows_here, told}
+use Rattle.rule3.specs.Rows.{rows_here, told}
 use Rattle.rule3.specs.Rule3.{give_back, walk, Real, rule3}
-use Rattle.rule3.specs.Checked.{real, premises_test, premises_tested}
-use Rattle.lines.specs.declared.Command.TheVariants.{Walk, Ret}
-use Rattle.lines.specs.Commands.{ret_name, starts_with, ret_in, word_in, command_of}
-use Rattle.prints.specs.Prints.{more, state_line, row_line, refused_line}
-use Rattle.sessions.specs.Walks.{row_text, row_texts, refusal_text, walk_text, walked}
+use Rattle.lines.specs.Commands.{ret_name}
+use Rattle.prints.specs.Prints.{more, state_line, refused_line}
+use Rattle.sessions.specs.Walks.{row_texts, refusal_text, walk_text, walked}
 use Rattle.sessions.specs.Sessions.{Session, session, say, on_core, state_of, return_told, returned, act, step}
 use Rattle.sessions.specs.Printed.{steps}
 use Rattle.printed.specs.Steps.{nest_of, Meets, ended, book_of, depth_of}

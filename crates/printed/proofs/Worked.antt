@@ -1,15 +1,10 @@
 -- Theorems about what specs/Worked defines, and what rests on them.
-use Rattle.std.specs.Prelude.{ℕ, suc, ◌≤◌, ◌<◌, ◌≡◌, refl, true, List, [], ◌∷◌, ◌++◌, map, ltb, leb, length, replicate}
+use Rattle.std.specs.Prelude.{ℕ, ◌≤◌, ◌<◌, ◌≡◌, List, [], ◌∷◌, ◌++◌, length, replicate}
 use Rattle.std.proofs.Common.{sym, ap, ◌∙◌, subst, append_assoc, ltb-true, leb-true}
-use Rattle.memory.specs.World.{world, cpu_of}
-use Rattle.nest.specs.View.{Row}
-use Rattle.nest.specs.Nest.{Page, Line, rows, Values, values_of, restored_by}
-use Rattle.entered.specs.Machines.{room_of}
-use Rattle.rule3.specs.Checked.{real, premises_test}
-use Rattle.rule3.specs.Nests.{row}
+use Rattle.nest.specs.Nest.{Page, Line, rows, restored_by}
 use Rattle.lines.specs.Commands.{ret_name}
-use Rattle.sessions.specs.Sessions.{Session, session, fresh_core}
-use Rattle.printed.specs.Steps.{nest_of, book_of, depth_of}
+use Rattle.sessions.specs.Sessions.{Session}
+use Rattle.printed.specs.Steps.{book_of, depth_of}
 use Rattle.printed.specs.Told.{rows_text, returns_text, meets}
 use Rattle.printed.specs.Lines.{with_feed, text, walk_line}
 use Rattle.printed.specs.Bytes.{lines_in, printed_from, PrintsBook}

@@ -1,5 +1,5 @@
 -- RULE 3 from the bytes of an input to the bytes that are printed.
-use Rattle.std.specs.Prelude.{ℕ, zero, suc, ◌≤◌, ◌<◌, ◌≡◌, refl, true, replicate}
+use Rattle.std.specs.Prelude.{ℕ, zero, suc, ◌≤◌, ◌≡◌, refl, true, replicate}
 use Rattle.std.proofs.Math.Path.{ap}
 use Rattle.std.proofs.Common.{◌∙◌, arith}
 use mathlib.Core.List.{List, [], ◌∷◌, ◌++◌}
@@ -7,8 +7,8 @@ use Rattle.nest.specs.Nest.{rows, restored_by}
 use Rattle.lines.specs.Commands.{ret_name}
 use Rattle.prints.specs.Prints.{more}
 use Rattle.sessions.specs.Sessions.{Session, say, step}
-use Rattle.sessions.specs.Printed.{lines_of, steps, started, printed}
-use Rattle.printed.specs.Steps.{Meets, book_of, depth_of}
+use Rattle.sessions.specs.Printed.{lines_of, steps, printed}
+use Rattle.printed.specs.Steps.{book_of, depth_of}
 use Rattle.printed.specs.Told.{rows_text, returns_text, Told}
 use Rattle.printed.specs.Lines.{with_feed, text, walk_line, all_feedless, lines_append, lines_text_lem, walk_is, walk_feedless}
 

@@ -1,11 +1,10 @@
 -- Paper 01's example of a session, from its start with 65,536 bytes. What its lines print before `walk 1` is computed; what `walk 1` and
 -- `ret` print follows by rule 3.
 use Rattle.std.specs.Prelude.{ℕ, ◌≡◌, refl, List, [], ◌∷◌, ◌++◌, replicate}
-use Rattle.std.proofs.Common.{ap, ◌∙◌}
 use Rattle.nest.specs.Nest.{Line}
 use Rattle.lines.specs.Commands.{ret_name}
 use Rattle.prints.specs.Prints.{decimal_of}
-use Rattle.sessions.specs.Printed.{started, printed}
+use Rattle.sessions.specs.Printed.{started}
 use Rattle.printed.specs.Lines.{with_feed, text, walk_line}
 use Rattle.printed.specs.Bytes.{printed_from}
 use Rattle.printed.specs.Texts.{bytes_of}

@@ -1,19 +1,18 @@
 -- WORKED SESSIONS of rule 3, in bytes. Each meets the premises, which is one test that computes; so its walk and its returns print what
 -- the book has, and the book is computed.
-use Rattle.std.specs.Prelude.{ℕ, suc, ◌≤◌, ◌<◌, ◌≡◌, refl, true, List, [], ◌∷◌, ◌++◌, map, ltb, leb, length, replicate}
-use Rattle.std.proofs.Common.{sym, ap, ◌∙◌, subst, append_assoc, ltb-true, leb-true}
+use Rattle.std.specs.Prelude.{ℕ, suc, ◌≡◌, refl, true, List, [], ◌∷◌, ◌++◌, map, ltb, leb, length, replicate}
+use Rattle.std.proofs.Common.{ap}
 use Rattle.memory.specs.World.{world, cpu_of}
 use Rattle.nest.specs.View.{Row}
 use Rattle.nest.specs.Nest.{Page, Line, rows, Values, values_of, restored_by}
 use Rattle.entered.specs.Machines.{room_of}
 use Rattle.rule3.specs.Checked.{real, premises_test}
 use Rattle.rule3.specs.Nests.{row}
-use Rattle.lines.specs.Commands.{ret_name}
 use Rattle.sessions.specs.Sessions.{Session, session, fresh_core}
-use Rattle.printed.specs.Steps.{nest_of, book_of, depth_of}
-use Rattle.printed.specs.Told.{rows_text, returns_text, meets}
-use Rattle.printed.specs.Lines.{with_feed, text, walk_line}
-use Rattle.printed.specs.Bytes.{lines_in, printed_from, PrintsBook}
+use Rattle.printed.specs.Steps.{nest_of, book_of}
+use Rattle.printed.specs.Told.{rows_text, returns_text}
+use Rattle.printed.specs.Lines.{with_feed}
+use Rattle.printed.specs.Bytes.{lines_in, printed_from}
 use Rattle.printed.specs.Texts.{bytes_of}
 use Rattle.printed.specs.Computed.{played}
 

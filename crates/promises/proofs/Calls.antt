@@ -1,5 +1,5 @@
 -- Theorems about what specs/Calls defines, and what rests on them.
-use Rattle.std.specs.Prelude.{ℕ, ◌+◌, ◌*◌, ◌≤◌, ◌<◌, ◌≡◌, Bool, not, List, ◌++◌, ◌↔◌, ltb, drop}
+use Rattle.std.specs.Prelude.{ℕ, ◌+◌, ◌≤◌, ◌<◌, ◌≡◌, Bool, not, List, ◌↔◌, ltb}
 use Rattle.std.proofs.Math.Path.{refl, sym, subst, ap}
 use Rattle.std.proofs.Common.{◌∙◌, arith}
 use Rattle.std.proofs.Math.Bool.{true, false}
@@ -7,18 +7,14 @@ use borrow.Author.Tests.{eqb-true, ltb-false}
 use Rattle.std.proofs.Math.Dec.{eqb}
 use Rattle.std.proofs.Math.ListN.{length}
 use Rattle.types.specs.Causes.{cause_number}
-use Rattle.types.specs.Kinds.{pick, both, is_pre68020, is_prefetch_kind, is040, is060}
-use Rattle.types.specs.Tables.{exception_cycles}
+use Rattle.types.specs.Kinds.{pick, both}
 use Rattle.cpu.specs.Fields.{kind_of, in_exception}
 use Rattle.pending.specs.Trace.{check_trace}
 use Rattle.pending.specs.Interrupts.{set_irq, takes_interrupt}
-use Rattle.memory.proofs.LogLaws.{Event, spell}
 use Rattle.memory.specs.World.{World, cpu_of}
 use Rattle.frames.specs.Frames.{word, long}
-use Rattle.exceptions.specs.Exceptions.{take_exception, trap, take_rewound, take_group2, exception_trace, take_fp_unimp060, take_fp_disabled060}
 use Rattle.interrupts.specs.Interrupts.{check_and_service}
 use Rattle.bounds.specs.Skeleton.{pick_one}
-use Rattle.bounds.specs.ErrorFrames.{bus_writes, address_writes}
 use Rattle.bounds.specs.Levels.{Domain, clash}
 use Rattle.bounds.specs.Ledger.{Written}
 use Rattle.bounds.specs.Events.{guard_cost, guard_cost_most, address_cost_most, bus_most, queue_most, few_more}
@@ -36,7 +32,6 @@ use Rattle.promises.specs.Entries.{entry_cost, group2_writes, on_written, group2
 use Rattle.promises.specs.Taken.{take_exception_16, trap_16, take_rewound_16}
 use Rattle.promises.specs.Interrupts.{interrupt_most, check_and_service_events, Due, due_exactly}
 use Rattle.promises.proofs.Interrupts.{answer_decides, untaken_unchanged, taken_after}
-use Rattle.promises.specs.Cycles.{take_exception_cycles, take_rewound_cycles, trap_cycles}
 use Rattle.promises.specs.Refusals.{holds, refusal_exact, refusal_none}
 use Rattle.promises.proofs.Refusals.{accepted_runs, accepted_domain}
 use Rattle.promises.specs.Calls.{most_events, most_61, room, unimp_060, disabled_060, run_count, run_accepts, Told, is_entry, cycles_of, run_cycles}

@@ -1,30 +1,17 @@
 -- Theorems about what specs/Interrupts defines, and what rests on them.
-use Prim.Native.Nat.{ℕ, suc, ◌+◌, ◌%◌, ◌^◌, ◌≤◌, ◌<◌}
-use Rattle.std.specs.Prelude.{◌≡◌, ◌⊎◌, ◌↔◌, Bool, eqb}
-use Rattle.std.proofs.Math.Path.{refl, subst}
-use Rattle.std.proofs.Common.{sym, ◌∙◌, inl, inr, ⊎_elim, arith, eqb-true, eq-eqb, ltb-false, le-ltb}
+use Prim.Native.Nat.{◌≤◌}
+use Rattle.std.specs.Prelude.{◌≡◌, ◌↔◌, Bool}
+use Rattle.std.proofs.Math.Path.{refl}
+use Rattle.std.proofs.Common.{sym, ◌∙◌, inl, ⊎_elim, ltb-false, le-ltb}
 use Rattle.std.proofs.Math.Bool.{true, false}
-use mathlib.Core.List.{List}
-use Rattle.types.specs.Kinds.{pick, either, is_pre68020, is_prefetch_kind, is_ec020_plus, is040, is060}
-use Rattle.cpu.specs.declared.Cpu.{Cpu}
-use Rattle.cpu.specs.Fields.{kind_of, vbr_of, pc_of, a7_of, is_faulted, in_exception, lower_a7, clear_stopped}
-use Rattle.status.specs.Status.{get_sr, set_int_mask, clear_m, clear_trace, m_is_set}
-use Rattle.status.specs.Banks.{enter_supervisor, set_sflag, restore_sp, put_s, backup_sp, set_sm_flag, set_sm_flag_nosp}
-use Rattle.cpu.specs.Clocks.{has_clocks, set_clocks, internal_cycles}
+use Rattle.types.specs.Kinds.{pick}
+use Rattle.cpu.specs.Fields.{clear_stopped}
 use Rattle.pending.specs.Interrupts.{pending_level, mask_level, takes_interrupt, clear_level, charge_interrupt, charged}
-use Rattle.pending.proofs.Laws.{seven_taken, taken_above, taken_exceeds, exceeding_taken}
-use Rattle.memory.specs.World.{World, Attempt, tried, put_cpu, noted, flush, response_of, acknowledged, cpu_of, with_cpu, step}
-use Rattle.access.specs.Access.{raised, write_at, jump_vector}
-use Rattle.formats.specs.Formats.{format_word, offset_word}
-use Rattle.steps.specs.Steps.{enter_level, with_s, close_interrupt}
-use Rattle.interrupts.specs.Interrupts.{vector_from, acknowledge_level, synced_acknowledge, rest68000, from68000, writes68010, rest68010, rest_other, first_frame, throwaway, second_frame, ended, dispatched, service_interrupt, serviced, check_and_service, push_interrupt68000, push_interrupt68010, push_interrupt_other}
-use Rattle.bounds.specs.Skeleton.{Raises, more, pick_one, clocks_ways, guard_write_good}
-use Rattle.bounds.specs.ErrorFrames.{bus_writes, address_writes}
-use Rattle.bounds.specs.Levels.{Domain, Kept, Any, Either, clash, fetching}
-use Rattle.bounds.specs.Ledger.{Books, Written, start, noted_books, clocks_books}
-use Rattle.bounds.specs.Events.{Bill, bill_steps, more_bill, rate, guard_cost}
-use Rattle.bounds.proofs.Events.{raises_any, none}
-use Rattle.promises.specs.Entries.{clocks_start, on_written, jump_events_lem, short_bill, guard_most}
+use Rattle.pending.proofs.Laws.{taken_above}
+use Rattle.memory.specs.World.{World, tried, put_cpu, cpu_of}
+use Rattle.steps.specs.Steps.{close_interrupt}
+use Rattle.interrupts.specs.Interrupts.{ended, dispatched, service_interrupt, serviced, check_and_service}
+use Rattle.bounds.specs.Levels.{clash}
 use Rattle.promises.specs.Interrupts.{Due, due_exactly}
 
 module _ (w : World) where

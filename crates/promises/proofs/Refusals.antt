@@ -1,19 +1,18 @@
 -- Theorems about what specs/Refusals defines, and what rests on them.
 use Prim.Native.Nat.{ℕ, zero, suc, ◌+◌, ◌-◌, ◌%◌, ◌^◌, ◌≤◌, ◌<◌}
-use Rattle.std.specs.Prelude.{◌≡◌, Bool, not, List, [], ◌∷◌, ◌⊎◌, ◌↔◌, leb, ltb, ℤ, pos, negsuc, ◌<ℤ◌, length, get_or}
+use Rattle.std.specs.Prelude.{◌≡◌, Bool, [], ◌⊎◌, ◌↔◌, ltb, negsuc, ◌<ℤ◌, length}
 use Rattle.std.proofs.Math.Path.{refl}
-use Rattle.std.proofs.Common.{sym, ◌∙◌, subst, inl, inr, ⊎_elim, arith, leb-true, leb-false, eqb-true, eq-eqb, ne_eqb, ltb-true, ltb-false, lt-ltb, ltb→lt, lt→ltb}
+use Rattle.std.proofs.Common.{⊎_elim, arith, eq-eqb, ne_eqb, ltb-true, ltb-false, ltb→lt, lt→ltb}
 use Rattle.std.proofs.Math.Bool.{true, false}
 use Rattle.std.proofs.Math.Dec.{eqb}
 use Rattle.std.proofs.Math.ListN.{get_or-eq_default}
-use Rattle.types.specs.Kinds.{either, both, is_pre68020}
+use Rattle.types.specs.Kinds.{both, is_pre68020}
 use Rattle.cpu.specs.Fields.{kind_of, vbr_of, checks_alignment, has_fc_override, fc_override_of}
-use Rattle.pending.specs.Interrupts.{has_room, has_cycles}
-use Rattle.memory.specs.declared.Bus.{Bus}
+use Rattle.pending.specs.Interrupts.{has_cycles}
 use Rattle.memory.specs.World.{World, cpu_of}
 use Rattle.bounds.specs.Levels.{Domain, clash}
-use Rattle.refusals.specs.Refusals.{bad_flags, odd_base, bad_cycles, bad_code, bad_store, past_top, any_past, bad_windows, short_log, bad_vector, bad_kind, tests_of, refusal_of}
-use Rattle.refusals.specs.Laws.{outcomes, place_from, refusal_place}
+use Rattle.refusals.specs.Refusals.{bad_flags, odd_base, bad_cycles, bad_code, bad_store, bad_windows, short_log, bad_vector, bad_kind, tests_of}
+use Rattle.refusals.specs.Laws.{outcomes}
 use Rattle.answers.specs.declared.Call.{Call}
 use Rattle.answers.specs.declared.Answer.TheVariants.{Refused}
 use Rattle.answers.specs.Matters.{matter_of}

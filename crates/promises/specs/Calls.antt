@@ -1,43 +1,27 @@
 -- THE PUBLIC CALL: how many events an accepted call makes and what the log says then, the cycles that it answers, and the
 -- interrupt call.
-use Rattle.std.specs.Prelude.{ℕ, ◌+◌, ◌*◌, ◌≤◌, ◌<◌, ◌≡◌, Bool, not, List, ◌++◌, ◌↔◌, ltb, drop}
-use Rattle.std.proofs.Math.Path.{refl, sym, subst, ap}
-use Rattle.std.proofs.Common.{◌∙◌, arith}
+use Rattle.std.specs.Prelude.{ℕ, ◌+◌, ◌*◌, ◌≤◌, ◌≡◌, Bool, List, ◌++◌, drop}
+use Rattle.std.proofs.Math.Path.{refl, ap}
+use Rattle.std.proofs.Common.{arith}
 use Rattle.std.proofs.Math.Bool.{true, false}
-use borrow.Author.Tests.{eqb-true, ltb-false}
-use Rattle.std.proofs.Math.Dec.{eqb}
 use Rattle.std.proofs.Math.ListN.{length}
-use Rattle.types.specs.Causes.{cause_number}
-use Rattle.types.specs.Kinds.{pick, both, is_pre68020, is_prefetch_kind, is040, is060}
+use Rattle.types.specs.Kinds.{pick, is_pre68020, is_prefetch_kind, is040, is060}
 use Rattle.types.specs.Tables.{exception_cycles}
-use Rattle.cpu.specs.Fields.{kind_of, in_exception}
-use Rattle.pending.specs.Trace.{check_trace}
-use Rattle.pending.specs.Interrupts.{set_irq, takes_interrupt}
-use Rattle.memory.proofs.LogLaws.{Event, spell}
+use Rattle.cpu.specs.Fields.{in_exception}
+use Rattle.memory.specs.LogLaws.{Event, spell}
 use Rattle.memory.specs.World.{World, cpu_of}
-use Rattle.frames.specs.Frames.{word, long}
 use Rattle.exceptions.specs.Exceptions.{take_exception, trap, take_rewound, take_group2, exception_trace, take_fp_unimp060, take_fp_disabled060}
-use Rattle.interrupts.specs.Interrupts.{check_and_service}
-use Rattle.bounds.specs.Skeleton.{pick_one}
 use Rattle.bounds.specs.ErrorFrames.{bus_writes, address_writes}
-use Rattle.bounds.specs.Levels.{Domain, clash}
-use Rattle.bounds.specs.Ledger.{Written}
-use Rattle.bounds.specs.Events.{guard_cost, guard_cost_most, address_cost_most, bus_most, queue_most, few_more}
-use Rattle.bounds.proofs.Events.{none, guard_read_events, guard_write_events, pushed_events, prefetch_first_events, prefetch_second_events, entry_bus_events, entry_address_events, bus_events, address_events}
-use Rattle.refusals.specs.Refusals.{short_log, bad_kind, tests_of}
-use Rattle.refusals.specs.Laws.{outcomes}
+use Rattle.bounds.specs.Levels.{clash}
+use Rattle.bounds.specs.Events.{guard_cost}
 use Rattle.answers.specs.declared.Call.{Call}
 use Rattle.answers.specs.declared.Call.TheVariants.{TakeException, Trap, TakeGroup2Exception, ExceptionChk, ExceptionZeroDivide, ExceptionPrivilege, ExceptionTrace, ExceptionAddressError, ExceptionBusError, TakeFpUnimp060, TakeFpDisabled060, TakeAlineException, TakeFlineException, TakeTrapException, TakeBkptException, TakeIllegalException, TriggerAddressError, TriggerBusError, CheckTrace, SetIrq, CheckInterrupts, CheckAndServiceInterrupts, Read16, Read32, Write16, Write32, Push16, Push32, PrefetchFirst, PrefetchSecond}
-use Rattle.answers.specs.declared.Answer.TheVariants.{Cycles, Flag, Refused}
+use Rattle.answers.specs.declared.Answer.TheVariants.{Cycles}
 use Rattle.answers.specs.Matters.{matter_of}
-use Rattle.numbers.specs.Numbers.{bit}
-use Rattle.answers.specs.Answers.{refused_by, value_of, count_of, Performed, answered, events_of, cycles, flag, plain, of_entry, of_read, of_service, of_trace}
-use Rattle.calls.specs.Calls.{restarted, run, begun, refusal, perform}
-use Rattle.promises.specs.Entries.{entry_cost, group2_writes, on_written, group2_most, take_group2_events, exception_trace_events, take_fp_unimp060_events, take_fp_disabled060_events}
-use Rattle.promises.specs.Taken.{take_exception_16, trap_16, take_rewound_16}
-use Rattle.promises.specs.Interrupts.{interrupt_most, check_and_service_events, Due, due_exactly}
+use Rattle.answers.specs.Answers.{refused_by, count_of, Performed, events_of, cycles, flag, plain, of_entry, of_read, of_service, of_trace}
+use Rattle.calls.specs.Calls.{run}
+use Rattle.promises.specs.Entries.{entry_cost}
 use Rattle.promises.specs.Cycles.{take_exception_cycles, take_rewound_cycles, trap_cycles}
-use Rattle.promises.specs.Refusals.{holds, refusal_exact, refusal_none}
 
 -- ---- events
 

@@ -2,32 +2,25 @@
 -- kind 2, else by 44.
 use Prim.Native.Nat.{ℕ, zero, suc}
 use Rattle.std.specs.Prelude.{◌≡◌, Bool, eqb, ℤ, ◌-ℤ◌}
-use Rattle.std.proofs.Math.Path.{refl, subst}
-use Rattle.std.proofs.Common.{sym, ◌∙◌}
-use Rattle.std.proofs.Math.Bool.{true, false, not}
+use Rattle.std.proofs.Math.Path.{refl}
+use Rattle.std.proofs.Common.{◌∙◌}
+use Rattle.std.proofs.Math.Bool.{true}
 use Rattle.std.proofs.Math.IntN.{pos}
 use Rattle.types.specs.Kinds.{pick}
 use Rattle.cpu.specs.Fields.{kind_of, address_of, is_faulted, in_exception, set_a7, set_pc, halted, set_exception, set_wdata, start_vector, lower_a7, restore_registers, clear_cause, clear_fc_override, cause_number_of, clear_stopped}
 use Rattle.cpu.specs.Clocks.{set_clocks, clear_prefetch, first_word, second_word}
 use Rattle.status.specs.Status.{keep_resume, clear_trace, restore_sr, set_sr_noint_nosp, set_int_mask, clear_m}
 use Rattle.status.specs.Banks.{enter_supervisor, set_sflag, restore_sp, put_s, backup_sp, set_sm_flag, set_sm_flag_nosp}
-use Rattle.pending.specs.Interrupts.{pending_level, takes_interrupt, clear_level, has_cycles}
+use Rattle.pending.specs.Interrupts.{has_cycles}
 use Rattle.pending.proofs.Laws.{cycles_charged}
 use Rattle.memory.specs.World.{World, put_cpu, noted, stored, release, acknowledged, cpu_of, step}
 use Rattle.frames.specs.Frames.{bus_frame, address_frame}
 use Rattle.steps.specs.Steps.{begin_bus, begin_address, close_bus, enter_bus_error, enter_level, close_interrupt}
 use Rattle.access.specs.Access.{Raise, Fault, bus_error, address_error, raised, exception_address_error, exception_bus_error, raise_bus, raise_address, trigger}
-use Rattle.interrupts.specs.Interrupts.{vector_from, acknowledge_level, ended, serviced, check_and_service}
+use Rattle.interrupts.specs.Interrupts.{vector_from, acknowledge_level, ended}
 use Rattle.bounds.specs.Skeleton.{Steps, Raises, pick_one, flush_ways, write_ways, read_ways, clocks_ways, frame_good}
-use Rattle.bounds.specs.Levels.{Any, clash}
-use Rattle.refusals.specs.Refusals.{bad_cycles, tests_of}
-use Rattle.refusals.specs.Laws.{outcomes}
-use Rattle.answers.specs.declared.Call.TheVariants.{CheckAndServiceInterrupts}
-use Rattle.answers.specs.Matters.{matter_of}
-use Rattle.answers.specs.Answers.{value_of, flag, of_service}
-use Rattle.calls.specs.Calls.{restarted, begun, refusal, perform}
-use Rattle.promises.specs.Refusals.{refusal_none}
-use Rattle.promises.specs.Over.{service_interrupt_by, check_and_service_by, check_and_service_by_raised}
+use Rattle.bounds.specs.Levels.{Any}
+use Rattle.promises.specs.Over.{service_interrupt_by}
 use Rattle.promises.specs.Serviced.{Serves, service_interrupt_same}
 
 -- the cycles that are left

@@ -1,11 +1,11 @@
 -- FAULT LEVELS OF THE PUBLIC CALL: over any `t` that meets the equations of the recursion without levels it is `perform`.
-use Rattle.std.specs.Prelude.{ℕ, suc, ◌+◌, ◌%◌, ◌≡◌, Bool}
+use Rattle.std.specs.Prelude.{ℕ, ◌+◌, ◌%◌, ◌≡◌}
 use Rattle.std.proofs.Math.Path.{refl, ap}
-use Rattle.std.proofs.Common.{◌∙◌, eqb-true}
+use Rattle.std.proofs.Common.{◌∙◌}
 use Rattle.std.proofs.Math.Bool.{true, false}
 use Rattle.std.proofs.Math.Dec.{eqb}
 use Rattle.types.specs.Causes.{cause_number}
-use Rattle.types.specs.Kinds.{pick, is_pre68020, is_prefetch_kind}
+use Rattle.types.specs.Kinds.{is_pre68020, is_prefetch_kind}
 use Rattle.types.specs.Tables.{exception_cycles}
 use Rattle.cpu.specs.Fields.{kind_of, vbr_of, pc_of, ppc_of, in_exception, set_exception, rewind_pc, note_fpiar, leave_stop}
 use Rattle.cpu.specs.Clocks.{set_clocks, internal_cycles}
@@ -21,16 +21,13 @@ use Rattle.formats.specs.Formats.{format_word, offset_word, short_frame, long_fr
 use Rattle.exceptions.specs.Exceptions.{entry, supervised, finished}
 use Rattle.interrupts.specs.Interrupts.{vector_from, acknowledge_level, serviced}
 use Rattle.bounds.specs.Skeleton.{Raises, pick_if, clocks_ways, guard_read_good, guard_write_good, pushed_good, stacked_good, push_short_good, jump_good, prefetch_first_good, prefetch_second_good}
-use Rattle.bounds.specs.Levels.{Domain, Safe, Kept, Any, Either, inside, steps, vector_safe, super_kept, entry_address_good, entry_bus_good, Unrolls, unrolled_halts, level_halts, level_unrolls}
-use Rattle.bounds.proofs.Levels.{level_any, levels, raises_in, raises_bus, raises_any}
-use Rattle.bounds.proofs.Unique.{unique}
+use Rattle.bounds.specs.Levels.{Domain, Safe, Kept, Any, Either, steps, vector_safe, super_kept, entry_address_good, entry_bus_good, Unrolls, unrolled_halts, level_halts, level_unrolls}
+use Rattle.bounds.proofs.Levels.{levels, raises_in, raises_bus, raises_any}
 use Rattle.answers.specs.declared.Call.{Call}
 use Rattle.answers.specs.declared.Call.TheVariants.{TakeException, Trap, TakeGroup2Exception, ExceptionChk, ExceptionZeroDivide, ExceptionPrivilege, ExceptionTrace, ExceptionAddressError, ExceptionBusError, TakeFpUnimp060, TakeFpDisabled060, TakeAlineException, TakeFlineException, TakeTrapException, TakeBkptException, TakeIllegalException, TriggerAddressError, TriggerBusError, CheckTrace, SetIrq, CheckInterrupts, CheckAndServiceInterrupts, Read16, Read32, Write16, Write32, Push16, Push32, PrefetchFirst, PrefetchSecond}
-use Rattle.answers.specs.declared.Answer.TheVariants.{Refused}
-use Rattle.answers.specs.Answers.{answered, cycles, plain, of_entry, of_read, of_service}
-use Rattle.calls.specs.Calls.{begun, refusal, perform}
+use Rattle.answers.specs.Answers.{cycles, plain, of_entry, of_read, of_service}
 use Rattle.promises.specs.Serviced.{Serves, service_interrupt_same}
-use Rattle.promises.specs.Over.{stack_short_by, taken_by, take_exception_by, stack_group2_by, take_group2_by, trap_by, exception_trace_by, take_rewound_by, stack_unimp_by, take_fp_unimp060_by, stack_disabled_by, take_fp_disabled060_by, check_and_service_by, run_by, perform_by, perform_by_raised}
+use Rattle.promises.specs.Over.{stack_short_by, taken_by, take_exception_by, stack_group2_by, take_group2_by, trap_by, exception_trace_by, take_rewound_by, stack_unimp_by, take_fp_unimp060_by, stack_disabled_by, take_fp_disabled060_by, check_and_service_by, run_by}
 
 -- two ways to raise that agree wherever kind and vector base are kept: each definition over them is one
 module _ (k : ℕ) (t u : Raise) (T : Raises (Kept k Either) Any (is_prefetch_kind k) t u) where

@@ -14,7 +14,7 @@ use Rattle.status.specs.Status.{decompose, m_under_s, set_sr_noint_nosp, restore
 use Rattle.memory.specs.Bytes.{put_word, put_long, get_word, get_long}
 use Rattle.memory.specs.Log.{note_log, counted}
 use Rattle.memory.specs.Served.{meets, clear_of, windows_in_use, in_store, served_of, place_of}
-use Rattle.memory.specs.World.{World, world, put_cpu, with_cpu, stored, noted, served, written, fetched, raw_write, try_write, read_value, raw_read, try_read, flush, release, response_of, acknowledged}
+use Rattle.memory.specs.World.{World, world, put_cpu, stored, noted, served, written, fetched, raw_write, try_write, read_value, raw_read, try_read, flush, release, response_of, acknowledged}
 use Rattle.access.specs.Access.{read_or, prefetch_read, kept_first, first_from, prefetch_first, kept_second, second_from, prefetch_second, checked_read, read_at, wrote, checked_write, write_at, stack_field, push_field, push_fields, vector_read, refill, jump_to, jump_vector, push_frame, exception_address_error, exception_bus_error, raise_bus, raise_address, trigger}
 use Rattle.frames.specs.Frames.{field_at, frame68000, frame8, frame2, frame0, frame4, frame7, frame11, address_frame, bus_frame, is_counted, is_raw}
 use Rattle.steps.specs.Steps.{begin_trace, refuses_odd, vector_address, begin_bus, begin_address, enter_bus_error, begin_entry, iack_vector, enter_level, close_interrupt}

@@ -1,5 +1,4 @@
 -- A lent record as the core has it, and back: where the core has a bool the lent record has a byte, set if it is not 0.
-use Rattle.std.specs.Prelude.{ℕ}
 use Rattle.numbers.specs.Numbers.{flag, bit}
 use Rattle.cpu.specs.declared.OptionalVector.{OptionalVector}
 use Rattle.cpu.specs.declared.OptionalCode.{OptionalCode}

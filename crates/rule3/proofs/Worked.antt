@@ -1,21 +1,10 @@
 -- Theorems about what specs/Worked defines, and what rests on them.
-use Rattle.std.specs.Prelude.{ℕ, ◌*◌, ◌<◌, ◌≤◌, ◌≡◌, refl, true, List, [], ◌∷◌, set, replicate}
-use Rattle.std.proofs.Common.{sym, ap, ◌∙◌, subst, arith}
-use Rattle.std.proofs.Math.Option.{Option, none, some}
-use Rattle.cpu.specs.declared.Cpu.{Cpu}
-use Rattle.cpu.specs.Fields.{set_a7, set_pc}
-use Rattle.cpu.specs.Fresh.{fresh_cpu}
-use Rattle.status.specs.Status.{set_sr_noint_nosp}
-use Rattle.pending.specs.Interrupts.{set_irq}
-use Rattle.memory.specs.declared.Bus.{Bus}
-use Rattle.answers.specs.declared.Call.TheVariants.{CheckAndServiceInterrupts}
-use Rattle.instances.specs.Start.{laid}
-use Rattle.nest.specs.View.{Row}
-use Rattle.nest.specs.Nest.{Step, entry, handlers, State, end, rows, Values, restored, restored_by, depth, Premises, Told}
-use Rattle.entered.specs.Machines.{Direct, Room}
+use Rattle.std.specs.Prelude.{ℕ, ◌<◌, ◌≤◌, ◌≡◌, [], ◌∷◌}
+use Rattle.std.proofs.Common.{sym, subst, arith}
+use Rattle.std.proofs.Math.Option.{none, some}
+use Rattle.nest.specs.Nest.{rows, restored, Premises, Told}
 use Rattle.rule3.specs.Rule3.{Real, walk, rule3}
-use Rattle.rule3.specs.Checked.{real, premises_test, premises_tested}
-use Rattle.rule3.specs.Computed.{nested}
+use Rattle.rule3.specs.Checked.{real, premises_tested}
 use Rattle.rule3.specs.Worked.{r₀, s₀, steps, final, final_rows, test, depth_is, walked_by, returned_by_lem, final_values}
 
 pub premises : Premises Real steps r₀ s₀

@@ -16,7 +16,7 @@ use Rattle.status.specs.Status.{get_sr, decompose, s_of, m_of, put_back_sr}
 use Rattle.status.specs.Banks.{sp_index, backup_sp, restore_sp}
 use Rattle.refusals.specs.Refusals.{odd_base, bad_code}
 use Rattle.memory.specs.declared.Bus.{Bus}
-use Rattle.memory.proofs.ByteLaws.{AllBytes}
+use Rattle.memory.specs.ByteLaws.{AllBytes}
 use Rattle.unwind.specs.declared.frames.Frame.{Frame}
 use Rattle.unwind.specs.declared.returns.Row.{Row}
 use Rattle.unwind.specs.declared.returns.Back.{Back}

@@ -1,8 +1,8 @@
 -- A nest of two ticks on the 68010, computed: an interrupt of level 2, and inside its handler one of level 4. The premises of rule 3 hold of
 -- it, and the rows and values that rule 3 gives are these. The store has 512 bytes from 0, with the handlers' addresses 0x120 at vector 26
 -- (0x68) and 0x140 at vector 28 (0x70).
-use Rattle.std.specs.Prelude.{ℕ, ◌*◌, ◌<◌, ◌≤◌, ◌≡◌, refl, true, List, [], ◌∷◌, set, replicate}
-use Rattle.std.proofs.Common.{sym, ap, ◌∙◌, subst, arith}
+use Rattle.std.specs.Prelude.{ℕ, ◌*◌, ◌≤◌, ◌≡◌, refl, true, List, [], ◌∷◌, set, replicate}
+use Rattle.std.proofs.Common.{sym, ap, ◌∙◌, arith}
 use Rattle.std.proofs.Math.Option.{Option, none, some}
 use Rattle.cpu.specs.declared.Cpu.{Cpu}
 use Rattle.cpu.specs.Fields.{set_a7, set_pc}
@@ -13,10 +13,10 @@ use Rattle.memory.specs.declared.Bus.{Bus}
 use Rattle.answers.specs.declared.Call.TheVariants.{CheckAndServiceInterrupts}
 use Rattle.instances.specs.Start.{laid}
 use Rattle.nest.specs.View.{Row}
-use Rattle.nest.specs.Nest.{Step, entry, handlers, State, end, rows, Values, restored, restored_by, depth, Premises, Told}
+use Rattle.nest.specs.Nest.{Step, entry, handlers, State, end, rows, Values, restored, restored_by, depth, Told}
 use Rattle.entered.specs.Machines.{Direct, Room}
-use Rattle.rule3.specs.Rule3.{Real, walk, rule3}
-use Rattle.rule3.specs.Checked.{real, premises_test, premises_tested}
+use Rattle.rule3.specs.Rule3.{Real, walk}
+use Rattle.rule3.specs.Checked.{real, premises_test}
 use Rattle.rule3.specs.Computed.{nested}
 
 -- ---- the list

@@ -1,11 +1,11 @@
 -- What each command does: a law an arm of `act`, whose premises are what its calls ensure.
 use Prim.Native.Nat.{ℕ, ◌<◌}
-use mathlib.Core.Path.{◌≡◌, refl, sym, ap, ◌∙◌}
+use mathlib.Core.Path.{◌≡◌, ap, ◌∙◌}
 use mathlib.Core.List.{List}
 use Rattle.cpu.specs.declared.Cpu.{Cpu}
 use Rattle.cpu.specs.Fields.{set_pc, set_ppc, set_a7}
 use Rattle.memory.specs.declared.Core.{Core}
-use Rattle.memory.specs.World.{World, world, put_cpu, poke_long}
+use Rattle.memory.specs.World.{world, put_cpu, poke_long}
 use Rattle.numbers.specs.declared.RawCall.{RawCall}
 use Rattle.lines.specs.declared.Command.{Command}
 use Rattle.lines.specs.declared.Command.TheVariants as command

@@ -1,18 +1,16 @@
 -- The rows of a walk, printed from the buffer that the walk was lent.
-use Prim.Native.Nat.{ℕ, zero, suc, ◌+◌, ◌-◌, ◌*◌, ◌<◌, ◌≤◌}
+use Prim.Native.Nat.{ℕ, suc, ◌+◌, ◌-◌, ◌*◌, ◌<◌, ◌≤◌}
 use mathlib.Core.Path.{◌≡◌, refl, sym, ap, ◌∙◌}
-use mathlib.Core.Bool.{Bool, true, false}
-use mathlib.Core.List.{List, [], ◌∷◌, ◌++◌, append_assoc, append-nil}
+use mathlib.Core.List.{List, [], append-nil}
 use native.Mathlib.Omega.{arith}
 use native.Mathlib.Numerals.{add-one}
 use borrow.Author.Tests.{eq-eqb, ne_eqb, lt-ltb, le-ltb}
-use lib.Dec.{eqb, ltb}
 use lib.ListN.{length}
 use Rattle.memory.specs.declared.Core.{Core}
 use Rattle.unwind.specs.Returns.{Walk, walk}
 use Rattle.unwind.specs.Unwind.{walk_from}
 use Rattle.unwind.specs.Rows.{row_at, rows_from, trail_from, Reads, walk_reads}
-use Rattle.prints.specs.Prints.{before, more, refused_line}
+use Rattle.prints.specs.Prints.{more, refused_line}
 use Rattle.prints.specs.Laws.{more_more, more_none}
 use Rattle.sessions.specs.Walks.{row_text, row_texts, refusal_text, walk_text, walked}
 

@@ -1,18 +1,16 @@
 -- The ways through the functions of a session: premises are what the calls on the way ensure and how the tests went.
-use Prim.Native.Nat.{ℕ, zero, suc, ◌+◌, ◌-◌, ◌<◌, ◌≤◌}
-use mathlib.Core.Path.{◌≡◌, refl, sym, ap, ◌∙◌}
+use Prim.Native.Nat.{ℕ, ◌+◌, ◌-◌, ◌<◌, ◌≤◌}
+use mathlib.Core.Path.{◌≡◌, sym, ap, ◌∙◌}
 use mathlib.Core.Bool.{Bool, true, false, not}
-use mathlib.Core.List.{List, [], ◌∷◌, ◌++◌, append-nil}
+use mathlib.Core.List.{List, [], ◌∷◌, ◌++◌}
 use native.Mathlib.Omega.{arith}
 use native.Mathlib.Numerals.{add-one}
-use borrow.Author.Tests.{eq-eqb, ne_eqb, leb-true}
-use lib.Dec.{eqb, ltb, leb}
+use borrow.Author.Tests.{eq-eqb, ne_eqb}
+use lib.Dec.{eqb}
 use lib.ListN.{length, take, set, replicate, replicate-append-replicate}
 use lib.Seq.{take-suc-set, take_all}
 use Rattle.cpu.specs.Fields.{kind_of, pc_of, a7_of}
 use Rattle.status.specs.Status.{get_sr}
-use Rattle.types.specs.Kinds.{pick}
-use Rattle.memory.specs.declared.Bus.{Bus}
 use Rattle.memory.specs.declared.Core.{Core}
 use Rattle.memory.specs.World.{World, world}
 use Rattle.memory.specs.Served.{served_of}
@@ -22,9 +20,9 @@ use Rattle.boundary.specs.Calls.{outcome, raw_call}
 use Rattle.unwind.specs.declared.Returned.{Returned}
 use Rattle.unwind.specs.Unwind.{return_from}
 use Rattle.prints.specs.Prints.{before, more, laid, state_line, refused_line}
-use Rattle.prints.specs.Laws.{laid_room, more_more, more_none}
+use Rattle.prints.specs.Laws.{laid_room, more_none}
 use Rattle.sessions.specs.declared.Shown.{Shown}
-use Rattle.sessions.specs.Sessions.{Session, session, charge_of, state_of, interrupted, returned, return_told, long_told, cleared}
+use Rattle.sessions.specs.Sessions.{session, charge_of, state_of, interrupted, returned, return_told, long_told, cleared}
 use Rattle.sessions.specs.Numbered.{numbered, cycles_of, shown_of, told, entered_by, interrupt_same}
 
 pub charge_46 : (m : Core) (t : Bool) (k : ℕ) → t ≡ true → k ≡ kind_of m.cpu → k ≡ 2 → 46 ≡ charge_of m t

@@ -1,5 +1,5 @@
 -- "`irq` is `set_irq` and then the interrupt call; the level stays set if that call is refused".
-use Rattle.std.specs.Prelude.{ℕ, ◌≡◌, refl, false, eqb}
+use Rattle.std.specs.Prelude.{ℕ, ◌≡◌, false, eqb}
 use Rattle.memory.specs.World.{World}
 use Rattle.answers.specs.declared.Call.TheVariants.{SetIrq, CheckAndServiceInterrupts}
 use Rattle.calls.specs.Calls.{refusal, perform}

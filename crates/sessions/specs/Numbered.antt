@@ -1,21 +1,20 @@
 -- The acting calls by number, as a session makes them: what one prints by its answer in numbers, and that this is what `entered` says.
 use Rattle.std.specs.Prelude.{ℕ, ◌%◌, ◌<◌, ◌≡◌, refl, Bool, true, false, List, eqb}
-use Rattle.std.proofs.Common.{sym, ap, ◌∙◌, arith}
+use Rattle.std.proofs.Common.{ap, ◌∙◌, arith}
 use Rattle.types.specs.Kinds.{pick}
 use Rattle.cpu.specs.Fields.{pc_of, a7_of}
 use Rattle.status.specs.Status.{get_sr}
 use Rattle.memory.specs.declared.Core.{Core}
-use Rattle.memory.specs.World.{World, world}
+use Rattle.memory.specs.World.{World}
 use Rattle.answers.specs.declared.Call.{Call}
 use Rattle.answers.specs.declared.Call.TheVariants.{TakeException, Trap, SetIrq, CheckAndServiceInterrupts}
-use Rattle.answers.specs.declared.Answer.{Answer}
-use Rattle.answers.specs.declared.Answer.TheVariants.{Cycles, Flag, Refused}
+use Rattle.answers.specs.declared.Answer.TheVariants.{Refused}
 use Rattle.numbers.specs.Numbers.{bit, flag}
-use Rattle.answers.specs.Answers.{Performed, answered, refused_by, value_of, count_of, cycles, flag as flagged, of_entry, of_service}
+use Rattle.answers.specs.Answers.{Performed, answered, refused_by, value_of, cycles, flag as flagged, of_entry, of_service}
 use Rattle.calls.specs.Calls.{run, begun, refusal, perform}
 use Rattle.numbers.specs.declared.RawCall.{RawCall}
 use Rattle.boundary.specs.Calls.{Outcome, outcome, decode, of_performed, raw_of, raw_call}
-use Rattle.prints.specs.Prints.{more, state_line, refused_line}
+use Rattle.prints.specs.Prints.{state_line, refused_line}
 use Rattle.sessions.specs.declared.Shown.{Shown}
 use Rattle.sessions.specs.Sessions.{Session, session, say, state_of, charge_of, answer_told, entered, interrupted}
 

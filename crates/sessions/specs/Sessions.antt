@@ -1,5 +1,5 @@
 -- The session of paper 01: what a line makes of record, bus and store, and what it prints.
-use Rattle.std.specs.Prelude.{ℕ, Bool, true, false, List, [], eqb, length, replicate}
+use Rattle.std.specs.Prelude.{ℕ, Bool, List, [], eqb, length, replicate}
 use Rattle.types.specs.Kinds.{pick}
 use Rattle.cpu.specs.Fields.{kind_of, pc_of, a7_of, set_pc, set_ppc, set_a7}
 use Rattle.cpu.specs.Fresh.{fresh_cpu}

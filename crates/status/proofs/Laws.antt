@@ -1,4 +1,4 @@
--- Laws of the status register, taken apart and put together, and of the stacks.
+-- Theorems about what specs/Laws defines, and what rests on them.
 use Rattle.std.specs.Prelude.{◌≡◌, ℕ, zero, suc, ◌+◌, ◌-◌, ◌*◌, ◌/◌, ◌%◌, ◌≤◌, ◌<◌, eqb, length, get_or}
 use Rattle.std.proofs.Math.Path.{refl, ap}
 use Rattle.std.proofs.Common.{sym, ◌∙◌, subst, add_assoc, mul-div_cancel, arith, lit<, lit≤, get_or-set_same, set-set}
@@ -6,7 +6,8 @@ use mathlib.Core.List.{List}
 use Rattle.std.proofs.Math.ListN.{set}
 use Rattle.std.proofs.lemmas.List.{set-get_or}
 use Rattle.types.specs.Kinds.{pick, is060, mask_status}
-use Rattle.types.proofs.Laws.{pick_holds, Parts, packed, masked_status_parts, masked_status_sum}
+use Rattle.types.specs.Laws.{Parts}
+use Rattle.types.proofs.Laws.{pick_holds, packed, masked_status_parts, masked_status_sum}
 use Rattle.cpu.specs.declared.Flags.{Flags}
 use Rattle.cpu.specs.declared.Cpu.{Cpu}
 use Rattle.cpu.specs.Groups.{with_regs, with_flags}
@@ -14,6 +15,7 @@ use Rattle.cpu.specs.Fields.{kind_of, a7_of}
 use Rattle.status.specs.Status.{compose, get_sr, decompose, s_of, m_of, m_under_s, set_sr_noint_nosp, put_back_sr, clear_trace}
 use Rattle.status.specs.Banks.{sp_index, backup_sp, restore_sp, put_s, set_sm_flag_nosp, set_sflag, set_sm_flag, enter_supervisor}
 use Rattle.cpu.specs.Fresh.{fresh_cpu, fresh_flags}
+use Rattle.status.specs.Laws.{Codes, Tidy, drop_m}
 
 -- ---- the status register
 
@@ -62,10 +64,6 @@ status_back c sr =
     let v : ℕ = mask_status (kind_of c) sr in
     composed c.flags v (s_of v) (m_of v) ∙ rw (bit_back (v / 0x2000) 4 (lit< tt), bit_back (v / 0x1000) 2 (lit< tt)) (masked_status_sum (kind_of c) sr)
 
--- a status whose M is cleared where its S is clear
-unfoldable pub drop_m : ℕ → ℕ
-drop_m w = pick (eqb (w / 0x2000 % 2) 0) (w - w / 0x1000 % 2 * 0x1000) w
-
 m_dropped : (s m w x y z : ℕ) → s < 2 → m < 2 → x + m * 0x1000 + y + z ≡ w → x + pick (eqb (s * 4) 0) 0 (m * 2) / 2 % 2 * 0x1000 + y + z ≡ pick (eqb s 0) (w - m * 0x1000) w
 m_dropped zero m w x y z l d e = omega arith
 m_dropped (suc zero) m w x y z l d e = omega arith
@@ -88,21 +86,6 @@ status_restored_supervisor c sr h = status_restored c sr ∙ rw ((masked_status_
 pub status_restored_user : (c : Cpu) (sr : ℕ) → sr / 0x2000 % 2 ≡ 0 → get_sr (set_sr_noint_nosp c sr) / 0x1000 % 2 ≡ 0
 unfolding drop_m
 status_restored_user c sr h = rw (status_restored, (masked_status_parts (kind_of c) sr).s_bit_lem, h) (omega arith)
-
--- ---- tidy flags
-
--- each flag is 0 or the bit that `get_sr` tests, and the opposite of Z is 0 or 1
-pub record Tidy (f : Flags) : Type 0 where
-  pub t1_bit : f.t1_flag / 0x8000 % 2 * 0x8000 ≡ f.t1_flag
-  pub t0_bit : f.t0_flag / 0x4000 % 2 * 0x4000 ≡ f.t0_flag
-  pub s_bit_lem : f.s_flag / 4 % 2 * 4 ≡ f.s_flag
-  pub m_bit_lem : f.m_flag / 2 % 2 * 2 ≡ f.m_flag
-  pub level : f.int_mask / 256 % 8 * 256 ≡ f.int_mask
-  pub x_bit : f.x_flag / 256 % 2 * 256 ≡ f.x_flag
-  pub n_bit : f.n_flag / 128 % 2 * 128 ≡ f.n_flag
-  pub z_bit : f.not_z_flag ≤ 1
-  pub v_bit : f.v_flag / 128 % 2 * 128 ≡ f.v_flag
-  pub c_bit : f.c_flag / 256 % 2 * 256 ≡ f.c_flag
 
 -- a bit at its weight
 at_weight : (x n : ℕ) → 0 < n → x % 2 * n / n % 2 * n ≡ x % 2 * n
@@ -157,14 +140,6 @@ composed_parts f =
     rw (add_assoc _ (f.x_flag / 256 % 2 * 16 + f.n_flag / 128 % 2 * 8 + f.v_flag / 128 % 2 * 2 + f.c_flag / 256 % 2) (pick (eqb f.not_z_flag 0) 4 0))
     (packed _ _ _ _ _ _ (omega arith) (omega arith) (omega arith) (omega arith) (omega arith)
     (pick_holds (λ (z : ℕ). f.x_flag / 256 % 2 * 16 + f.n_flag / 128 % 2 * 8 + f.v_flag / 128 % 2 * 2 + f.c_flag / 256 % 2 + z < 32) (eqb f.not_z_flag 0) 4 0 (omega arith) (omega arith)))
-
--- the five condition codes of a status, from its low five bits
-record Codes (w x n z v c : ℕ) : Type 0 where
-  x_bit : w / 16 % 2 ≡ x
-  n_bit : w / 8 % 2 ≡ n
-  z_bit : w / 4 % 2 ≡ z
-  v_bit : w / 2 % 2 ≡ v
-  c_bit : w % 2 ≡ c
 
 codes_of : (w x n z v c : ℕ) → x < 2 → n < 2 → z < 2 → v < 2 → c < 2 → w % 32 ≡ x * 16 + n * 8 + v * 2 + c + z * 4 → Codes w x n z v c
 codes_of w x n z v c l1 l2 l3 l4 l5 e =

@@ -1,2 +1,3 @@
 pub mod Status
 pub mod Banks
+pub mod Laws

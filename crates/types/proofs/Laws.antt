@@ -1,4 +1,4 @@
--- Laws of what follows from the kind: the masks, the causes and the two tables.
+-- Theorems about what specs/Laws defines, and what rests on them.
 use Rattle.std.specs.Prelude.{◌≡◌, refl, Bool, true, false, ℕ, ◌+◌, ◌*◌, ◌/◌, ◌%◌, ◌-◌, ◌^◌, ◌≤◌, ◌<◌, eqb, ltb, leb, replicate}
 use Rattle.std.proofs.Common.{sym, ap, ap₂, ◌∙◌, div-add-mod', mod-lt, arith, lit<, lit≤, pow_pos, eqb-true}
 use Rattle.std.specs.Int.Bits.{bit_and, and_zero_r}
@@ -9,6 +9,7 @@ use Rattle.types.specs.Kinds.{pick, either, both, address_bits, mask_address, ha
 use Rattle.types.specs.Every.{at}
 use Rattle.types.specs.Causes.{cause_number, cause_of}
 use Rattle.types.specs.Tables.{exception_cycles, format_length, takes_format, frame_length}
+use Rattle.types.specs.Laws.{Parts}
 
 -- what holds of both values holds of the one that is picked
 pub pick_holds : {A : Type 0} (P : A → Type 0) (t : Bool) (x y : A) → P x → P y → P (pick t x y)
@@ -57,15 +58,6 @@ mask_fits k = pick_holds (λ (n : ℕ). n < 0x10000) (has_m k) _ _ (pick_holds (
 -- a masked status is one of 16 bits
 pub masked_status_fits : (k w : ℕ) → mask_status k w < 0x10000
 masked_status_fits k w = rw masked_status_bits (omega (arith, and_le_r w (status_mask k), mask_fits k))
-
--- the parts of a status v: T1, T0, S, M, the interrupt level, the condition codes
-pub record Parts (v t1 t0 s m i x : ℕ) : Type 0 where
-  pub t1_bit : v / 0x8000 % 2 ≡ t1
-  pub t0_bit : v / 0x4000 % 2 ≡ t0
-  pub s_bit_lem : v / 0x2000 % 2 ≡ s
-  pub m_bit_lem : v / 0x1000 % 2 ≡ m
-  pub level : v / 256 % 8 ≡ i
-  pub codes : v % 32 ≡ x
 
 pub packed : (t1 t0 s m i x : ℕ) → t1 < 2 → t0 < 2 → s < 2 → m < 2 → i < 8 → x < 32
     → Parts (t1 * 0x8000 + t0 * 0x4000 + s * 0x2000 + m * 0x1000 + i * 256 + x) t1 t0 s m i x

@@ -4,3 +4,4 @@ pub mod Causes
 pub mod Tables
 pub mod Past
 pub mod Every
+pub mod Laws

@@ -1,25 +1,22 @@
 -- Theorems about what specs/Entries defines, and what rests on them.
-use Rattle.std.specs.Prelude.{ℕ, ◌+◌, ◌%◌, ◌^◌, ◌≤◌, ◌<◌, ◌≡◌, Bool, List, eqb, length}
-use Rattle.std.proofs.Math.Path.{refl}
-use Rattle.std.proofs.Common.{sym, ap, ◌∙◌, arith}
+use Rattle.std.specs.Prelude.{ℕ, ◌+◌, ◌^◌, ◌<◌, ◌≡◌, Bool, List, eqb}
+use Rattle.std.proofs.Common.{ap, ◌∙◌, arith}
 use Rattle.std.proofs.Math.Bool.{true, false}
-use Rattle.std.proofs.Math.ListN.{length-set}
 use Rattle.types.specs.Kinds.{pick, is_pre68020}
 use Rattle.types.specs.Tables.{exception_cycles}
 use Rattle.types.specs.Vectors.{trace, line1111}
 use Rattle.cpu.specs.declared.Cpu.{Cpu}
-use Rattle.cpu.specs.Fields.{kind_of, pc_of, ppc_of, vbr_of, a7_of, is_faulted, in_exception, set_wdata, set_a7, set_pc, start_vector, set_exception, leave_stop, rewind_pc, note_fpiar}
-use Rattle.cpu.specs.Clocks.{clocks_of, set_clocks, prefetch_enabled, internal_cycles, first_word, second_word}
-use Rattle.status.specs.Status.{get_sr, clear_trace}
-use Rattle.status.specs.Banks.{enter_supervisor, set_sflag, restore_sp, put_s, backup_sp, sp_index}
+use Rattle.cpu.specs.Fields.{kind_of, pc_of, ppc_of, in_exception, leave_stop, rewind_pc, note_fpiar}
+use Rattle.cpu.specs.Clocks.{clocks_of, prefetch_enabled}
+use Rattle.status.specs.Status.{get_sr}
+use Rattle.status.specs.Banks.{enter_supervisor}
 use Rattle.memory.specs.declared.Bus.{Bus}
-use Rattle.memory.specs.Runs.{Apart}
-use Rattle.memory.specs.World.{World, put_cpu}
-use Rattle.steps.specs.Steps.{stacks_next, stacked_address, begin_entry, begin_trace}
+use Rattle.memory.specs.World.{World}
+use Rattle.steps.specs.Steps.{stacked_address}
 use Rattle.access.specs.Access.{raised, push_frame, push_exception_frame68000, jump_vector}
 use Rattle.formats.specs.Formats.{format_word, offset_word, short_frame, long_frame, disabled_frame}
-use Rattle.exceptions.specs.Exceptions.{entry, stack_short, finished, taken, take_exception, stack_group2, take_group2, exception_trace, take_rewound, stack_unimp, take_fp_unimp060, stack_disabled, take_fp_disabled060}
-use Rattle.unfaulted.specs.Closed.{closed, Piece, last_value, stacked, short_pieces, long_pieces, disabled_pieces, three_pieces, Room, Within, Landing, Entering, jumped, arrived, clocks_after, short_bytes, short_of, group2_bytes, group2_of}
+use Rattle.exceptions.specs.Exceptions.{entry, stack_short, finished, take_exception, stack_group2, take_group2, exception_trace, take_rewound, take_fp_unimp060, take_fp_disabled060}
+use Rattle.unfaulted.specs.Closed.{closed, Piece, short_pieces, long_pieces, disabled_pieces, three_pieces, Entering, arrived, clocks_after, short_bytes, short_of, group2_bytes, group2_of}
 use Rattle.unfaulted.specs.Stacks.{three_within}
 use Rattle.unfaulted.proofs.Stacks.{short_stacked, long_stacked, disabled_stacked, three_stacked, jump_stacked}
 use Rattle.unfaulted.specs.Entries.{alike_entering, short_within, long_within, disabled_within, three_few, short_few, long_few, disabled_few, Frames, short_step, begun, begun_alike, begun_clocks, begun_fetches, begun_kind, begun_status, begun_address, begins, taken_step, finish_step, supervisor_clocks, supervisor_fetches, group2_step, traced, traced_alike, traced_clocks, traced_kind, traced_arrived, traces, trace_step, rewind_alike, rewind_kind, rewind_exception, rewind_arrived, rewind_step, fpiar_alike, unimp_step, fpiar_fetches, fpiar_clocks, disabled_step}

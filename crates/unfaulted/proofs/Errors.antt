@@ -1,25 +1,22 @@
 -- Theorems about what specs/Errors defines, and what rests on them.
-use Rattle.std.specs.Prelude.{ℕ, zero, suc, ◌+◌, ◌%◌, ◌^◌, ◌<◌, ◌≡◌, Bool, true, false, List, eqb, length}
+use Rattle.std.specs.Prelude.{ℕ, suc, ◌+◌, ◌^◌, ◌<◌, ◌≡◌, Bool, false, List, length}
 use Rattle.std.proofs.Math.Path.{refl}
-use Rattle.std.proofs.Common.{sym, ap, ◌∙◌, arith, eqb-true}
-use Rattle.types.specs.Kinds.{pick, either, is_pre68020, is040, is060}
+use Rattle.std.proofs.Common.{ap, ◌∙◌, arith}
 use Rattle.types.specs.Vectors.{bus_error_vector}
 use Rattle.cpu.specs.declared.Cpu.{Cpu}
-use Rattle.cpu.specs.Fields.{kind_of, ppc_of, ir_of, vbr_of, a7_of, is_faulted, in_exception, cause_number_of, clear_fc_override}
+use Rattle.cpu.specs.Fields.{kind_of, a7_of, is_faulted}
 use Rattle.cpu.specs.Clocks.{clocks_of, prefetch_enabled}
 use Rattle.memory.specs.declared.Bus.{Bus}
-use Rattle.memory.specs.World.{World, put_cpu, step}
+use Rattle.memory.specs.World.{World}
 use Rattle.frames.specs.declared.Frame.{Frame}
-use Rattle.frames.specs.Frames.{field_at, bus_frame, frame68000, frame8, frame4, frame7, frame11, write_data}
-use Rattle.frames.specs.Codes.{fault_code, fault_word, ssw020, ssw040, wb3s, fslw060}
-use Rattle.status.specs.Status.{get_sr}
-use Rattle.steps.specs.Steps.{enter_bus_error, begin_bus, close_bus}
+use Rattle.frames.specs.Frames.{field_at, bus_frame}
+use Rattle.steps.specs.Steps.{enter_bus_error}
 use Rattle.status.specs.Banks.{enter_supervisor}
-use Rattle.access.specs.Access.{Raise, bus_error, push_fields, push_frame, jump_vector, exception_bus_error, raise_bus, trigger}
+use Rattle.access.specs.Access.{Raise, push_fields, push_frame, jump_vector, exception_bus_error}
 use Rattle.unfaulted.specs.Closed.{closed, Piece, Room, stacked, Entering, arrived}
 use Rattle.unfaulted.specs.Pushes.{offset_of, pieces_of, Guarded, pieces_within, length_pieces}
 use Rattle.unfaulted.proofs.Stacks.{frame_stacked, jump_stacked}
-use Rattle.unfaulted.specs.Entries.{Alike, alike_entering, supervisor_clocks, supervisor_fetches}
+use Rattle.unfaulted.specs.Entries.{alike_entering, supervisor_clocks, supervisor_fetches}
 use Rattle.unfaulted.specs.Errors.{error_alike, error_clocks, error_fetches, bus_step}
 
 -- ---- any frame of guarded fields, and the jump

@@ -1,21 +1,16 @@
 -- Theorems about what specs/Examples defines, and what rests on them.
-use Rattle.std.specs.Prelude.{ℕ, ◌+◌, ◌-◌, ◌%◌, ◌≤◌, ◌<◌, ◌≡◌, refl, List, [], ◌∷◌, replicate}
-use Rattle.std.proofs.Common.{inr, arith, lit≤, lit<}
-use Rattle.types.specs.Kinds.{is060, is_prefetch_kind, mask_address}
+use Rattle.std.specs.Prelude.{◌≡◌, refl, []}
+use Rattle.std.proofs.Common.{lit<}
 use Rattle.types.specs.Tables.{exception_cycles}
-use Rattle.cpu.specs.declared.Cpu.{Cpu}
-use Rattle.cpu.specs.Fields.{kind_of, pc_of, ppc_of, vbr_of, a7_of, is_faulted, in_exception, set_a7}
-use Rattle.cpu.specs.Clocks.{prefetch_enabled, clocks_of, set_clocks}
-use Rattle.cpu.specs.Fresh.{fresh_cpu, fresh_flow, fresh_regs, fresh_flags, fresh_queue}
-use Rattle.memory.specs.declared.Bus.{Bus}
-use Rattle.memory.specs.Bytes.{put_long, put_word, get_long, get_word}
-use Rattle.status.specs.Status.{get_sr, compose, clear_trace}
-use Rattle.status.specs.Banks.{enter_supervisor, set_sflag, restore_sp, put_s, backup_sp, sp_index}
+use Rattle.cpu.specs.Fields.{kind_of, in_exception, set_a7}
+use Rattle.cpu.specs.Clocks.{prefetch_enabled, set_clocks}
+use Rattle.cpu.specs.Fresh.{fresh_cpu, fresh_flow}
+use Rattle.status.specs.Status.{get_sr}
+use Rattle.status.specs.Banks.{enter_supervisor}
 use Rattle.exceptions.specs.Exceptions.{entry, take_exception}
-use Rattle.steps.specs.Steps.{stacks_next, stacked_address}
+use Rattle.steps.specs.Steps.{stacked_address}
 use Rattle.formats.specs.Formats.{offset_word}
-use Rattle.unfaulted.specs.Closed.{closed, event, Room, Entering, arrived, clocks_after, entry_events, short_bytes, short_of, three_pieces, writes_of, clock_events, jump_events}
-use Rattle.unfaulted.specs.Entries.{entering}
+use Rattle.unfaulted.specs.Closed.{closed, arrived, clocks_after, short_of}
 use Rattle.unfaulted.proofs.Entries.{take_closed}
 use Rattle.unfaulted.specs.Examples.{board, bytes, fresh, fresh_enters}
 

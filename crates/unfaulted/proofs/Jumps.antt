@@ -1,27 +1,25 @@
 -- Theorems about what specs/Jumps defines, and what rests on them.
-use Rattle.std.specs.Prelude.{ℕ, ◌+◌, ◌-◌, ◌*◌, ◌%◌, ◌^◌, ◌≤◌, ◌<◌, ◌≡◌, Bool, false, List, [], ◌∷◌, ltb, length}
+use Rattle.std.specs.Prelude.{ℕ, ◌+◌, ◌-◌, ◌*◌, ◌%◌, ◌^◌, ◌<◌, ◌≡◌, Bool, false, List, [], ◌∷◌, length}
 use Rattle.std.proofs.Math.Path.{refl, sym}
-use Rattle.std.proofs.Common.{ap, ◌∙◌, ne_eqb}
+use Rattle.std.proofs.Common.{ap, ◌∙◌}
 use Rattle.std.proofs.Math.Bool.{true}
 use native.Mathlib.Omega.{arith}
-use Rattle.types.specs.Kinds.{pick, mask_address}
-use Rattle.types.proofs.Laws.{masked_address_parity}
+use Rattle.types.specs.Kinds.{mask_address}
 use Rattle.cpu.specs.declared.Cpu.{Cpu}
-use Rattle.cpu.specs.Fields.{kind_of, pc_of, vbr_of, address_of, is_faulted, set_pc, start_vector, odd_pc}
-use Rattle.cpu.specs.Clocks.{has_clocks, clocks_of, set_clocks, prefetch_enabled, one_fetched, internal_cycles, clear_prefetch, first_word, second_word}
-use Rattle.cpu.specs.Laws.{clocks_kept}
+use Rattle.cpu.specs.Fields.{kind_of, pc_of, vbr_of, address_of, is_faulted, start_vector, odd_pc}
+use Rattle.cpu.specs.Clocks.{has_clocks, clocks_of, set_clocks, prefetch_enabled, one_fetched, clear_prefetch, first_word, second_word}
 use Rattle.memory.specs.declared.Bus.{Bus}
 use Rattle.memory.specs.Log.{note_log, counted}
 use Rattle.memory.specs.Bytes.{get_word, get_long}
-use Rattle.memory.specs.World.{World, Attempt, reply, noted, put_cpu, flush, release, cpu_of, with_cpu}
-use Rattle.memory.proofs.LogLaws.{Event}
+use Rattle.memory.specs.World.{World, Attempt, reply, noted, put_cpu, flush}
+use Rattle.memory.specs.LogLaws.{Event}
 use Rattle.steps.specs.Steps.{vector_address}
-use Rattle.access.specs.Access.{Raise, read_at, prefetch_read, kept_first, first_from, prefetch_first, kept_second, second_from, prefetch_second, vector_read, refill, jump_to, jump_vector}
+use Rattle.access.specs.Access.{Raise, prefetch_read, kept_first, first_from, prefetch_first, kept_second, second_from, prefetch_second, vector_read, refill, jump_to, jump_vector}
 use Rattle.unfaulted.specs.Closed.{closed, event, told, Room, jump_events, jumped, Landing}
 use Rattle.unfaulted.specs.Pushes.{joined}
 use Rattle.unfaulted.specs.Accesses.{clocks_none, calm_flush}
 use Rattle.unfaulted.proofs.Accesses.{read_closed, word_closed}
-use Rattle.unfaulted.specs.Jumps.{second_place, even_pc, cycles_two, none_has, first_on, first_clocks, first_one, first_odd, first_pc, first_running, first_kind, masked, refill_step, first, second, refill_none, release_closed, vector_step, jump_step, start_running, start_clocks, start_kind, vector_masked, landed, land_on, land_running, land_clocks, land_kind, land_pc}
+use Rattle.unfaulted.specs.Jumps.{second_place, even_pc, cycles_two, none_has, first_on, first_clocks, first_one, first_odd, first_pc, first_running, first_kind, masked, refill_step, refill_none, release_closed, vector_step, jump_step, start_running, start_clocks, start_kind, vector_masked, landed, land_on, land_running, land_clocks, land_kind, land_pc}
 
 -- ---- the queue
 

@@ -1,16 +1,13 @@
 -- Theorems about what specs/Lists defines, and what rests on them.
-use Rattle.std.specs.Prelude.{ℕ, suc, ◌+◌, ◌≤◌, ◌≡◌, Bool, true, false, List, [], ◌∷◌, ◌++◌, ltb, length}
+use Rattle.std.specs.Prelude.{ℕ, ◌+◌, ◌≡◌, Bool, List, [], ◌∷◌}
 use Rattle.std.proofs.Math.Path.{refl}
-use Rattle.std.proofs.Common.{ap, ◌∙◌, inl, inr}
-use native.Mathlib.Omega.{arith}
-use Rattle.types.specs.Kinds.{pick}
-use Rattle.memory.specs.Log.{note_log}
+use Rattle.std.proofs.Common.{◌∙◌}
 use Rattle.memory.specs.World.{width_of}
 use Rattle.memory.specs.Runs.{Apart}
-use Rattle.memory.proofs.ByteLaws.{put, get, put_length, read_other}
-use Rattle.memory.proofs.LogLaws.{Event}
-use Rattle.memory.proofs.AccessLaws.{kept}
-use Rattle.unfaulted.specs.Closed.{event, told, Piece, laid, writes_of, clock_events, Within}
+use Rattle.memory.specs.ByteLaws.{put, get}
+use Rattle.memory.proofs.ByteLaws.{read_other}
+use Rattle.memory.specs.AccessLaws.{kept}
+use Rattle.unfaulted.specs.Closed.{Piece, laid, Within}
 use Rattle.unfaulted.specs.Lists.{part_apart}
 
 -- a read that lies apart from all n bytes of the frame is the same before it and after it

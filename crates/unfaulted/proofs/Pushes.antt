@@ -1,23 +1,22 @@
 -- Theorems about what specs/Pushes defines, and what rests on them.
-use Rattle.std.specs.Prelude.{ℕ, zero, suc, ◌+◌, ◌-◌, ◌%◌, ◌^◌, ◌≤◌, ◌<◌, ◌≡◌, Bool, true, false, List, [], ◌∷◌, ◌++◌, length}
-use Rattle.std.proofs.Math.Path.{refl}
-use Rattle.std.proofs.Common.{sym, ap, ◌∙◌, arith, length-append, get_or-set_same, set-set}
-use Rattle.std.proofs.lemmas.List.{set-get_or}
+use Rattle.std.specs.Prelude.{ℕ, zero, suc, ◌+◌, ◌-◌, ◌^◌, ◌≤◌, ◌<◌, ◌≡◌, false, List, [], ◌∷◌, ◌++◌, length}
+use Rattle.std.proofs.Common.{sym, ap, ◌∙◌, arith}
 use Rattle.cpu.specs.declared.Cpu.{Cpu}
-use Rattle.cpu.specs.Fields.{kind_of, a7_of, is_faulted, set_wdata, set_a7, lower_a7, minus32}
+use Rattle.cpu.specs.Fields.{kind_of, a7_of, is_faulted, set_wdata, set_a7}
 use Rattle.cpu.specs.Clocks.{has_clocks, clocks_of, set_clocks}
 use Rattle.memory.specs.declared.Bus.{Bus}
 use Rattle.memory.specs.Log.{note_log}
-use Rattle.memory.specs.World.{World, put_cpu, width_of}
-use Rattle.memory.proofs.ByteLaws.{put, put_length}
-use Rattle.memory.proofs.LogLaws.{Event}
-use Rattle.memory.proofs.AccessLaws.{write_code, kept}
+use Rattle.memory.specs.World.{World}
+use Rattle.memory.specs.ByteLaws.{put}
+use Rattle.memory.proofs.ByteLaws.{put_length}
+use Rattle.memory.specs.LogLaws.{Event}
+use Rattle.memory.specs.AccessLaws.{write_code, kept}
 use Rattle.frames.specs.declared.Field.{Field}
 use Rattle.frames.specs.declared.Frame.{Frame}
-use Rattle.frames.specs.Frames.{field_at, is_counted, is_raw}
-use Rattle.access.specs.Access.{Raise, write_at, stack_field, push_field, push_fields}
+use Rattle.frames.specs.Frames.{field_at}
+use Rattle.access.specs.Access.{Raise, push_fields}
 use Rattle.unfaulted.specs.Closed.{closed, told, Piece, laid, writes_of, last_of, clock_events, Room, Within}
-use Rattle.unfaulted.specs.Lists.{told_append, length_writes, clocks_small}
+use Rattle.unfaulted.specs.Lists.{length_writes, clocks_small}
 use Rattle.unfaulted.specs.Accesses.{write_flush, calm_has, still_running}
 use Rattle.unfaulted.proofs.Accesses.{write_closed}
 use Rattle.unfaulted.specs.Pushes.{write_all, wdata_running, wdata_clocks, wdata_kind, joined, calm_kind, offset_of, pieces_of, Guarded, offset_even, length_pieces, a7_own, a7_running, a7_clocks, a7_kind, a7_wdata, field_written, wdata_registers, clocks_registers, field_flush}

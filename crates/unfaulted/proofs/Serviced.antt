@@ -1,30 +1,29 @@
 -- Theorems about what specs/Serviced defines, and what rests on them.
-use Rattle.std.specs.Prelude.{ℕ, suc, ◌+◌, ◌-◌, ◌/◌, ◌%◌, ◌^◌, ◌≤◌, ◌<◌, ◌≡◌, true, false, List, [], ◌∷◌, ◌++◌, eqb, length}
-use Rattle.std.proofs.Math.Path.{refl}
+use Rattle.std.specs.Prelude.{ℕ, ◌+◌, ◌-◌, ◌/◌, ◌%◌, ◌^◌, ◌≤◌, ◌<◌, ◌≡◌, true, false, List, [], ◌∷◌, ◌++◌, eqb, length}
 use Rattle.std.proofs.Common.{ap, ◌∙◌, arith, length-append}
 use Rattle.types.specs.Kinds.{pick}
 use Rattle.cpu.specs.declared.Cpu.{Cpu}
-use Rattle.cpu.specs.Fields.{kind_of, pc_of, vbr_of, a7_of, is_faulted, set_wdata, set_a7, lower_a7}
+use Rattle.cpu.specs.Fields.{kind_of, pc_of, a7_of, is_faulted, set_a7, lower_a7}
 use Rattle.cpu.specs.Clocks.{clocks_of, set_clocks, prefetch_enabled, internal_cycles}
-use Rattle.status.specs.Status.{get_sr, m_is_set, clear_trace, set_int_mask}
-use Rattle.status.specs.Banks.{enter_supervisor, set_sflag, restore_sp, put_s, backup_sp}
-use Rattle.pending.specs.Interrupts.{pending_level, takes_interrupt, clear_level}
+use Rattle.status.specs.Status.{get_sr, m_is_set}
+use Rattle.status.specs.Banks.{enter_supervisor}
+use Rattle.pending.specs.Interrupts.{pending_level, takes_interrupt}
 use Rattle.memory.specs.declared.Bus.{Bus}
-use Rattle.memory.specs.Log.{note_log, counted}
-use Rattle.memory.specs.World.{World, Attempt, reply, tried, noted, put_cpu, flush, response_of, acknowledged}
-use Rattle.memory.proofs.LogLaws.{Event}
-use Rattle.steps.specs.Steps.{iack_vector, enter_level, close_interrupt}
-use Rattle.access.specs.Access.{raised, write_at, push_frame, jump_vector}
-use Rattle.formats.specs.Formats.{offset_word, short_frame}
-use Rattle.interrupts.specs.Interrupts.{vector_from, acknowledge_level, synced_acknowledge, rest68000, from68000, push_interrupt68000, writes68010, rest68010, push_interrupt68010, rest_other, push_interrupt_other, first_frame, second_frame, ended, dispatched, service_interrupt, serviced, check_and_service}
-use Rattle.unfaulted.specs.Closed.{closed, event, told, Piece, word_at, laid, writes_of, last_of, last_value, clock_events, stacked, short_pieces, three_pieces, four_pieces, Room, Within, Entering, jumped, jump_events, clocks_after, interrupted, other_events, events68010, events68000}
-use Rattle.unfaulted.specs.Lists.{length_writes, clocks_small, laid_length}
-use Rattle.unfaulted.specs.Accesses.{still_running, flush_closed}
+use Rattle.memory.specs.Log.{note_log}
+use Rattle.memory.specs.World.{World, Attempt, reply, tried, response_of}
+use Rattle.memory.specs.LogLaws.{Event}
+use Rattle.steps.specs.Steps.{iack_vector, enter_level}
+use Rattle.access.specs.Access.{raised, write_at, jump_vector}
+use Rattle.formats.specs.Formats.{offset_word}
+use Rattle.interrupts.specs.Interrupts.{synced_acknowledge, rest68000, from68000, writes68010, rest68010, rest_other, first_frame, ended, dispatched, serviced, check_and_service}
+use Rattle.unfaulted.specs.Closed.{closed, event, told, Piece, word_at, laid, writes_of, last_value, clock_events, stacked, short_pieces, three_pieces, four_pieces, Room, Within, Entering, jumped, jump_events, clocks_after, interrupted, other_events, events68010, events68000}
+use Rattle.unfaulted.specs.Lists.{length_writes, laid_length}
+use Rattle.unfaulted.specs.Accesses.{still_running}
 use Rattle.unfaulted.specs.Pushes.{write_all, joined, lower_to, calm_kind, a7_set}
 use Rattle.unfaulted.proofs.Pushes.{writes_closed}
 use Rattle.unfaulted.specs.Stacks.{three_within, framed, framed_running, framed_kind}
 use Rattle.unfaulted.proofs.Stacks.{short_stacked, writes_stacked, jump_after}
-use Rattle.unfaulted.specs.Entries.{Alike, alike_entering, cycles_after_lem, short_within}
+use Rattle.unfaulted.specs.Entries.{alike_entering, cycles_after_lem, short_within}
 use Rattle.unfaulted.specs.Serviced.{level_alike, level_fetches, level_kind, level_clocks, level_master, acknowledge_closed, second_none, end_step, dispatch_step, check_step, other_step, other_rest, stacked_more, head_few, short_three, clocks_set, clocks_twice, sync_closed, four_writes, four_within, four_four, rest_step, calm_stacked, calm_a7, calm_registers, kind2_step, level_after, ack_few, kind1_step, framed_calm, framed_four, framed_over, low_within, high_within, low_stacked, one_write, rest1_step, two_writes, two_last, two_events, from_step, three_laid, three_last, head68000, head_small}
 
 -- an interrupt whose first frame is laid whole, the events hs before the jump

@@ -1,19 +1,18 @@
 -- Theorems about what specs/Stacks defines, and what rests on them.
 use Rattle.std.specs.Prelude.{ℕ, suc, ◌+◌, ◌-◌, ◌/◌, ◌%◌, ◌^◌, ◌≤◌, ◌<◌, ◌≡◌, Bool, true, false, List, [], ◌∷◌, ◌++◌, length}
 use Rattle.std.proofs.Math.Path.{refl}
-use Rattle.std.proofs.Common.{ap, ◌∙◌, inl, inr, arith, length-append}
+use Rattle.std.proofs.Common.{ap, ◌∙◌, arith, length-append}
 use Rattle.cpu.specs.declared.Cpu.{Cpu}
-use Rattle.cpu.specs.Fields.{kind_of, vbr_of, a7_of, is_faulted, set_wdata, set_a7, lower_a7}
+use Rattle.cpu.specs.Fields.{kind_of, vbr_of, a7_of, is_faulted, set_a7, lower_a7}
 use Rattle.cpu.specs.Clocks.{clocks_of, set_clocks, prefetch_enabled}
 use Rattle.memory.specs.declared.Bus.{Bus}
 use Rattle.memory.specs.Runs.{Apart}
-use Rattle.memory.specs.World.{World, put_cpu}
-use Rattle.memory.proofs.LogLaws.{Event}
+use Rattle.memory.specs.LogLaws.{Event}
 use Rattle.frames.specs.declared.Frame.{Frame}
 use Rattle.frames.specs.Frames.{field_at}
 use Rattle.access.specs.Access.{Raise, push_fields, push_frame, short_writes, push_exception_frame68000, jump_vector}
 use Rattle.formats.specs.Formats.{short_frame, long_frame, disabled_frame}
-use Rattle.unfaulted.specs.Closed.{closed, told, Piece, word_at, long_at, laid, writes_of, last_of, last_value, clock_events, stacked, short_pieces, long_pieces, disabled_pieces, three_pieces, Room, Within, Landing, Entering, jumped, jump_events, entry_events, arrived}
+use Rattle.unfaulted.specs.Closed.{closed, told, Piece, word_at, long_at, laid, writes_of, last_value, clock_events, stacked, short_pieces, long_pieces, disabled_pieces, three_pieces, Room, Within, Landing, Entering, jumped, jump_events, entry_events, arrived}
 use Rattle.unfaulted.specs.Lists.{length_writes, clocks_small, laid_length}
 use Rattle.unfaulted.proofs.Lists.{laid_other}
 use Rattle.unfaulted.specs.Pushes.{write_all, joined, offset_of, pieces_of, Guarded, lower_to, a7_set, a7_running, a7_kind}

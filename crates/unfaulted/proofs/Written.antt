@@ -1,5 +1,5 @@
 -- Theorems about what specs/Written defines, and what rests on them.
-use Prim.Native.Nat.{ℕ, ◌+◌, ◌/◌, ◌%◌, ◌^◌, ◌<◌}
+use Prim.Native.Nat.{ℕ, ◌+◌, ◌/◌, ◌%◌}
 use Rattle.std.specs.Prelude.{◌≡◌, Bool, ltb}
 use Rattle.std.proofs.Math.Path.{refl}
 use Rattle.std.proofs.Common.{ap, ◌∙◌}
@@ -14,9 +14,8 @@ use Rattle.pending.specs.Interrupts.{pending_level}
 use Rattle.memory.specs.declared.Bus.{Bus}
 use Rattle.memory.specs.World.{response_of}
 use Rattle.memory.specs.Log.{note_log}
-use Rattle.memory.specs.Bytes.{put_word, put_long}
-use Rattle.memory.proofs.LogLaws.{Event}
-use Rattle.unfaulted.specs.Closed.{event, told, Piece, laid, writes_of, clock_events, short_pieces, long_pieces, disabled_pieces, three_pieces, four_pieces, jump_events, entry_events, clocks_after, other_events, events68010, events68000}
+use Rattle.memory.specs.LogLaws.{Event}
+use Rattle.unfaulted.specs.Closed.{event, told, Piece, writes_of, clock_events, jump_events, entry_events, clocks_after, other_events, events68010, events68000}
 use Rattle.unfaulted.specs.Lists.{told_append, length_writes}
 use Rattle.unfaulted.specs.Written.{clocks_count_lem, jump_count_lem, one}
 

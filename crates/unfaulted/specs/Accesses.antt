@@ -4,18 +4,15 @@ use Rattle.std.proofs.Common.{sym, ap, arith}
 use borrow.Author.Tests.{ltb-false, le-ltb, le-leb, ne_eqb}
 use Rattle.types.specs.Kinds.{pick, mask_address}
 use Rattle.cpu.specs.declared.Cpu.{Cpu}
-use Rattle.cpu.specs.Fields.{kind_of, address_of, is_faulted, checks_alignment, set_wdata}
+use Rattle.cpu.specs.Fields.{is_faulted, checks_alignment}
 use Rattle.cpu.specs.Clocks.{has_clocks, clocks_of, set_clocks}
 use Rattle.memory.specs.declared.Bus.{Bus}
 use Rattle.memory.specs.Log.{note_log, counted, with_events}
-use Rattle.memory.specs.Bytes.{put_word, put_long, get_word}
 use Rattle.memory.specs.Served.{served_of, in_store, clear_of, windows_in_use, place_of}
-use Rattle.memory.specs.World.{World, reply, noted, stored, put_cpu, width_of, served, written, fetched, read_value, raw_read, try_read, flush, raw_write, try_write}
-use Rattle.memory.proofs.ByteLaws.{put, get}
+use Rattle.memory.specs.World.{noted, put_cpu, width_of, flush}
 use Rattle.memory.proofs.LogLaws.{flush_none}
-use Rattle.memory.proofs.AccessLaws.{write_code, read_code, kept}
 use Rattle.steps.specs.Steps.{refuses_odd}
-use Rattle.access.specs.Access.{Raise, read_or, checked_read, read_at, prefetch_read, wrote, checked_write, write_at}
+use Rattle.access.specs.Access.{Raise, write_at}
 use Rattle.unfaulted.specs.Closed.{closed, event, told, clock_events, Room}
 
 -- ---- one access

@@ -10,9 +10,9 @@ use Rattle.memory.specs.Log.{note_log, with_events}
 use Rattle.memory.specs.Bytes.{get_word, get_long}
 use Rattle.memory.specs.World.{World, width_of, response_of}
 use Rattle.memory.specs.Runs.{Apart}
-use Rattle.memory.proofs.ByteLaws.{put}
-use Rattle.memory.proofs.LogLaws.{Event}
-use Rattle.memory.proofs.AccessLaws.{write_code, kept}
+use Rattle.memory.specs.ByteLaws.{put}
+use Rattle.memory.specs.LogLaws.{Event}
+use Rattle.memory.specs.AccessLaws.{write_code, kept}
 use Rattle.pending.specs.Interrupts.{pending_level, clear_level}
 use Rattle.steps.specs.Steps.{enter_level, close_interrupt}
 use Rattle.formats.specs.Formats.{format_word, offset_word}

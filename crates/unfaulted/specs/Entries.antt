@@ -1,5 +1,5 @@
 -- Whole entries where nothing is refused and nothing faults.
-use Rattle.std.specs.Prelude.{ℕ, ◌+◌, ◌%◌, ◌^◌, ◌≤◌, ◌<◌, ◌≡◌, Bool, List, eqb, length}
+use Rattle.std.specs.Prelude.{ℕ, ◌+◌, ◌%◌, ◌^◌, ◌≤◌, ◌≡◌, Bool, List, eqb, length}
 use Rattle.std.proofs.Math.Path.{refl}
 use Rattle.std.proofs.Common.{sym, ap, ◌∙◌, arith}
 use Rattle.std.proofs.Math.Bool.{true, false}
@@ -19,8 +19,7 @@ use Rattle.steps.specs.Steps.{stacks_next, stacked_address, begin_entry, begin_t
 use Rattle.access.specs.Access.{raised, push_frame, push_exception_frame68000, jump_vector}
 use Rattle.formats.specs.Formats.{format_word, offset_word, short_frame, long_frame, disabled_frame}
 use Rattle.exceptions.specs.Exceptions.{entry, stack_short, finished, taken, take_exception, stack_group2, take_group2, exception_trace, take_rewound, stack_unimp, take_fp_unimp060, stack_disabled, take_fp_disabled060}
-use Rattle.unfaulted.specs.Closed.{closed, Piece, last_value, stacked, short_pieces, long_pieces, disabled_pieces, three_pieces, Room, Within, Landing, Entering, jumped, arrived, clocks_after, short_bytes, short_of, group2_bytes, group2_of}
-use Rattle.unfaulted.specs.Stacks.{three_within}
+use Rattle.unfaulted.specs.Closed.{closed, Piece, last_value, stacked, short_pieces, long_pieces, disabled_pieces, three_pieces, Room, Within, Landing, Entering, jumped, arrived, clocks_after, short_of, group2_of}
 
 -- ---- the record before the frame
 

@@ -1,12 +1,12 @@
 -- Error entries whose frames are written by guarded accesses: bus errors on all kinds but 1, 2 and 10. The other error frames are written raw
 -- and are not treated here.
-use Rattle.std.specs.Prelude.{ℕ, zero, suc, ◌+◌, ◌%◌, ◌^◌, ◌<◌, ◌≡◌, Bool, true, false, List, eqb, length}
+use Rattle.std.specs.Prelude.{ℕ, zero, suc, ◌%◌, ◌≡◌, Bool, true, false, List, eqb}
 use Rattle.std.proofs.Math.Path.{refl}
-use Rattle.std.proofs.Common.{sym, ap, ◌∙◌, arith, eqb-true}
+use Rattle.std.proofs.Common.{sym, arith, eqb-true}
 use Rattle.types.specs.Kinds.{pick, either, is_pre68020, is040, is060}
 use Rattle.types.specs.Vectors.{bus_error_vector}
 use Rattle.cpu.specs.declared.Cpu.{Cpu}
-use Rattle.cpu.specs.Fields.{kind_of, ppc_of, ir_of, vbr_of, a7_of, is_faulted, in_exception, cause_number_of, clear_fc_override}
+use Rattle.cpu.specs.Fields.{kind_of, ppc_of, ir_of, vbr_of, is_faulted, in_exception, cause_number_of, clear_fc_override}
 use Rattle.cpu.specs.Clocks.{clocks_of, prefetch_enabled}
 use Rattle.memory.specs.declared.Bus.{Bus}
 use Rattle.memory.specs.World.{World, put_cpu, step}
@@ -16,10 +16,10 @@ use Rattle.frames.specs.Codes.{fault_code, fault_word, ssw020, ssw040, wb3s, fsl
 use Rattle.status.specs.Status.{get_sr}
 use Rattle.steps.specs.Steps.{enter_bus_error, begin_bus, close_bus}
 use Rattle.status.specs.Banks.{enter_supervisor}
-use Rattle.access.specs.Access.{Raise, bus_error, push_fields, push_frame, jump_vector, exception_bus_error, raise_bus, trigger}
-use Rattle.unfaulted.specs.Closed.{closed, Piece, Room, stacked, Entering, arrived}
-use Rattle.unfaulted.specs.Pushes.{offset_of, pieces_of, Guarded, pieces_within, length_pieces}
-use Rattle.unfaulted.specs.Entries.{Alike, alike_entering, supervisor_clocks, supervisor_fetches}
+use Rattle.access.specs.Access.{Raise, bus_error, push_frame, jump_vector, exception_bus_error, raise_bus, trigger}
+use Rattle.unfaulted.specs.Closed.{closed}
+use Rattle.unfaulted.specs.Pushes.{Guarded}
+use Rattle.unfaulted.specs.Entries.{Alike}
 
 -- ---- which frames are guarded
 

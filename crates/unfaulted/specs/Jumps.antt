@@ -1,25 +1,21 @@
 -- The jump to a vector whose reads nothing refuses.
-use Rattle.std.specs.Prelude.{ℕ, ◌+◌, ◌-◌, ◌*◌, ◌%◌, ◌^◌, ◌≤◌, ◌<◌, ◌≡◌, Bool, false, List, [], ◌∷◌, ltb, length}
-use Rattle.std.proofs.Math.Path.{refl, sym}
-use Rattle.std.proofs.Common.{ap, ◌∙◌, ne_eqb}
+use Rattle.std.specs.Prelude.{ℕ, ◌+◌, ◌-◌, ◌*◌, ◌%◌, ◌^◌, ◌≤◌, ◌<◌, ◌≡◌, Bool, false, List, ltb}
+use Rattle.std.proofs.Math.Path.{refl}
+use Rattle.std.proofs.Common.{ne_eqb}
 use Rattle.std.proofs.Math.Bool.{true}
 use native.Mathlib.Omega.{arith}
 use Rattle.types.specs.Kinds.{pick, mask_address}
 use Rattle.types.proofs.Laws.{masked_address_parity}
 use Rattle.cpu.specs.declared.Cpu.{Cpu}
 use Rattle.cpu.specs.Fields.{kind_of, pc_of, vbr_of, address_of, is_faulted, set_pc, start_vector, odd_pc}
-use Rattle.cpu.specs.Clocks.{has_clocks, clocks_of, set_clocks, prefetch_enabled, one_fetched, internal_cycles, clear_prefetch, first_word, second_word}
+use Rattle.cpu.specs.Clocks.{has_clocks, clocks_of, set_clocks, prefetch_enabled, one_fetched, internal_cycles, first_word}
 use Rattle.cpu.specs.Laws.{clocks_kept}
 use Rattle.memory.specs.declared.Bus.{Bus}
 use Rattle.memory.specs.Log.{note_log, counted}
-use Rattle.memory.specs.Bytes.{get_word, get_long}
-use Rattle.memory.specs.World.{World, Attempt, reply, noted, put_cpu, flush, release, cpu_of, with_cpu}
-use Rattle.memory.proofs.LogLaws.{Event}
+use Rattle.memory.specs.World.{World, reply, noted, put_cpu, release, cpu_of, with_cpu}
 use Rattle.steps.specs.Steps.{vector_address}
-use Rattle.access.specs.Access.{Raise, read_at, prefetch_read, kept_first, first_from, prefetch_first, kept_second, second_from, prefetch_second, vector_read, refill, jump_to, jump_vector}
-use Rattle.unfaulted.specs.Closed.{closed, event, told, Room, jump_events, jumped, Landing}
-use Rattle.unfaulted.specs.Pushes.{joined}
-use Rattle.unfaulted.specs.Accesses.{clocks_none, calm_flush}
+use Rattle.access.specs.Access.{Raise, read_at, prefetch_first, prefetch_second, vector_read, refill, jump_to}
+use Rattle.unfaulted.specs.Closed.{closed, Room}
 
 -- the word after the first lies 2 bytes on
 pub second_place : (b : Bus) (k len a : ℕ) → Room b k len (mask_address k a) 4 → mask_address k ((a + 2) % 2 ^ 32) ≡ mask_address k a + 2

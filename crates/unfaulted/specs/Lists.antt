@@ -5,12 +5,12 @@ use Rattle.std.proofs.Common.{ap, ◌∙◌, inl, inr}
 use native.Mathlib.Omega.{arith}
 use Rattle.types.specs.Kinds.{pick}
 use Rattle.memory.specs.Log.{note_log}
-use Rattle.memory.specs.World.{width_of}
 use Rattle.memory.specs.Runs.{Apart}
-use Rattle.memory.proofs.ByteLaws.{put, get, put_length, read_other}
-use Rattle.memory.proofs.LogLaws.{Event}
-use Rattle.memory.proofs.AccessLaws.{kept}
-use Rattle.unfaulted.specs.Closed.{event, told, Piece, laid, writes_of, clock_events, Within}
+use Rattle.memory.specs.ByteLaws.{put}
+use Rattle.memory.proofs.ByteLaws.{put_length}
+use Rattle.memory.specs.LogLaws.{Event}
+use Rattle.memory.specs.AccessLaws.{kept}
+use Rattle.unfaulted.specs.Closed.{event, told, Piece, laid, writes_of, clock_events}
 
 -- ---- events
 

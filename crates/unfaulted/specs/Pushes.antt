@@ -7,18 +7,15 @@ use Rattle.cpu.specs.declared.Cpu.{Cpu}
 use Rattle.cpu.specs.Fields.{kind_of, a7_of, is_faulted, set_wdata, set_a7, lower_a7, minus32}
 use Rattle.cpu.specs.Clocks.{has_clocks, clocks_of, set_clocks}
 use Rattle.memory.specs.declared.Bus.{Bus}
-use Rattle.memory.specs.Log.{note_log}
 use Rattle.memory.specs.World.{World, put_cpu, width_of}
-use Rattle.memory.proofs.ByteLaws.{put, put_length}
-use Rattle.memory.proofs.LogLaws.{Event}
-use Rattle.memory.proofs.AccessLaws.{write_code, kept}
+use Rattle.memory.specs.LogLaws.{Event}
 use Rattle.frames.specs.declared.Field.{Field}
 use Rattle.frames.specs.declared.Frame.{Frame}
 use Rattle.frames.specs.Frames.{field_at, is_counted, is_raw}
-use Rattle.access.specs.Access.{Raise, write_at, stack_field, push_field, push_fields}
-use Rattle.unfaulted.specs.Closed.{closed, told, Piece, laid, writes_of, last_of, clock_events, Room, Within}
-use Rattle.unfaulted.specs.Lists.{told_append, length_writes, clocks_small}
-use Rattle.unfaulted.specs.Accesses.{write_flush, calm_has, still_running}
+use Rattle.access.specs.Access.{Raise, write_at, stack_field, push_field}
+use Rattle.unfaulted.specs.Closed.{closed, told, Piece, clock_events, Within}
+use Rattle.unfaulted.specs.Lists.{told_append}
+use Rattle.unfaulted.specs.Accesses.{write_flush}
 
 -- ---- writes in a row
 

@@ -11,18 +11,18 @@ use Rattle.status.specs.Banks.{enter_supervisor, set_sflag, restore_sp, put_s, b
 use Rattle.pending.specs.Interrupts.{pending_level, takes_interrupt, clear_level}
 use Rattle.memory.specs.declared.Bus.{Bus}
 use Rattle.memory.specs.Log.{note_log, counted}
-use Rattle.memory.specs.World.{World, Attempt, reply, tried, noted, put_cpu, flush, response_of, acknowledged}
-use Rattle.memory.proofs.LogLaws.{Event}
+use Rattle.memory.specs.World.{World, reply, tried, noted, put_cpu, flush, response_of, acknowledged}
+use Rattle.memory.specs.LogLaws.{Event}
 use Rattle.steps.specs.Steps.{iack_vector, enter_level, close_interrupt}
 use Rattle.access.specs.Access.{raised, write_at, push_frame, jump_vector}
 use Rattle.formats.specs.Formats.{offset_word, short_frame}
 use Rattle.interrupts.specs.Interrupts.{vector_from, acknowledge_level, synced_acknowledge, rest68000, from68000, push_interrupt68000, writes68010, rest68010, push_interrupt68010, rest_other, push_interrupt_other, first_frame, second_frame, ended, dispatched, service_interrupt, serviced, check_and_service}
-use Rattle.unfaulted.specs.Closed.{closed, event, told, Piece, word_at, laid, writes_of, last_of, last_value, clock_events, stacked, short_pieces, three_pieces, four_pieces, Room, Within, Entering, jumped, jump_events, clocks_after, interrupted, other_events, events68010, events68000}
-use Rattle.unfaulted.specs.Lists.{length_writes, clocks_small, laid_length}
-use Rattle.unfaulted.specs.Accesses.{still_running, flush_closed}
-use Rattle.unfaulted.specs.Pushes.{write_all, joined, lower_to, calm_kind, a7_set}
-use Rattle.unfaulted.specs.Stacks.{three_within, framed, framed_running, framed_kind}
-use Rattle.unfaulted.specs.Entries.{Alike, alike_entering, cycles_after_lem, short_within}
+use Rattle.unfaulted.specs.Closed.{closed, event, told, Piece, word_at, laid, writes_of, last_of, last_value, clock_events, stacked, short_pieces, three_pieces, four_pieces, Within, clocks_after}
+use Rattle.unfaulted.specs.Lists.{length_writes, clocks_small}
+use Rattle.unfaulted.specs.Accesses.{flush_closed}
+use Rattle.unfaulted.specs.Pushes.{write_all, joined}
+use Rattle.unfaulted.specs.Stacks.{framed}
+use Rattle.unfaulted.specs.Entries.{Alike, cycles_after_lem}
 
 module _ (c : Cpu) (level : ℕ) where
   pub level_alike : Alike (enter_supervisor c) (enter_level c level)

@@ -2,22 +2,21 @@
 use Prim.Native.Nat.{ℕ, ◌+◌, ◌/◌, ◌%◌, ◌^◌, ◌<◌}
 use Rattle.std.specs.Prelude.{◌≡◌, Bool, ltb}
 use Rattle.std.proofs.Math.Path.{refl}
-use Rattle.std.proofs.Common.{ap, ◌∙◌}
+use Rattle.std.proofs.Common.{◌∙◌}
 use Rattle.std.proofs.Math.Bool.{true, false}
 use mathlib.Core.List.{List, [], ◌∷◌, ◌++◌}
 use native.Mathlib.Omega.{arith}
 use Rattle.std.proofs.Math.ListN.{length, length-append}
 use Rattle.types.specs.Kinds.{pick}
 use Rattle.cpu.specs.declared.Cpu.{Cpu}
-use Rattle.cpu.specs.Clocks.{clocks_of}
 use Rattle.pending.specs.Interrupts.{pending_level}
 use Rattle.memory.specs.declared.Bus.{Bus}
 use Rattle.memory.specs.World.{response_of}
 use Rattle.memory.specs.Log.{note_log}
 use Rattle.memory.specs.Bytes.{put_word, put_long}
-use Rattle.memory.proofs.LogLaws.{Event}
-use Rattle.unfaulted.specs.Closed.{event, told, Piece, laid, writes_of, clock_events, short_pieces, long_pieces, disabled_pieces, three_pieces, four_pieces, jump_events, entry_events, clocks_after, other_events, events68010, events68000}
-use Rattle.unfaulted.specs.Lists.{told_append, length_writes}
+use Rattle.memory.specs.LogLaws.{Event}
+use Rattle.unfaulted.specs.Closed.{event, told, laid, writes_of, clock_events, short_pieces, long_pieces, disabled_pieces, three_pieces, four_pieces, jump_events, clocks_after, events68000}
+use Rattle.unfaulted.specs.Lists.{told_append}
 
 -- ---- the bytes
 

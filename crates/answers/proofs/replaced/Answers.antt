@@ -1,5 +1,4 @@
 use Rattle.answers.proofs.Ways.{replaced_made}
-use borrow.Author.Rules.{rules}
 use Rattle.answers.proofs.replaced.Goals as goal
 
 pub returns : goal.returns

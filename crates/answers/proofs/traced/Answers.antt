@@ -1,5 +1,4 @@
 use Rattle.answers.proofs.Ways.{traced_made}
-use borrow.Author.Rules.{rules}
 use Rattle.answers.proofs.traced.Goals as goal
 
 pub returns : goal.returns

@@ -1,6 +1,4 @@
-use mathlib.Core.Path.{◌≡◌, refl, ◌∙◌}
 use Rattle.exceptions.proofs.Ways.{exception_trace_way}
-use borrow.Author.Rules.{rules}
 use Rattle.exceptions.proofs.exception_trace.Goals as goal
 
 pub returns : goal.returns

@@ -1,6 +1,4 @@
-use mathlib.Core.Path.{◌≡◌, refl, ◌∙◌}
 use Rattle.exceptions.proofs.Ways.{stack_and_jump_way}
-use borrow.Author.Rules.{rules}
 use Rattle.exceptions.proofs.stack_and_jump.Goals as goal
 
 pub returns : goal.returns

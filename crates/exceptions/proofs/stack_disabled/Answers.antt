@@ -1,6 +1,4 @@
-use mathlib.Core.Path.{◌≡◌, refl, ◌∙◌}
 use Rattle.exceptions.proofs.Ways.{stack_disabled_way}
-use borrow.Author.Rules.{rules}
 use Rattle.exceptions.proofs.stack_disabled.Goals as goal
 
 pub returns : goal.returns

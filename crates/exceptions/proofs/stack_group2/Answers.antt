@@ -1,6 +1,4 @@
-use mathlib.Core.Path.{◌≡◌, refl, ◌∙◌}
 use Rattle.exceptions.proofs.Ways.{stack_group2_way, stack_group2_way_2}
-use borrow.Author.Rules.{rules}
 use Rattle.exceptions.proofs.stack_group2.Goals as goal
 
 pub returns-then-is_pre_68020 : goal.returns-then-is_pre_68020

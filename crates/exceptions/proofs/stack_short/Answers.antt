@@ -1,6 +1,4 @@
-use mathlib.Core.Path.{◌≡◌, refl, ◌∙◌}
 use Rattle.exceptions.proofs.Ways.{stack_short_way, stack_short_way_2}
-use borrow.Author.Rules.{rules}
 use Rattle.exceptions.proofs.stack_short.Goals as goal
 
 pub returns-then-k-eq-M68000 : goal.returns-then-k-eq-M68000

@@ -1,6 +1,4 @@
-use mathlib.Core.Path.{◌≡◌, refl, ◌∙◌}
 use Rattle.exceptions.proofs.Ways.{take_exception_way, take_exception_way_2}
-use borrow.Author.Rules.{rules}
 use Rattle.exceptions.proofs.take_exception.Goals as goal
 
 pub returns-then-m : goal.returns-then-m

@@ -1,6 +1,4 @@
-use mathlib.Core.Path.{◌≡◌, refl, ◌∙◌}
 use Rattle.exceptions.proofs.Ways.{take_fp_disabled_060_way}
-use borrow.Author.Rules.{rules}
 use Rattle.exceptions.proofs.take_fp_disabled_060.Goals as goal
 
 pub returns : goal.returns

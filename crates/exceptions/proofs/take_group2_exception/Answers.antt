@@ -1,6 +1,4 @@
-use mathlib.Core.Path.{◌≡◌, refl, ◌∙◌}
 use Rattle.exceptions.proofs.Ways.{take_group2_exception_way}
-use borrow.Author.Rules.{rules}
 use Rattle.exceptions.proofs.take_group2_exception.Goals as goal
 
 pub returns : goal.returns

@@ -1,6 +1,4 @@
-use mathlib.Core.Path.{◌≡◌, refl, ◌∙◌}
 use Rattle.exceptions.proofs.Ways.{trap_way}
-use borrow.Author.Rules.{rules}
 use Rattle.exceptions.proofs.trap.Goals as goal
 
 pub returns : goal.returns

@@ -1,4 +1,4 @@
-use Rattle.std.proofs.Common.{◌≡◌, sym, refl, ◌∙◌, rules, eq-eqb, ne_eqb}
+use Rattle.std.proofs.Common.{eq-eqb, ne_eqb}
 use Rattle.fast.proofs.Ways.{go_way, go_way_2, go_way_3, go_way_4, room_way, shaped_way}
 use Rattle.fast.proofs.go.Goals as goal
 

@@ -1,4 +1,3 @@
-use Rattle.std.proofs.Common.{◌≡◌, refl, rules}
 use Rattle.fast.proofs.Ways.{patch_by_way}
 use Rattle.fast.proofs.patch_by.Goals as goal
 

@@ -1,9 +1,7 @@
-use mathlib.Core.Path.{◌≡◌, refl, sym, ◌∙◌}
-use native.Mathlib.Omega.{arith}
+use mathlib.Core.Path.{sym, ◌∙◌}
 use borrow.Author.Tests.{lt-ltb, le-ltb, eq-eqb, ne_eqb}
 use Rattle.fast_plans.specs.Views.{accepts_of}
 use Rattle.fast_plans.proofs.Ways.{accepts_way}
-use borrow.Author.Rules.{rules}
 use Rattle.fast_plans.proofs.accepts.Goals as goal
 
 pub returns-then-is_other : goal.returns-then-is_other

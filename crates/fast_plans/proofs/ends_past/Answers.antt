@@ -1,5 +1,3 @@
-use mathlib.Core.Path.{◌≡◌, refl, sym}
-use borrow.Author.Rules.{rules}
 use Rattle.fast_plans.proofs.Ways.{ends_past_way}
 use Rattle.fast_plans.proofs.ends_past.Goals as goal
 

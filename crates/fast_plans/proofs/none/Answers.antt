@@ -1,6 +1,4 @@
-use mathlib.Core.Path.{◌≡◌, refl, sym, ◌∙◌}
 use Rattle.fast_plans.specs.Quiet.{no_patch}
-use borrow.Author.Rules.{rules}
 use Rattle.fast_plans.proofs.none.Goals as goal
 
 pub returns : goal.returns

@@ -1,6 +1,4 @@
-use mathlib.Core.Path.{◌≡◌, refl, ◌∙◌}
 use Rattle.interrupts.proofs.Ways.{acknowledge_level_way}
-use borrow.Author.Rules.{rules}
 use Rattle.interrupts.proofs.acknowledge_level.Goals as goal
 
 -- src/lib.rt:24:1

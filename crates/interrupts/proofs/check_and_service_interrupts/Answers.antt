@@ -1,6 +1,4 @@
-use mathlib.Core.Path.{◌≡◌, refl, ◌∙◌}
 use Rattle.interrupts.proofs.Ways.{check_and_service_interrupts_way, check_and_service_interrupts_way_2}
-use borrow.Author.Rules.{rules}
 use Rattle.interrupts.proofs.check_and_service_interrupts.Goals as goal
 
 -- src/lib.rt:205:9

@@ -1,6 +1,4 @@
-use mathlib.Core.Path.{◌≡◌, refl, ◌∙◌}
 use Rattle.interrupts.proofs.Ways.{first_frame_way, first_frame_way_2, first_frame_way_3}
-use borrow.Author.Rules.{rules}
 use Rattle.interrupts.proofs.first_frame.Goals as goal
 
 pub returns-then-k-eq-M68000 : goal.returns-then-k-eq-M68000

@@ -1,6 +1,4 @@
-use mathlib.Core.Path.{◌≡◌, refl, ◌∙◌}
 use Rattle.interrupts.proofs.Ways.{from_68000_way}
-use borrow.Author.Rules.{rules}
 use Rattle.interrupts.proofs.from_68000.Goals as goal
 
 -- src/lib.rt:43:1

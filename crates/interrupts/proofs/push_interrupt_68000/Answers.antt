@@ -1,6 +1,4 @@
-use mathlib.Core.Path.{◌≡◌, refl, ◌∙◌}
 use Rattle.interrupts.proofs.Ways.{push_interrupt_68000_way}
-use borrow.Author.Rules.{rules}
 use Rattle.interrupts.proofs.push_interrupt_68000.Goals as goal
 
 -- src/lib.rt:71:1

@@ -1,6 +1,4 @@
-use mathlib.Core.Path.{◌≡◌, refl, ◌∙◌}
 use Rattle.interrupts.proofs.Ways.{push_interrupt_68010_way}
-use borrow.Author.Rules.{rules}
 use Rattle.interrupts.proofs.push_interrupt_68010.Goals as goal
 
 -- src/lib.rt:104:1

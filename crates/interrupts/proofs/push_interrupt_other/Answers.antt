@@ -1,6 +1,4 @@
-use mathlib.Core.Path.{◌≡◌, refl, ◌∙◌}
 use Rattle.interrupts.proofs.Ways.{push_interrupt_other_way}
-use borrow.Author.Rules.{rules}
 use Rattle.interrupts.proofs.push_interrupt_other.Goals as goal
 
 -- src/lib.rt:121:1

@@ -1,6 +1,4 @@
-use mathlib.Core.Path.{◌≡◌, refl, ◌∙◌}
 use Rattle.interrupts.proofs.Ways.{second_frame_way, second_frame_way_2, second_frame_way_3, second_frame_way_4}
-use borrow.Author.Rules.{rules}
 use Rattle.interrupts.proofs.second_frame.Goals as goal
 
 pub returns-then-is_ec020_plus : goal.returns-then-is_ec020_plus

@@ -1,6 +1,4 @@
-use mathlib.Core.Path.{◌≡◌, refl, ◌∙◌}
 use Rattle.interrupts.proofs.Ways.{service_interrupt_way}
-use borrow.Author.Rules.{rules}
 use Rattle.interrupts.proofs.service_interrupt.Goals as goal
 
 pub returns : goal.returns

@@ -1,6 +1,4 @@
-use mathlib.Core.Path.{◌≡◌, refl, ◌∙◌}
 use Rattle.interrupts.proofs.Ways.{synced_acknowledge_way}
-use borrow.Author.Rules.{rules}
 use Rattle.interrupts.proofs.synced_acknowledge.Goals as goal
 
 -- src/lib.rt:34:1

@@ -1,6 +1,4 @@
-use mathlib.Core.Path.{◌≡◌, refl, ◌∙◌}
 use Rattle.interrupts.proofs.Ways.{throwaway_frame_way}
-use borrow.Author.Rules.{rules}
 use Rattle.interrupts.proofs.throwaway_frame.Goals as goal
 
 -- src/lib.rt:150:1

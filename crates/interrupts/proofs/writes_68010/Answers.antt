@@ -1,6 +1,4 @@
-use mathlib.Core.Path.{◌≡◌, refl, ◌∙◌}
 use Rattle.interrupts.proofs.Ways.{writes_68010_way}
-use borrow.Author.Rules.{rules}
 use Rattle.interrupts.proofs.writes_68010.Goals as goal
 
 -- src/lib.rt:81:1

@@ -1,6 +1,5 @@
-use mathlib.Core.Path.{◌≡◌, refl, sym, ap, ◌∙◌}
+use mathlib.Core.Path.{sym, ap, ◌∙◌}
 use Rattle.answers.specs.Matters.{matter_of}
-use borrow.Author.Rules.{rules}
 use Rattle.answers.proofs.matters.matter_of.Goals as goal
 
 pub returns-in-TakeException : goal.returns-in-TakeException

@@ -1,6 +1,4 @@
-use Rattle.std.proofs.Common.{◌≡◌, sym, refl, ◌∙◌, arith, length-set, rules, le-ltb, lt-ltb, eq-eqb, ne_eqb, le-leb}
-use borrow.Author.Tests.{lt-leb}
-use Rattle.memory.specs.Log.{note_log}
+use Rattle.std.proofs.Common.{arith, length-set}
 use Rattle.fast.proofs.Writes.{event_way}
 use Rattle.fast.proofs.bytes.event.Goals as goal
 

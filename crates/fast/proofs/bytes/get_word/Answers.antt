@@ -1,5 +1,4 @@
-use Rattle.std.proofs.Common.{◌≡◌, sym, refl, ◌∙◌, arith, length-set, rules, le-ltb, lt-ltb, eq-eqb, ne_eqb, le-leb}
-use borrow.Author.Tests.{lt-leb}
+use Rattle.std.proofs.Common.{rules}
 use Rattle.memory.specs.Bytes.{get_word}
 use Rattle.fast.proofs.bytes.get_word.Goals as goal
 

@@ -1,5 +1,4 @@
-use Rattle.std.proofs.Common.{◌≡◌, sym, refl, ◌∙◌, arith, length-set, rules, le-ltb, lt-ltb, eq-eqb, ne_eqb, le-leb}
-use borrow.Author.Tests.{lt-leb}
+use Rattle.std.proofs.Common.{refl, arith, length-set}
 use Rattle.memory.specs.Bytes.{put_word}
 use Rattle.fast.proofs.bytes.put_word.Goals as goal
 

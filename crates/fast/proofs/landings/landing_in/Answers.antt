@@ -1,4 +1,4 @@
-use Rattle.std.proofs.Common.{◌≡◌, sym, refl, ◌∙◌, rules, ltb-false, le-ltb, lt-ltb}
+use Rattle.std.proofs.Common.{sym, ◌∙◌, ltb-false, le-ltb, lt-ltb}
 use Rattle.fast.specs.Landings.{landing_in}
 use Rattle.fast.proofs.landings.landing_in.Goals as goal
 

@@ -1,4 +1,3 @@
-use Rattle.std.proofs.Common.{◌≡◌, sym, refl, ◌∙◌, rules, le-ltb, lt-ltb, eq-eqb, ne_eqb, le-leb}
 use borrow.Author.Tests.{lt-leb}
 use Rattle.fast.specs.Landings.{meets}
 use Rattle.fast.proofs.Ways.{meets_below, meets_at}

@@ -1,4 +1,3 @@
-use Rattle.std.proofs.Common.{◌≡◌, sym, refl, ◌∙◌, rules}
 use Rattle.fast.proofs.Ways.{room_way}
 use Rattle.fast.proofs.OwnWays.{interrupt_shape, interrupt_shaped, interrupt_way, interrupt_way_2, interrupt_way_3, interrupt_way_4}
 use Rattle.fast.proofs.own.check_and_service.Goals as goal

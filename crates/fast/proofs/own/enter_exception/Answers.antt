@@ -1,4 +1,4 @@
-use Rattle.std.proofs.Common.{◌≡◌, sym, refl, ◌∙◌, arith, rules}
+use Rattle.std.proofs.Common.{sym, ◌∙◌, arith}
 use Rattle.fast.proofs.Ways.{fits_way, few_way, lands_way, enter_way, enter_way_2, enter_way_3}
 use Rattle.fast.proofs.own.enter_exception.Goals as goal
 

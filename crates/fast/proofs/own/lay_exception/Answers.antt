@@ -1,4 +1,4 @@
-use Rattle.std.proofs.Common.{◌≡◌, sym, refl, ◌∙◌, arith, rules, eq-eqb, ne_eqb}
+use Rattle.std.proofs.Common.{arith, rules, eq-eqb, ne_eqb}
 use Rattle.fast.proofs.OwnWays.{under}
 use Rattle.fast.proofs.Writes.{clocks_most, room_2, room_any, lay_1, lay_2}
 use Rattle.fast.proofs.own.lay_exception.Goals as goal

@@ -1,4 +1,4 @@
-use Rattle.std.proofs.Common.{◌≡◌, sym, refl, ◌∙◌, arith, rules, eq-eqb, ne_eqb}
+use Rattle.std.proofs.Common.{arith, rules, eq-eqb, ne_eqb}
 use Rattle.fast.proofs.OwnWays.{over, fourth}
 use Rattle.fast.proofs.Writes.{clocks_most, room_5, room_6, room_any, lay_4, lay_5, lay_6}
 use Rattle.fast.proofs.own.lay_interrupt.Goals as goal

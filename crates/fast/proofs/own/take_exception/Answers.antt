@@ -1,4 +1,4 @@
-use Rattle.std.proofs.Common.{◌≡◌, sym, refl, ◌∙◌, rules, eq-eqb, ne_eqb}
+use Rattle.std.proofs.Common.{eq-eqb, ne_eqb}
 use Rattle.fast.proofs.Ways.{room_way}
 use Rattle.fast.proofs.OwnWays.{exception_shape, exception_shaped, exception_way, exception_way_2, exception_way_3}
 use Rattle.fast.proofs.own.take_exception.Goals as goal

@@ -1,5 +1,3 @@
-use Rattle.std.proofs.Common.{◌≡◌, sym, refl, ◌∙◌, arith, length-set, rules, le-ltb, lt-ltb, eq-eqb, ne_eqb, le-leb}
-use borrow.Author.Tests.{lt-leb}
 use Rattle.fast.proofs.Writes.{long_way}
 use Rattle.fast.proofs.stacks.long.Goals as goal
 

@@ -1,5 +1,4 @@
-use Rattle.std.proofs.Common.{◌≡◌, sym, refl, ◌∙◌, arith, length-set, rules, le-ltb, lt-ltb, eq-eqb, ne_eqb, le-leb}
-use borrow.Author.Tests.{lt-leb}
+use Rattle.std.proofs.Common.{arith}
 use Rattle.fast.proofs.Writes.{jump_way, jump_way_2}
 use Rattle.fast.proofs.stacks.tell_jump.Goals as goal
 

@@ -1,7 +1,4 @@
-use mathlib.Core.Path.{◌≡◌, refl, sym, ◌∙◌}
-use native.Mathlib.Omega.{arith}
-use lib.ListN.{length-set}
-use borrow.Author.Tests.{lt-ltb, le-ltb, le-leb, lt-leb, eq-eqb, ne_eqb}
+use borrow.Author.Tests.{eq-eqb, ne_eqb}
 use Rattle.types.specs.Kinds.{is_prefetch_kind}
 use Rattle.fast_plans.specs.Places.{fetches_of}
 use Rattle.fast_plans.proofs.places.fetches.Goals as goal

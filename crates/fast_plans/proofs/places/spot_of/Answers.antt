@@ -1,9 +1,6 @@
-use mathlib.Core.Path.{◌≡◌, refl, sym, ◌∙◌}
-use native.Mathlib.Omega.{arith}
-use lib.ListN.{length-set}
-use borrow.Author.Tests.{lt-ltb, le-ltb, le-leb, lt-leb, eq-eqb, ne_eqb}
+use mathlib.Core.Path.{◌∙◌}
+use borrow.Author.Tests.{lt-ltb, le-ltb, eq-eqb, ne_eqb}
 use Rattle.fast_plans.specs.Places.{spot_of}
-use borrow.Author.Rules.{rules}
 use Rattle.fast_plans.proofs.places.spot_of.Goals as goal
 
 pub returns-then-t-n : goal.returns-then-t-n

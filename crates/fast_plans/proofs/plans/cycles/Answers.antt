@@ -1,5 +1,4 @@
-use mathlib.Core.Path.{◌≡◌, refl, sym, ◌∙◌}
-use borrow.Author.Tests.{lt-ltb, le-ltb, le-leb, lt-leb, eq-eqb, ne_eqb}
+use borrow.Author.Tests.{lt-ltb, le-ltb, lt-leb, eq-eqb, ne_eqb}
 use Rattle.types.specs.Tables.{exception_cycles}
 use Rattle.fast_plans.proofs.Ways.{cycles_above_1, cycles_above_2}
 use Rattle.fast_plans.proofs.plans.cycles.Goals as goal

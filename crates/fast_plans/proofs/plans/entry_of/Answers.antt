@@ -1,9 +1,6 @@
-use mathlib.Core.Path.{◌≡◌, refl, sym, ◌∙◌}
-use native.Mathlib.Omega.{arith}
-use lib.ListN.{length-set}
-use borrow.Author.Tests.{lt-ltb, le-ltb, le-leb, lt-leb, eq-eqb, ne_eqb}
+use mathlib.Core.Path.{sym, ◌∙◌}
+use borrow.Author.Tests.{lt-ltb, le-ltb, eq-eqb, ne_eqb}
 use Rattle.fast_plans.specs.Plans.{entry_of}
-use borrow.Author.Rules.{rules}
 use Rattle.fast_plans.proofs.plans.entry_of.Goals as goal
 
 pub returns-then-r-eq0 : goal.returns-then-r-eq0

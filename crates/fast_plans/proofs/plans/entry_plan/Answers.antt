@@ -1,10 +1,4 @@
-use mathlib.Core.Path.{◌≡◌, refl, sym, ◌∙◌}
-use native.Mathlib.Omega.{arith}
-use lib.ListN.{length-set}
-use borrow.Author.Tests.{lt-ltb, le-ltb, le-leb, lt-leb, eq-eqb, ne_eqb}
-use Rattle.fast_plans.specs.Laws.{format_small}
 use Rattle.fast_plans.proofs.Ways.{entry_plan_way}
-use borrow.Author.Rules.{rules}
 use Rattle.fast_plans.proofs.plans.entry_plan.Goals as goal
 
 pub returns : goal.returns

@@ -1,6 +1,5 @@
 use borrow.Author.Tests.{lt-ltb, le-ltb}
 use Rattle.fast_plans.proofs.Ways.{exception_of_way, exception_of_way_2, exception_of_way_3}
-use borrow.Author.Rules.{rules}
 use Rattle.fast_plans.proofs.plans.exception_of.Goals as goal
 
 pub returns-then-v-gt255 : goal.returns-then-v-gt255

@@ -1,5 +1,4 @@
 use Rattle.fast_plans.proofs.Ways.{exception_plan_way}
-use borrow.Author.Rules.{rules}
 use Rattle.fast_plans.proofs.plans.exception_plan.Goals as goal
 
 pub returns : goal.returns

@@ -1,9 +1,5 @@
-use mathlib.Core.Path.{◌≡◌, refl, sym, ◌∙◌}
 use native.Mathlib.Omega.{arith}
-use lib.ListN.{length-set}
-use borrow.Author.Tests.{lt-ltb, le-ltb, le-leb, lt-leb, eq-eqb, ne_eqb}
 use Rattle.fast_plans.proofs.Ways.{vector_small, interrupt_plan_way}
-use borrow.Author.Rules.{rules}
 use Rattle.fast_plans.proofs.plans.interrupt_plan.Goals as goal
 
 pub overflow_mul-result : goal.overflow_mul-result

@@ -1,9 +1,5 @@
-use mathlib.Core.Path.{◌≡◌, refl, sym, ◌∙◌}
-use native.Mathlib.Omega.{arith}
-use lib.ListN.{length-set}
-use borrow.Author.Tests.{lt-ltb, le-ltb, le-leb, lt-leb, eq-eqb, ne_eqb}
+use borrow.Author.Tests.{eq-eqb, ne_eqb}
 use Rattle.fast_plans.specs.Plans.{is_long}
-use borrow.Author.Rules.{rules}
 use Rattle.fast_plans.proofs.Ways.{is_long_way}
 use Rattle.fast_plans.proofs.plans.is_long.Goals as goal
 

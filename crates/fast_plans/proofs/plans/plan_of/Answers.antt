@@ -1,6 +1,4 @@
-use mathlib.Core.Path.{◌≡◌, refl}
 use borrow.Author.Tests.{eq-eqb, ne_eqb}
-use borrow.Author.Rules.{rules}
 use Rattle.fast_plans.proofs.Ways.{plan_of_way, plan_of_way_2, plan_of_way_3, plan_of_way_4}
 use Rattle.fast_plans.proofs.plans.plan_of.Goals as goal
 

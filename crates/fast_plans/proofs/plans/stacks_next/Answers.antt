@@ -1,6 +1,4 @@
-use mathlib.Core.Path.{◌≡◌, refl, sym, ◌∙◌}
-use borrow.Author.Tests.{lt-ltb, le-ltb, le-leb, lt-leb, eq-eqb, ne_eqb}
-use Rattle.types.specs.Vectors.{zero_divide, trapv, trace}
+use borrow.Author.Tests.{eq-eqb, ne_eqb}
 use Rattle.steps.specs.Steps.{stacks_next as stacks}
 use Rattle.fast_plans.proofs.Ways.{stacks_above, stacks_below}
 use Rattle.fast_plans.proofs.plans.stacks_next.Goals as goal

@@ -1,5 +1,4 @@
 use Rattle.fast_plans.proofs.Ways.{takes_way}
-use borrow.Author.Rules.{rules}
 use Rattle.fast_plans.proofs.plans.takes.Goals as goal
 
 pub returns : goal.returns

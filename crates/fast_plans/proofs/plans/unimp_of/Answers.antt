@@ -1,4 +1,3 @@
-use borrow.Author.Rules.{rules}
 use Rattle.fast_plans.proofs.Ways.{unimp_way, unimp_way_2}
 use Rattle.fast_plans.proofs.plans.unimp_of.Goals as goal
 

@@ -1,4 +1,3 @@
-use borrow.Author.Rules.{rules}
 use Rattle.fast_plans.proofs.Ways.{unimp_plan_way}
 use Rattle.fast_plans.proofs.plans.unimp_plan.Goals as goal
 

@@ -1,6 +1,4 @@
-use mathlib.Core.Path.{◌≡◌, refl, sym, ◌∙◌}
 use Rattle.fast_plans.specs.Quiet.{calm_patch}
-use borrow.Author.Rules.{rules}
 use Rattle.fast_plans.proofs.quiet.calm.Goals as goal
 
 pub returns : goal.returns

@@ -1,9 +1,6 @@
-use mathlib.Core.Path.{◌≡◌, refl, sym, ◌∙◌}
-use native.Mathlib.Omega.{arith}
-use lib.ListN.{length-set}
-use borrow.Author.Tests.{lt-ltb, le-ltb, le-leb, lt-leb, eq-eqb, ne_eqb}
+use mathlib.Core.Path.{sym, ◌∙◌}
+use borrow.Author.Tests.{le-leb, lt-leb, eq-eqb, ne_eqb}
 use Rattle.fast_plans.specs.Quiet.{is_quiet}
-use borrow.Author.Rules.{rules}
 use Rattle.fast_plans.proofs.quiet.is_quiet.Goals as goal
 
 pub returns-then-takes : goal.returns-then-takes

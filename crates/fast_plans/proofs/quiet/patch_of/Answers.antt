@@ -1,9 +1,6 @@
-use mathlib.Core.Path.{◌≡◌, refl, sym, ◌∙◌}
-use native.Mathlib.Omega.{arith}
-use lib.ListN.{length-set}
-use borrow.Author.Tests.{lt-ltb, le-ltb, le-leb, lt-leb, eq-eqb, ne_eqb}
+use mathlib.Core.Path.{◌∙◌}
+use borrow.Author.Tests.{eq-eqb, ne_eqb}
 use Rattle.fast_plans.specs.Quiet.{quiet_of}
-use borrow.Author.Rules.{rules}
 use Rattle.fast_plans.proofs.Ways.{quiet_way_2, quiet_way_4}
 use Rattle.fast_plans.proofs.quiet.patch_of.Goals as goal
 

@@ -1,7 +1,6 @@
-use mathlib.Core.Path.{◌≡◌, refl, sym, ◌∙◌}
+use mathlib.Core.Path.{◌∙◌}
 use borrow.Author.Tests.{eq-eqb, ne_eqb}
 use Rattle.fast_plans.specs.Quiet.{still_patch}
-use borrow.Author.Rules.{rules}
 use Rattle.fast_plans.proofs.quiet.still.Goals as goal
 
 pub returns-then-x-eq0 : goal.returns-then-x-eq0

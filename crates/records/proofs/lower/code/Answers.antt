@@ -1,7 +1,5 @@
 use Rattle.records.proofs.Bits.{byte_bit}
-use mathlib.Core.Path.{◌≡◌, refl}
 use Rattle.records.specs.Records.{lowered_code}
-use borrow.Author.Rules.{rules}
 use Rattle.records.proofs.lower.code.Goals as goal
 
 pub returns : goal.returns

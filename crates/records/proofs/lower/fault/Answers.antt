@@ -1,6 +1,4 @@
-use mathlib.Core.Path.{◌≡◌, refl}
 use Rattle.records.specs.Records.{lowered_fault}
-use borrow.Author.Rules.{rules}
 use Rattle.records.proofs.lower.fault.Goals as goal
 
 pub returns : goal.returns

@@ -1,9 +1,7 @@
 use mir.Syntax.{w32}
 use mir.Facts.{to_z-of_z}
 use Rattle.records.proofs.Bits.{byte_bit}
-use mathlib.Core.Path.{◌≡◌, refl}
 use Rattle.records.specs.Records.{lowered_flow}
-use borrow.Author.Rules.{rules}
 use Rattle.records.proofs.lower.flow.Goals as goal
 
 pub returns : goal.returns

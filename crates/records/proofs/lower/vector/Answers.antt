@@ -1,7 +1,5 @@
 use Rattle.records.proofs.Bits.{byte_bit}
-use mathlib.Core.Path.{◌≡◌, refl}
 use Rattle.records.specs.Records.{lowered_vector}
-use borrow.Author.Rules.{rules}
 use Rattle.records.proofs.lower.vector.Goals as goal
 
 pub returns : goal.returns

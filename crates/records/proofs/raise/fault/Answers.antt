@@ -1,6 +1,4 @@
-use mathlib.Core.Path.{◌≡◌, refl}
 use Rattle.records.specs.Records.{raised_fault}
-use borrow.Author.Rules.{rules}
 use Rattle.records.proofs.raise.fault.Goals as goal
 
 pub returns : goal.returns

@@ -1,6 +1,5 @@
 use mir.Syntax.{w32}
 use mir.Facts.{to_z-of_z}
-use mathlib.Core.Path.{◌≡◌, refl}
 use Rattle.numbers.specs.Numbers.{flag}
 use Rattle.records.specs.Records.{raised_flow}
 use Rattle.records.proofs.raise.flow.Goals as goal

@@ -1,4 +1,4 @@
-use mathlib.Core.Path.{◌≡◌, refl}
+use mathlib.Core.Path.{refl}
 use Rattle.numbers.specs.Numbers.{flag}
 use Rattle.records.specs.Records.{raised_vector}
 use Rattle.records.proofs.raise.vector.Goals as goal
