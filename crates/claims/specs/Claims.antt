@@ -21,23 +21,24 @@ use Rattle.answers.specs.Answers.{answered, events_of, value_of, count_of}
 use Rattle.calls.specs.Calls.{refusal, perform, begun}
 use Rattle.unwind.specs.Unwind.{return_from, walk_from}
 use Rattle.bounds.specs.Levels.{Unrolls}
-use Rattle.bounds.specs.Unique as unique
+use Rattle.bounds.proofs.Unique as unique
 use Rattle.forms.specs.Gist.{gist}
 use Rattle.forms.specs.Plans.{Plan, Clean, planned}
 use Rattle.forms.specs.Tests.{Whole, clean_test}
 use Rattle.forms.specs.Quiet.{Quiet}
 use Rattle.forms.specs.Forms.{plan_of}
-use Rattle.forms.specs.Forms as forms
-use Rattle.forms.specs.Adequate as adequacy
+use Rattle.forms.proofs.Forms as forms
+use Rattle.forms.proofs.Adequate as adequacy
 use Rattle.instances.specs.Rows.{P1, P2, P3, P4, P5, P6, P7, P8, P9, P10, P11, Also}
-use Rattle.instances.specs.Instances as table
+use Rattle.instances.proofs.Instances as table
 use Rattle.promises.specs.Over.{perform_by}
 use Rattle.promises.specs.Refusals.{holds, Past}
 use Rattle.promises.specs.Refusals as refusals
+use Rattle.promises.proofs.Refusals as refusal_laws
 use Rattle.promises.specs.Calls.{most_events, is_entry, cycles_of}
-use Rattle.promises.specs.Calls as calls
-use Rattle.promises.specs.Charged as charged
-use Rattle.promises.specs.Levels as levels
+use Rattle.promises.proofs.Calls as calls
+use Rattle.promises.proofs.Charged as charged
+use Rattle.promises.proofs.Levels as levels
 use Rattle.nest.specs.Nest.{Step, Premises, Alike, end, depth, rows, restored, restored_by}
 use Rattle.entered.specs.Machines.{Room}
 use Rattle.rule3.specs.Rows.{told}
@@ -49,7 +50,7 @@ use Rattle.printed.specs.Lines.{with_feed, text, walk_line}
 use Rattle.printed.specs.Steps.{Meets, book_of, depth_of}
 use Rattle.printed.specs.Told.{rows_text, returns_text}
 use Rattle.printed.specs.Bytes.{lines_in}
-use Rattle.printed.specs.Bytes as bytes
+use Rattle.printed.proofs.Bytes as bytes
 use Rattle.nest.specs.Nest.{Sound}
 use Rattle.entered.specs.Pointers.{regs_of, Fit}
 use Rattle.unwind.specs.Unwind.{sight_of}
@@ -61,12 +62,13 @@ use Rattle.manual.specs.Calls.{event as exception}
 use Rattle.manual.specs.Calls.{state_of, event_of}
 use Rattle.manual.specs.Statement.{Agrees}
 use Rattle.manual.specs.Holds.{InDomain}
-use Rattle.manual.specs.Holds as manual
+use Rattle.manual.proofs.Holds as manual
 use Rattle.manual.specs.Triggers.{restored as put_back}
 use Rattle.manual.specs.Triggers.{trigger_plan}
-use Rattle.manual.specs.Triggers as triggers
+use Rattle.manual.proofs.Triggers as triggers
 use Rattle.manual.specs.Shown.{inputs, AllShown, has_all}
 use Rattle.manual.specs.Shown as shown
+use Rattle.manual.proofs.Shown as shown_rows
 use Rattle.manual.specs.ReturnHolds.{Returns}
 use Rattle.manual.specs.ReturnHolds as returns
 
@@ -113,11 +115,11 @@ pub refusal_conditions : (w : World) (c : Call)
     × ((holds w c 8 ≡ true) ↔ (255 < (matter_of c).vector))
     × ((holds w c 9 ≡ true) ↔ ((11 < kind_of (cpu_of w)) ⊎ (((matter_of c).floating ≡ true) × (kind_of (cpu_of w) ≡ 11 → ⊥))))
 refusal_conditions w c =
-    (refusals.condition_1 w c, refusals.condition_2 w c, refusals.condition_3 w c, refusals.condition_4 w c, refusals.condition_5 w c, refusals.condition_6 w c, refusals.condition_7 w c, refusals.condition_8 w c, refusals.condition_9 w c)
+    (refusal_laws.condition_1 w c, refusal_laws.condition_2 w c, refusal_laws.condition_3 w c, refusal_laws.condition_4 w c, refusal_laws.condition_5 w c, refusal_laws.condition_6 w c, refusal_laws.condition_7 w c, refusal_laws.condition_8 w c, refusal_laws.condition_9 w c)
 
 -- "Refused by number, with record, store and log as they came"
 pub refused_unchanged : (w : World) (c : Call) → (refusal w c ≡ 0 → ⊥) → perform w c ≡ answered w (Refused (refusal w c))
-refused_unchanged = refusals.refused_unchanged
+refused_unchanged = refusal_laws.refused_unchanged
 
 -- ---- events and cycles
 
@@ -187,7 +189,7 @@ from_the_manuals = manual.holds
 
 -- "and differences are listed": every row of the table is shown by an input, and each input shows a difference on `perform`
 pub every_row_differs : AllShown inputs × (has_all 0 differences inputs ≡ true)
-every_row_differs = (shown.all_shown, shown.every_row)
+every_row_differs = (shown_rows.all_shown, shown.every_row)
 
 -- and what a bus error's trigger leaves, from the status and registers that it puts back
 pub trigger_from_the_manuals : (w : World) (F : Family) → family_of (kind_of (cpu_of w)) ≡ some F → InDomain (cpu_of (put_back w)) → Sound (regs_of (cpu_of (put_back w))) → (a : ℕ) (write i : Bool) (z : ℕ) (k : FaultCause)
