@@ -38,7 +38,7 @@ use Rattle.entered.proofs.PaperIs.{stacks_paper}
 use Rattle.entered.specs.Entered.{error_call, Inside, Law}
 use Rattle.entered.proofs.Entered.{nested, whole_of, kind_regs}
 use Rattle.entered.specs.Numbers.{Left, entry_left}
-use Rattle.entered.specs.Machines.{direct, Direct, Room, world_of, reads, enter_by, outcome, by_plan, takes_by, has_plan, Passes, InsideRoom, CleanCall, Took, took, flags_accepted, windows_calm, store_calm, exc_takes, service_takes, begun_takes, none_of, Agrees, exc_reads, rewound_reads, costly, service_reads, set_top_kind}
+use Rattle.entered.specs.Machines.{machine, direct, Direct, Room, world_of, reads, enter_by, outcome, by_plan, takes_by, has_plan, Passes, InsideRoom, CleanCall, Took, took, flags_accepted, windows_calm, store_calm, exc_takes, service_takes, begun_takes, none_of, Agrees, exc_reads, rewound_reads, costly, service_reads, set_top_kind}
 
 paper_takes_lem : (w : World) (c : Call) → paper_takes w c ≡ has_plan (plan_of w c)
 unfolding paper_takes plan_of
@@ -160,26 +160,6 @@ kind_after w z (two h n) l = sym (view_kind_of (cpu_of z)) ∙ ap (λ (v : View)
 -- ---- the law
 
 module _ (give_back : Cpu → Room → Returned Cpu) (walk : ℕ → ℕ → Cpu → Room → Walked) where
-  -- the project's machine, over any return and walk
-  abbrev pub machine : Machine
-  machine =
-      record {
-        Rec = Cpu;
-        Sto = Room;
-        Call = Direct;
-        regs = regs_of;
-        mem = λ s. mem_of s.bus s.bytes;
-        enter = λ c r s. enter_by (world_of r s) c.call;
-        give_back = give_back;
-        walk = walk;
-        takes = λ c r s. takes_by (world_of r s) c.call;
-        stacks = λ c r s. paper (world_of r s) c.call;
-        Clean = CleanCall;
-        error_call = λ c. error_call c.call;
-        Inside = InsideRoom;
-        Passes = Passes;
-      }
-
   good : (c : Call) (r : Cpu) (s : Room) → refusal (world_of r s) c ≡ 0 → Inside r → Good r
   good c r s a i =
       record {
@@ -196,8 +176,8 @@ module _ (give_back : Cpu → Room → Returned Cpu) (walk : ℕ → ℕ → Cpu
       }
 
   -- law `entered` of the nest, for every direct entry
-  pub entered_law : (c : Direct) (r r' : Cpu) (s s' : Room) → enter_by (world_of r s) c.call ≡ taken r' s' → InsideRoom r s → Sound (regs_of r) → CleanCall c r s → No68000Error machine c r s → ServedThen machine c r s
-      → Apart (regs_of r).kind (frames_of (paper (world_of r s) c.call)) → BelowTop (regs_of r).kind (frames_of (paper (world_of r s) c.call)) → Entry machine c r r' s s'
+  pub entered_law : (c : Direct) (r r' : Cpu) (s s' : Room) → enter_by (world_of r s) c.call ≡ taken r' s' → InsideRoom r s → Sound (regs_of r) → CleanCall c r s → No68000Error (machine give_back walk) c r s → ServedThen (machine give_back walk) c r s
+      → Apart (regs_of r).kind (frames_of (paper (world_of r s) c.call)) → BelowTop (regs_of r).kind (frames_of (paper (world_of r s) c.call)) → Entry (machine give_back walk) c r r' s s'
   unfolding CleanCall
   entered_law c r r' s s' e i so cl er sv pa below =
       let w : World = world_of r s in
@@ -215,8 +195,8 @@ module _ (give_back : Cpu → Room → Returned Cpu) (walk : ℕ → ℕ → Cpu
       let lent : (matter_of c.call).store ≡ true = plan_lent (begun w) c.call p t.has in
       let kz : kind_of (cpu_of z) ≡ kind_of r = kind_after w z (stacks w c.call) l in
       let left : is_prefetch_kind (kind_of r) ≡ true → Left z = λ q. entry_left w c.call p t.accepted t.has ct (λ d. ne_eqb (kind_of r) 1 (en d)) q (i.record_in.pc q) (i.record_in.ppc q) (i.bytes q) in
-      subst (λ (q : Cpu). Entry machine c r q s s') t.cpu_is
-      (subst (λ (q : Room). Entry machine c r (cpu_of z) s q) t.room_is
+      subst (λ (q : Cpu). Entry (machine give_back walk) c r q s s') t.cpu_is
+      (subst (λ (q : Room). Entry (machine give_back walk) c r (cpu_of z) s q) t.room_is
       (record {
         does = (subst (Law w z) (sym q) l).does;
         outside = (subst (Law w z) (sym q) l).outside;
@@ -235,7 +215,7 @@ module _ (give_back : Cpu → Room → Returned Cpu) (walk : ℕ → ℕ → Cpu
       }))
 
   -- law `kind_kept`
-  pub kind_law : (c : Direct) (r r' : Cpu) (s s' : Room) → enter_by (world_of r s) c.call ≡ taken r' s' → InsideRoom r s → Sound (regs_of r) → CleanCall c r s → No68000Error machine c r s → ServedThen machine c r s → (regs_of r').kind ≡ (regs_of r).kind
+  pub kind_law : (c : Direct) (r r' : Cpu) (s s' : Room) → enter_by (world_of r s) c.call ≡ taken r' s' → InsideRoom r s → Sound (regs_of r) → CleanCall c r s → No68000Error (machine give_back walk) c r s → ServedThen (machine give_back walk) c r s → (regs_of r').kind ≡ (regs_of r).kind
   unfolding CleanCall
   kind_law c r r' s s' e i so cl er sv =
       let w : World = world_of r s in

@@ -16,7 +16,8 @@ use Rattle.nest.proofs.Tale.{rule3}
 use Rattle.entered.specs.Pointers.{regs_of}
 use Rattle.entered.specs.Bytes.{mem_of, mem_same}
 use Rattle.entered.specs.Machines.{Direct, Room, Passes, InsideRoom, world_of, enter_by, store_calm, windows_calm}
-use Rattle.entered.proofs.Machines.{enter_is, machine, entered_law, kind_law, ranges_law, says_taken_lem, says_untaken_lem, says_refused_lem}
+use Rattle.entered.specs.Machines.{machine}
+use Rattle.entered.proofs.Machines.{enter_is, entered_law, kind_law, ranges_law, says_taken_lem, says_untaken_lem, says_refused_lem}
 use Rattle.entered.specs.Untaken.{Idle, call_idle, SameLent, call_room}
 use Rattle.entered.specs.Rule3.{Held, held}
 

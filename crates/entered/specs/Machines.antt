@@ -34,6 +34,13 @@ use Rattle.nest.specs.View.{Bank, user, interrupt, master, View, set_ptr, bank, 
 use Rattle.nest.specs.Nest.{Entered, refused, untaken, taken}
 use Rattle.entered.specs.Paper.{outside, interrupts, paper_takes}
 use Rattle.entered.specs.Entered.{Inside}
+use Rattle.forms.specs.Plans.{Clean}
+use Rattle.nest.specs.Nest.{Machine, Returned, Walked}
+use Rattle.entered.specs.Pointers.{regs_of}
+use Rattle.entered.specs.Bytes.{mem_of}
+use Rattle.entered.specs.Stacks.{stacks}
+use Rattle.entered.specs.Paper.{paper}
+use Rattle.entered.specs.Entered.{error_call}
 
 -- ---- the machine
 
@@ -284,3 +291,24 @@ set_top_kind v p = go (bank v)
     go user = refl
     go interrupt = refl
     go master = refl
+
+module _ (give_back : Cpu → Room → Returned Cpu) (walk : ℕ → ℕ → Cpu → Room → Walked) where
+  -- the project's machine, over any return and walk
+  abbrev pub machine : Machine
+  machine =
+      record {
+        Rec = Cpu;
+        Sto = Room;
+        Call = Direct;
+        regs = regs_of;
+        mem = λ s. mem_of s.bus s.bytes;
+        enter = λ c r s. enter_by (world_of r s) c.call;
+        give_back = give_back;
+        walk = walk;
+        takes = λ c r s. takes_by (world_of r s) c.call;
+        stacks = λ c r s. paper (world_of r s) c.call;
+        Clean = CleanCall;
+        error_call = λ c. error_call c.call;
+        Inside = InsideRoom;
+        Passes = Passes;
+      }

@@ -26,7 +26,7 @@ use Rattle.nest.specs.Laws.{Return}
 use Rattle.entered.specs.Pointers.{regs_of, Fit}
 use Rattle.entered.specs.Bytes.{mem_of}
 use Rattle.entered.specs.Machines.{Room, Passes, InsideRoom}
-use Rattle.entered.proofs.Machines.{machine}
+use Rattle.entered.specs.Machines.{machine}
 use Rattle.entered.proofs.Entered.{kind_regs}
 use Rattle.entered.proofs.Rule3.{nest}
 use Rattle.entered.specs.Flags.{masked, status_regs}
