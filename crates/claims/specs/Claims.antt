@@ -43,7 +43,7 @@ use Rattle.nest.specs.Nest.{Step, Premises, Alike, end, depth, rows, restored, r
 use Rattle.entered.specs.Machines.{Room}
 use Rattle.rule3.specs.Rows.{told}
 use Rattle.rule3.specs.Rule3.{core_of, Real}
-use Rattle.rule3.specs.Rule3 as rule3
+use Rattle.rule3.proofs.Rule3 as rule3
 use Rattle.lines.specs.Commands.{ret_name}
 use Rattle.sessions.specs.Printed.{started, printed}
 use Rattle.printed.specs.Lines.{with_feed, text, walk_line}

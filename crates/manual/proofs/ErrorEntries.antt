@@ -33,7 +33,8 @@ use Rattle.manual.proofs.Errors.{first_bus_error, first_address_error, second_bu
 use Rattle.manual.specs.Errors.{at as with_fault}
 use Rattle.manual.specs.PartLaws.{impossible, Tests}
 use Rattle.manual.specs.Lengths.{bus_bytes, address_bytes, bus_error_own_length, address_error_own_length}
-use Rattle.manual.specs.Entries.{Turn, End, turn_supervisor, turn_bus, end_same, one_agrees, by_frame}
+use Rattle.manual.specs.Entries.{Turn, End, turn_supervisor, turn_bus, end_same}
+use Rattle.manual.proofs.Entries.{one_agrees, by_frame}
 use Rattle.manual.specs.ErrorEntries.{code_small, bus_by, address_by, bus_is, address_is, bus_size, address_size}
 
 module _ (s : State) (sr : s.status < 0x10000) (op : s.opcode < 0x10000) (a : ℕ) (write i : Bool) (code datum : ℕ) (l : code < 8) where

@@ -33,7 +33,7 @@ use Rattle.manual.specs.Differences.{by_vector, own, differences}
 use Rattle.manual.specs.Calls.{Event, event, by_number, is_group2, state_by, state_of, event_of, no_fault}
 use Rattle.manual.specs.Statement.{Agrees}
 use Rattle.manual.specs.PartLaws.{Tests, sixty, tests_of_lem}
-use Rattle.manual.specs.Entries.{trap_agrees, privilege_agrees, rewound_agrees, group_agrees, trace_agrees, vector_agrees, unimplemented_agrees, disabled_agrees}
+use Rattle.manual.proofs.Entries.{trap_agrees, privilege_agrees, rewound_agrees, group_agrees, trace_agrees, vector_agrees, unimplemented_agrees, disabled_agrees}
 use Rattle.manual.proofs.ErrorEntries.{bus_agrees, address_agrees}
 use Rattle.manual.specs.Levels.{vector_same}
 use Rattle.manual.proofs.Levels.{interrupt_agrees}

@@ -46,7 +46,8 @@ use Rattle.manual.specs.Plain.{of, early, level, interrupt_cells, under_cells, t
 use Rattle.manual.specs.PartLaws.{Tests, impossible, sixty, no_m, sound_m, sound_mask, clear_none, sixty_is}
 use Rattle.manual.proofs.PartLaws.{level_status}
 use Rattle.manual.specs.Lengths.{plain_bytes, interrupt_own_length}
-use Rattle.manual.specs.Entries.{Sized, still_same, settled_agrees, flags_status, pointer_of, usp_of, vector_of_lem, pins_of, kind_gist, size8}
+use Rattle.manual.specs.Entries.{Sized, still_same, size8}
+use Rattle.manual.proofs.Entries.{settled_agrees, flags_status, pointer_of, usp_of, vector_of_lem, pins_of, kind_gist}
 use Rattle.manual.specs.Levels.{level_small, vector_small, end_level, still_level, still_clear, clear_top, clear_flags, none_set, set_nonzero, level_m, leave_same, level_size, with_s_lem, s_fits, select_s, clear_three, lower_eight}
 
 -- M clear already: the status of the level alone

@@ -5,3 +5,4 @@ pub mod ErrorEntries
 pub mod Triggers
 pub mod Errors
 pub mod Shown
+pub mod Entries

@@ -10,7 +10,8 @@ use Rattle.cpu.specs.Fields.{pc_of, a7_of}
 use Rattle.status.specs.Status.{get_sr}
 use Rattle.memory.specs.World.{World, put_cpu, with_cpu, cpu_of}
 use Rattle.unwind.specs.declared.Returned.{Returned}
-use Rattle.unwind.specs.Rows.{trail_from, Reads, walk_reads}
+use Rattle.unwind.specs.Rows.{trail_from, Reads}
+use Rattle.unwind.proofs.Rows.{walk_reads}
 use Rattle.unwind.specs.Returns.{Walk as Walked}
 use Rattle.unwind.specs.Unwind.{return_from, walk_from}
 use Rattle.nest.specs.View.{opt}
@@ -20,14 +21,16 @@ use Rattle.nest.specs.Nest.{Returned as Given, returned as given, Told as NestTo
 use Rattle.entered.specs.Pointers.{regs_of}
 use Rattle.entered.specs.Machines.{room_of}
 use Rattle.rule3.specs.Rows.{rows_here, told}
-use Rattle.rule3.specs.Rule3.{give_back, walk, Real, rule3}
+use Rattle.rule3.specs.Rule3.{give_back, walk, Real}
+use Rattle.rule3.proofs.Rule3.{rule3}
 use Rattle.lines.specs.Commands.{ret_name}
 use Rattle.prints.specs.Prints.{more, state_line, refused_line}
 use Rattle.sessions.specs.Walks.{row_texts, refusal_text, walk_text, walked}
 use Rattle.sessions.specs.Sessions.{Session, session, say, on_core, state_of, return_told, returned, act, step}
 use Rattle.sessions.specs.Printed.{steps}
 use Rattle.printed.specs.Steps.{nest_of, Meets, ended, book_of, depth_of}
-use Rattle.printed.specs.Follows.{return_bus, standing, follows}
+use Rattle.printed.specs.Follows.{return_bus, standing}
+use Rattle.printed.proofs.Follows.{follows}
 use Rattle.printed.specs.Told.{rows_text, return_text, returns_text, Told, no_number, rows_text_lem, walk_acts, ret_is, never, SamePrints}
 
 -- where the walk of rule 3 gives rows and no number, the session prints them and no refusal

@@ -29,11 +29,9 @@ use Rattle.entered.proofs.Machines.{enter_is}
 use Rattle.rule3.specs.Rule3.{give_back, Real}
 use Rattle.lines.specs.declared.Command.{Command}
 use Rattle.lines.specs.declared.Command.TheVariants.{Wrong, Kind, Pc, Ppc, A7, Long, Exc, Trap, Irq, Walk, Ret}
-use Rattle.lines.specs.Commands.{command_of}
-use Rattle.sessions.specs.Sessions.{Session, on_core, entered, interrupted, act, step}
+use Rattle.sessions.specs.Sessions.{Session, on_core, entered, interrupted, act}
 use Rattle.sessions.specs.Sessions.{returned as session_returned}
-use Rattle.sessions.specs.Printed.{steps}
-use Rattle.printed.specs.Steps.{steps_of, nest_of, ended, book_of}
+use Rattle.printed.specs.Steps.{steps_of}
 
 -- the state of a nest in a world, with a book
 abbrev pub standing : World → List Page → State Real
@@ -84,10 +82,10 @@ module _ (w : World) (b : List Page) where
 -- ---- one command, and the lines
 
 -- that a state stands in a world, whatever its book
-same_book : (w : World) (b : List Page) (st : State Real) → st ≡ standing w b → st ≡ standing w st.book
+pub same_book : (w : World) (b : List Page) (st : State Real) → st ≡ standing w b → st ≡ standing w st.book
 same_book w b st e = e ∙ ap (standing w) (sym (ap (λ (z : State Real). z.book) e))
 
-command_follows : (s : Session) (c : Command) (b : List Page) → run Real (steps_of s c) (standing s.after b) ≡ standing (act s c).after (run Real (steps_of s c) (standing s.after b)).book
+pub command_follows : (s : Session) (c : Command) (b : List Page) → run Real (steps_of s c) (standing s.after b) ≡ standing (act s c).after (run Real (steps_of s c) (standing s.after b)).book
 unfolding steps_of act entered interrupted session_returned
 command_follows s (Exc v) b = same_book _ _ _ (enters s.after (call.TakeException v) refl b)
 command_follows s (Trap n) b = same_book _ _ _ (enters s.after (call.Trap n) refl b)
@@ -101,19 +99,6 @@ command_follows s (Long a v) b = refl
 command_follows s (Walk n) b = refl
 command_follows s Wrong b = refl
 
-run_append : (xs ys : List (Step Real)) (st : State Real) → run Real (xs ++ ys) st ≡ run Real ys (run Real xs st)
+pub run_append : (xs ys : List (Step Real)) (st : State Real) → run Real (xs ++ ys) st ≡ run Real ys (run Real xs st)
 run_append [] ys st = refl
 run_append (x ∷ xs) ys st = run_append xs ys (exec Real x st)
-
-lines_follow : (s : Session) (ls : List (List ℕ)) (b : List Page) → run Real (nest_of s ls) (standing s.after b) ≡ standing (steps s ls).after (run Real (nest_of s ls) (standing s.after b)).book
-unfolding nest_of steps step
-lines_follow s [] b = refl
-lines_follow s (l ∷ ls) b =
-    same_book _ _ _
-    (run_append (steps_of s (command_of l)) (nest_of (step s l) ls) (standing s.after b)
-    ∙ ap (run Real (nest_of (step s l) ls)) (command_follows s (command_of l) b)
-    ∙ lines_follow (step s l) ls (run Real (steps_of s (command_of l)) (standing s.after b)).book)
-
--- the nest of a session's lines follows the session
-pub follows : (s : Session) (ls : List (List ℕ)) → ended s ls ≡ standing (steps s ls).after (book_of s ls)
-follows s ls = lines_follow s ls []

@@ -1,1 +1,4 @@
 pub mod Worked
+pub mod Nests
+pub mod Rule3
+pub mod Stated

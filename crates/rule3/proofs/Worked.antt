@@ -3,7 +3,8 @@ use Rattle.std.specs.Prelude.{ℕ, ◌<◌, ◌≤◌, ◌≡◌, [], ◌∷◌}
 use Rattle.std.proofs.Common.{sym, subst, arith}
 use Rattle.std.proofs.Math.Option.{none, some}
 use Rattle.nest.specs.Nest.{rows, restored, Premises, Told}
-use Rattle.rule3.specs.Rule3.{Real, walk, rule3}
+use Rattle.rule3.specs.Rule3.{Real, walk}
+use Rattle.rule3.proofs.Rule3.{rule3}
 use Rattle.rule3.specs.Checked.{real, premises_tested}
 use Rattle.rule3.specs.Worked.{r₀, s₀, steps, final, final_rows, test, depth_is, walked_by, returned_by_lem, final_values}
 

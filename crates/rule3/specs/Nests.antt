@@ -1,8 +1,7 @@
 -- WORKED NESTS: lists of steps on kinds 0, 1, 2, 4, 8, 10 and 11 that meet the premises of rule 3, each shown by one test that computes;
 -- what the book then holds, computed; and that rule 3 speaks of each. Every format is among them, a two-frame interrupt, a user state with
 -- M set, a return, a refused call, a call that is not taken, and a pair of lists for part (b).
-use Rattle.std.specs.Prelude.{ℕ, ◌≡◌, refl, true, false, List, [], ◌∷◌, ltb, set, replicate}
-use Rattle.std.proofs.Common.{ltb-true}
+use Rattle.std.specs.Prelude.{ℕ, ◌≡◌, refl, true, false, List, [], ◌∷◌, set, replicate}
 use Rattle.types.specs.declared.FaultCause.TheVariants.{Absent}
 use Rattle.cpu.specs.declared.Cpu.{Cpu}
 use Rattle.cpu.specs.Setters.{with_sp}
@@ -14,10 +13,9 @@ use Rattle.memory.specs.declared.Bus.{Bus}
 use Rattle.answers.specs.declared.Call.{Call}
 use Rattle.answers.specs.declared.Call.TheVariants.{TakeException, Trap, ExceptionChk, ExceptionZeroDivide, ExceptionTrace, ExceptionAddressError, ExceptionBusError, TakeFpUnimp060, TakeFpDisabled060, TakeIllegalException, CheckAndServiceInterrupts}
 use Rattle.nest.specs.View.{Row}
-use Rattle.nest.specs.Nest.{Step, entry, return, handlers, end, depth, rows, restored_by, Values, Told, SameTale}
+use Rattle.nest.specs.Nest.{Step, entry, return, handlers, end, rows, restored_by, Values}
 use Rattle.entered.specs.Machines.{direct, Room}
-use Rattle.rule3.specs.Rule3.{Real, rule3}
-use Rattle.rule3.specs.Checked.{real, premises_test, premises_tested}
+use Rattle.rule3.specs.Rule3.{Real}
 use Rattle.rule3.specs.Computed.{nested}
 
 -- ---- how they are written
@@ -49,21 +47,13 @@ row format status address offset = record { format = format; status = status; ad
 abbrev values : ℕ → ℕ → ℕ → Values
 values status pc a7 = record { status = status; pc = pc; a7 = a7 }
 
--- rule 3 of a list that passes the test
-pub tells : (xs : List (Step Real)) (r : Cpu) (s : Room) → premises_test real xs r s ≡ true → ltb 0 (depth Real (end Real xs r s)) ≡ true → Told Real (end Real xs r s)
-tells xs r s e d = rule3.tells xs r s (premises_tested real xs r s e) (ltb-true 0 (depth Real (end Real xs r s)) d)
-
 -- ---- kind 4: a trap from the user state with M set, an interrupt from the master state with its two frames, a bus error of format 11
 
-abbrev three : List (Step Real)
+abbrev pub three : List (Step Real)
 three = call (Trap 0) refl ∷ tick ∷ bus_error ∷ []
 
-abbrev r₄ : Cpu
+abbrev pub r₄ : Cpu
 r₄ = start 4 0x1000 0x100 0x100 0x200 0x190 7
-
-pub three_told : Told Real (end Real three r₄ room)
-unfolding nested
-three_told = tells three r₄ room refl refl
 
 pub three_rows : rows (end Real three r₄ room).book ≡ row 11 0x2700 0 0x008 ∷ row 1 0x3000 0 0x07C ∷ row 0 0x1000 0x100 0x080 ∷ []
 unfolding nested
@@ -75,15 +65,11 @@ three_values = refl
 
 -- ---- kind 0: divide by zero (format 2), a bus error (format 11), an interrupt; and a return
 
-abbrev r₀ : Cpu
+abbrev pub r₀ : Cpu
 r₀ = start 0 0x2000 0x200 0x100 0 0 4
 
-abbrev zero_list : List (Step Real)
+abbrev pub zero_list : List (Step Real)
 zero_list = call ExceptionZeroDivide refl ∷ bus_error ∷ tick ∷ return ∷ []
-
-pub zero_told : Told Real (end Real zero_list r₀ room)
-unfolding nested
-zero_told = tells zero_list r₀ room refl refl
 
 pub zero_rows : rows (end Real zero_list r₀ room).book ≡ row 11 0x2000 0 0x008 ∷ row 2 0x2000 0x100 0x014 ∷ []
 unfolding nested
@@ -91,15 +77,11 @@ zero_rows = refl
 
 -- ---- kind 1: a trap from the user state, an interrupt, an illegal instruction: frames of 6 bytes, no format
 
-abbrev r₁ : Cpu
+abbrev pub r₁ : Cpu
 r₁ = start 1 0x0004 0x100 0x100 0x200 0 2
 
-abbrev one_list : List (Step Real)
+abbrev pub one_list : List (Step Real)
 one_list = call (Trap 15) refl ∷ tick ∷ call TakeIllegalException refl ∷ []
-
-pub one_told : Told Real (end Real one_list r₁ room)
-unfolding nested
-one_told = tells one_list r₁ room refl refl
 
 pub one_rows : rows (end Real one_list r₁ room).book ≡ row 0 0x2204 0 0 ∷ row 0 0x2004 0 0 ∷ row 0 0x0004 0x100 0 ∷ []
 unfolding nested
@@ -107,15 +89,11 @@ one_rows = refl
 
 -- ---- kind 2: a bus error (format 8), a call refused by number 8, an interrupt held back by the mask, an address error (format 8)
 
-abbrev r₂ : Cpu
+abbrev pub r₂ : Cpu
 r₂ = start 2 0x2700 0x200 0x100 0 0 3
 
-abbrev two_list : List (Step Real)
+abbrev pub two_list : List (Step Real)
 two_list = bus_error ∷ call (TakeException 256) refl ∷ tick ∷ call (ExceptionAddressError 0x11 true false) refl ∷ []
-
-pub two_told : Told Real (end Real two_list r₂ room)
-unfolding nested
-two_told = tells two_list r₂ room refl refl
 
 pub two_rows : rows (end Real two_list r₂ room).book ≡ row 8 0x2700 0 0x00C ∷ row 8 0x2700 0 0x008 ∷ []
 unfolding nested
@@ -123,15 +101,11 @@ two_rows = refl
 
 -- ---- kind 8: CHK (format 2), a bus error (format 7), an interrupt from the master state (formats 1 and 0), trace
 
-abbrev r₈ : Cpu
+abbrev pub r₈ : Cpu
 r₈ = start 8 0x3000 0x180 0x100 0x200 0 7
 
-abbrev eight_list : List (Step Real)
+abbrev pub eight_list : List (Step Real)
 eight_list = call ExceptionChk refl ∷ bus_error ∷ tick ∷ call ExceptionTrace refl ∷ []
-
-pub eight_told : Told Real (end Real eight_list r₈ room)
-unfolding nested
-eight_told = tells eight_list r₈ room refl refl
 
 pub eight_rows : rows (end Real eight_list r₈ room).book ≡ row 2 0x2700 0 0x024 ∷ row 1 0x3000 0 0x07C ∷ row 7 0x3000 0 0x008 ∷ row 2 0x3000 0x100 0x018 ∷ []
 unfolding nested
@@ -139,15 +113,11 @@ eight_rows = refl
 
 -- ---- kind 10: divide by zero (format 0), a bus error (format 8)
 
-abbrev r₁₀ : Cpu
+abbrev pub r₁₀ : Cpu
 r₁₀ = start 10 0x0000 0x100 0x100 0x200 0 0
 
-abbrev ten_list : List (Step Real)
+abbrev pub ten_list : List (Step Real)
 ten_list = call ExceptionZeroDivide refl ∷ bus_error ∷ []
-
-pub ten_told : Told Real (end Real ten_list r₁₀ room)
-unfolding nested
-ten_told = tells ten_list r₁₀ room refl refl
 
 pub ten_rows : rows (end Real ten_list r₁₀ room).book ≡ row 8 0x2000 0 0x008 ∷ row 0 0x0000 0x100 0x014 ∷ []
 unfolding nested
@@ -155,15 +125,11 @@ ten_rows = refl
 
 -- ---- kind 11: both floating-point entries (formats 2 and 4), an interrupt with M set, which clears it and stays on the stack
 
-abbrev r₁₁ : Cpu
+abbrev pub r₁₁ : Cpu
 r₁₁ = start 11 0x3000 0x200 0x100 0 0x180 7
 
-abbrev eleven_list : List (Step Real)
+abbrev pub eleven_list : List (Step Real)
 eleven_list = call (TakeFpUnimp060 0x1234) refl ∷ call TakeFpDisabled060 refl ∷ tick ∷ bus_error ∷ []
-
-pub eleven_told : Told Real (end Real eleven_list r₁₁ room)
-unfolding nested
-eleven_told = tells eleven_list r₁₁ room refl refl
 
 pub eleven_rows : rows (end Real eleven_list r₁₁ room).book ≡ row 4 0x2700 0 0x008 ∷ row 0 0x3000 0 0x07C ∷ row 4 0x3000 0 0x02C ∷ row 2 0x3000 0x100 0x02C ∷ []
 unfolding nested
@@ -171,19 +137,13 @@ eleven_rows = refl
 
 -- ---- part (b): two lists from two starts that are alike at their ends
 
-abbrev r₄' : Cpu
+abbrev pub r₄' : Cpu
 r₄' = start 4 0x2700 0x180 0 0 0 0
 
 -- handlers put in place the record that the other list starts from; a trap then meets the same arguments
-abbrev later : List (Step Real)
+abbrev pub later : List (Step Real)
 later = call ExceptionChk refl ∷ return ∷ handlers r₄ room ∷ three
 
 same_end : end Real later r₄' room ≡ end Real three r₄ room
 unfolding nested
 same_end = refl
-
-pub pair_tells : SameTale Real (end Real three r₄ room) (end Real later r₄' room)
-unfolding nested
-pair_tells =
-    rule3.settles three later r₄ r₄' room room (premises_tested real three r₄ room refl) (premises_tested real later r₄' room refl)
-    (record { stacks = refl; depths = refl; bytes = λ a x. (λ h. h, λ h. h) })

@@ -6,7 +6,8 @@ use Rattle.types.specs.Kinds.{pick}
 use Rattle.memory.specs.declared.Core.{Core}
 use Rattle.unwind.specs.declared.returns.Row.{Row}
 use Rattle.unwind.specs.Returns.{Trail, trail_of, put_rows, Walk, walk, laid, walk_of}
-use Rattle.unwind.specs.Rows.{rows_from, rows_back, trail_length}
+use Rattle.unwind.specs.Rows.{rows_from, trail_length}
+use Rattle.unwind.proofs.Rows.{rows_back}
 use Rattle.unwind.specs.Unwind.{refusal, sight_of, short_rows, walk_from}
 use Rattle.nest.specs.View.{Row as NestRow}
 use Rattle.nest.specs.Nest.{Walked}

@@ -21,14 +21,13 @@ use Rattle.unwind.specs.Unwind.{returned as answer}
 use Rattle.unwind.specs.declared.Returned.{Returned as Answer}
 use Rattle.nest.specs.View.{Row, View, view, peek, under, opt}
 use Rattle.nest.specs.View.{Back as NestBack, back as nest_back, backs}
-use Rattle.nest.specs.Nest.{Machine, Returned, denied, returned, Walked, State, depth, rows, Told, Rule3}
+use Rattle.nest.specs.Nest.{Machine, Returned, denied, returned, Walked, rows}
 use Rattle.nest.specs.Laws.{Return}
 use Rattle.entered.specs.Pointers.{regs_of, Fit}
 use Rattle.entered.specs.Bytes.{mem_of}
 use Rattle.entered.specs.Machines.{Room, Passes, InsideRoom}
 use Rattle.entered.specs.Machines.{machine}
 use Rattle.entered.proofs.Entered.{kind_regs}
-use Rattle.entered.proofs.Rule3.{nest}
 use Rattle.entered.specs.Flags.{masked, status_regs}
 use Rattle.rule3.specs.Taken.{Gives, back_gives, back_inside, back_kind}
 use Rattle.rule3.specs.Rows.{told, tale, walk_tells, rows_here}
@@ -121,7 +120,7 @@ module _ (r : Cpu) (s : Room) where
   unfolding answer put_cpu
   given e = rw e
 
-  return_law : (x : NestBack) → Passes r s → InsideRoom r s → nest_back (view (regs_of r)) (peek (mem_of s.bus s.bytes)) ≡ some x → (r' : Cpu) × Return Real r r' s x
+  pub return_law : (x : NestBack) → Passes r s → InsideRoom r s → nest_back (view (regs_of r)) (peek (mem_of s.bus s.bytes)) ≡ some x → (r' : Cpu) × Return Real r r' s x
   return_law x p i e =
       let g : Gives r (back sees r) x = back_gives s.bus s.bytes r x (fit_of r s p i) p.kind e in (
         (back sees r).cpu,
@@ -143,7 +142,7 @@ module _ (r : Cpu) (s : Room) where
       go true = record { record_in = back_inside (kind_of r) s.bus s.bytes i.bytes r refl i.record_in; bytes = λ q. i.bytes (sym (ap is_prefetch_kind (back_kind sees r)) ∙ q) }
       go false = i
 
-  stays_law : (r' : Cpu) → give_back r s ≡ returned r' → InsideRoom r s → InsideRoom r' s
+  pub stays_law : (r' : Cpu) → give_back r s ≡ returned r' → InsideRoom r s → InsideRoom r' s
   unfolding give_back
   stays_law r' e i = go (eqb (return_from (core_of r s) s.bytes).refused 0) e
     where
@@ -188,19 +187,10 @@ module _ (k : ℕ) (s : Room) (small : k < 12) where
       go u none p q = let z : ◌≡◌ {A = ℕ} 0 1 = cc in absurd (omega arith)
       go u (some x) p q = rest u x (gives c x f e p) (backs n x.view (peek (mem_of s.bus s.bytes))) refl q
 
-walks_law : (n w : ℕ) (r : Cpu) (s : Room) (rows : List Row) → Passes r s → InsideRoom r s → 4 * n ≤ w → backs n (view (regs_of r)) (peek (mem_of s.bus s.bytes)) ≡ some rows → walk n w r s ≡ record { rows = rows; number = none }
+pub walks_law : (n w : ℕ) (r : Cpu) (s : Room) (rows : List Row) → Passes r s → InsideRoom r s → 4 * n ≤ w → backs n (view (regs_of r)) (peek (mem_of s.bus s.bytes)) ≡ some rows → walk n w r s ≡ record { rows = rows; number = none }
 unfolding walk tale short_rows
 walks_law n w r s rows p i l e =
     let t : Trails (kind_of r) n r s rows = trails (kind_of r) s p.kind n r rows (fit_of r s p i) refl e in
     walk_tells (core_of r s) s.bytes n (replicate w 0)
     ∙ ap (tale (core_of r s) s.bytes n) (length-replicate w 0)
     ∙ rw (passes_refusal r s p, le-ltb w (n * 4) (omega arith), t.accepted, t.rows_are)
-
--- DEMAND 3, with no hypothesis
-pub rule3 : Rule3 Real
-rule3 = nest give_back walk (record { returns = return_law; stays_inside = λ r r' s. stays_law r s r'; walks = walks_law })
-
--- part (a) for every buffer that number 10 does not refuse, whatever it held
-pub any_buffer : (st : State Real) → Told Real st → (ws : List ℕ) → 4 * depth Real st ≤ length ws
-    → told (walk_from (core_of st.rec st.sto) st.sto.bytes (depth Real st) ws) ≡ record { rows = rows st.book; number = none }
-any_buffer st t ws l = walk_any (depth Real st) ws st.rec st.sto ∙ t.walked (length ws) l

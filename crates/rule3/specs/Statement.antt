@@ -4,15 +4,13 @@ use Rattle.std.specs.Prelude.{ℕ, ◌<◌, ◌≡◌, refl, Bool, true, false, 
 use Rattle.cpu.specs.declared.Cpu.{Cpu}
 use Rattle.cpu.specs.Setters.{with_sflag, with_mmu_fc_override}
 use Rattle.cpu.specs.Fields.{pc_of, ppc_of, a7_of, set_pc}
-use Rattle.answers.specs.declared.Call.TheVariants.{TakeException, Trap, ExceptionChk, TakeFpUnimp060, CheckAndServiceInterrupts}
+use Rattle.answers.specs.declared.Call.TheVariants.{Trap, ExceptionChk, CheckAndServiceInterrupts}
 use Rattle.calls.specs.Calls.{begun, refusal}
 use Rattle.forms.specs.Forms.{plan_of}
 use Rattle.instances.specs.Start.{laid}
-use Rattle.nest.specs.Nest.{handlers, end, Told}
 use Rattle.entered.specs.Machines.{Room, InsideRoom, world_of}
-use Rattle.rule3.specs.Rule3.{Real}
 use Rattle.rule3.specs.Checked.{inside_test, clean_by}
-use Rattle.rule3.specs.Nests.{bus, room, start, call, tick, tells}
+use Rattle.rule3.specs.Nests.{bus, room, start}
 use Rattle.rule3.specs.Needed.{with_base, with_cycles, trapped, windows}
 use Rattle.rule3.specs.Computed.{nested}
 
@@ -59,7 +57,7 @@ pub inside_4 : (inside_test r₄ room ≡ true) × (refusal (world_of r₄ room)
 unfolding nested
 inside_4 = (refl, refl)
 
-abbrev plain : Cpu
+abbrev pub plain : Cpu
 plain = start 4 0x2000 0x180 0 0 0 0
 
 abbrev s₅ : Room
@@ -76,49 +74,25 @@ pub inside_6 : (inside_test plain s₆ ≡ true) × (refusal (world_of plain s�
 unfolding nested
 inside_6 = (refl, refl)
 
--- ---- refused calls between, with one open: by 8 and 9; by 7, where the log that is lent is too short; by 3
-
-pub told_8_9 : Told Real (end Real (call (Trap 0) refl ∷ call (TakeException 256) refl ∷ call (TakeFpUnimp060 0) refl ∷ []) plain room)
-unfolding nested
-told_8_9 = tells (call (Trap 0) refl ∷ call (TakeException 256) refl ∷ call (TakeFpUnimp060 0) refl ∷ []) plain room refl refl
-
-abbrev short : Room
+abbrev pub short : Room
 short = record { bus = bus; bytes = (trapped 0x178).bytes; log = replicate 191 0 }
 
-pub told_7 : Told Real (end Real (call (Trap 0) refl ∷ handlers (start 4 0x2000 0x178 0 0 0 0) short ∷ call (Trap 1) refl ∷ []) plain room)
-unfolding nested
-told_7 = tells (call (Trap 0) refl ∷ handlers (start 4 0x2000 0x178 0 0 0 0) short ∷ call (Trap 1) refl ∷ []) plain room refl refl
-
-abbrev spent : Cpu
+abbrev pub spent : Cpu
 spent = with_cycles (start 4 0x2000 0x180 0 0 0 7) (negsuc 0x7FFFFFD2)
 
 pub refused_3 : refusal (world_of spent room) CheckAndServiceInterrupts ≡ 3
 unfolding nested
 refused_3 = refl
 
-pub told_3 : Told Real (end Real (call (Trap 0) refl ∷ tick ∷ []) spent room)
-unfolding nested
-told_3 = tells (call (Trap 0) refl ∷ tick ∷ []) spent room refl refl
-
 -- ---- handlers that move the store: another base, another length, a window and other responses, with a frame live
 
-abbrev moved : Room
+abbrev pub moved : Room
 moved =
     record {
       bus = record { base = 0x100; windows = 1; starts = set (replicate 8 0) 0 0x110; lengths = set (replicate 8 0) 0 4; responses = replicate 8 0x40; events = 7 };
       bytes = laid (replicate 0x90 0x55) 0x78 (0x20 ∷ 0x00 ∷ 0x00 ∷ 0x00 ∷ 0x01 ∷ 0x00 ∷ 0x00 ∷ 0x80 ∷ []);
       log = replicate 192 0;
     }
-
-pub told_moved : Told Real (end Real (call (Trap 0) refl ∷ handlers (start 4 0x2000 0x178 0 0 0 0) moved ∷ []) plain room)
-unfolding nested
-told_moved = tells (call (Trap 0) refl ∷ handlers (start 4 0x2000 0x178 0 0 0 0) moved ∷ []) plain room refl refl
-
--- ---- `take_exception` of vectors 2 and 3 on the 68000 makes no error frame, and is told
-
-pub told_2_3 : Told Real (end Real (call (TakeException 2) refl ∷ call (TakeException 3) refl ∷ []) (start 1 0x2000 0x180 0 0 0 0) room)
-unfolding nested
-told_2_3 = tells (call (TakeException 2) refl ∷ call (TakeException 3) refl ∷ []) (start 1 0x2000 0x180 0 0 0 0) room refl refl
 
 -- ---- what is clean
 

@@ -13,7 +13,8 @@ use Rattle.lines.specs.Commands.{command_of}
 use Rattle.prints.specs.Prints.{before, more, refused_line}
 use Rattle.sessions.specs.Walks.{walked}
 use Rattle.sessions.specs.Sessions.{Session, session, fresh_core, cleared, long_told, interrupted, returned, act, step}
-use Rattle.sessions.specs.Numbered.{numbered, entered_by, exc_same, trap_same}
+use Rattle.sessions.specs.Numbered.{numbered, entered_by}
+use Rattle.sessions.proofs.ByNumber.{exc_same, trap_same}
 
 module _ (x : Command) (m d : Core) (s l b u : List ℕ) where
   pub act_wrong : x ≡ command.Wrong → d ≡ m → u ≡ more b (refused_line 14) → session (world d s l) u ≡ act (session (world m s l) b) x

@@ -9,7 +9,8 @@ use lib.ListN.{length}
 use Rattle.memory.specs.declared.Core.{Core}
 use Rattle.unwind.specs.Returns.{Walk, walk}
 use Rattle.unwind.specs.Unwind.{walk_from}
-use Rattle.unwind.specs.Rows.{row_at, rows_from, trail_from, Reads, walk_reads}
+use Rattle.unwind.specs.Rows.{row_at, rows_from, trail_from, Reads}
+use Rattle.unwind.proofs.Rows.{walk_reads}
 use Rattle.prints.specs.Prints.{more, refused_line}
 use Rattle.prints.specs.Laws.{more_more, more_none}
 use Rattle.sessions.specs.Walks.{row_text, row_texts, refusal_text, walk_text, walked}

@@ -23,7 +23,8 @@ use Rattle.prints.specs.Prints.{before, more, laid, state_line, refused_line}
 use Rattle.prints.specs.Laws.{laid_room, more_none}
 use Rattle.sessions.specs.declared.Shown.{Shown}
 use Rattle.sessions.specs.Sessions.{session, charge_of, state_of, interrupted, returned, return_told, long_told, cleared}
-use Rattle.sessions.specs.Numbered.{numbered, cycles_of, shown_of, told, entered_by, interrupt_same}
+use Rattle.sessions.specs.Numbered.{numbered, cycles_of, shown_of, told, entered_by}
+use Rattle.sessions.proofs.ByNumber.{interrupt_same}
 
 pub charge_46 : (m : Core) (t : Bool) (k : ℕ) → t ≡ true → k ≡ kind_of m.cpu → k ≡ 2 → 46 ≡ charge_of m t
 unfolding charge_of

@@ -1,7 +1,7 @@
 -- From a `kind` on a session prints what one prints that has just started. The log is not cleared by it; so every definition that a
 -- command goes through is run with a log and without, and comes to the same.
 use Prim.Native.Nat.{ℕ, zero, suc, ◌+◌, ◌/◌, ◌%◌, ◌^◌}
-use Rattle.std.specs.Prelude.{◌≡◌, refl, Bool, List, [], ◌∷◌, ◌++◌, eqb, length, replicate}
+use Rattle.std.specs.Prelude.{◌≡◌, refl, Bool, List, [], ◌∷◌, ◌++◌, eqb, length}
 use Rattle.std.proofs.Common.{sym, ap, ◌∙◌, append-nil}
 use Rattle.std.proofs.Math.Bool.{true, false}
 use Rattle.std.proofs.lemmas.List.{length-replicate}
@@ -38,12 +38,8 @@ use Rattle.answers.specs.Answers.{Performed, answered, cycles, flag, plain, of_e
 use Rattle.calls.specs.Calls.{run, begun, refusal, perform}
 use Rattle.lines.specs.declared.Command.{Command}
 use Rattle.lines.specs.declared.Command.TheVariants as command
-use Rattle.lines.specs.Commands.{command_of}
-use Rattle.prints.specs.Prints.{more}
-use Rattle.prints.specs.Laws.{more_none}
-use Rattle.sessions.specs.Sessions.{Session, session, say, fresh_core, cleared, answer_told, entered, interrupted, returned, act, step as line}
-use Rattle.sessions.specs.Printed.{in_front, lines_of, steps, started, printed}
-use Rattle.sessions.specs.Cuts.{steps_onto}
+use Rattle.sessions.specs.Sessions.{Session, session, say, cleared, answer_told, entered, interrupted, returned, act, step as line}
+use Rattle.sessions.specs.Printed.{in_front, lines_of, steps, printed}
 
 -- ---- runs that differ in the log
 
@@ -55,7 +51,7 @@ abbrev bare_try : Attempt → Attempt
 bare_try x = reply (bare x.after) x.ok x.value
 
 -- of two runs, with a log and without: they come to the same but for the log, and the first has a store of n bytes and a log of k words
-record Tied {A : Type 0} (at : A → World) (bared : A → A) (n k : ℕ) (a b : A) : Type 0 where
+pub record Tied {A : Type 0} (at : A → World) (bared : A → A) (n k : ℕ) (a b : A) : Type 0 where
   pub blind : bared a ≡ bared b
   pub stores : length (at a).store ≡ n
   pub logs : length (at a).log ≡ k
@@ -453,19 +449,19 @@ of_service_lem : (x : Attempt) → Calls x.after (of_service x) (of_service (bar
 unfolding of_service flag
 of_service_lem x = record { blind = refl; stores = refl; logs = refl }
 
-exc_quiet : (v : ℕ) → Quiet (TakeException v)
+pub exc_quiet : (v : ℕ) → Quiet (TakeException v)
 unfolding run
 exc_quiet v w = join after_entry bare_entry after_call bare_call of_entry of_entry_lem w _ _ (entry_tied v w)
 
-trap_quiet : (n : ℕ) → Quiet (Trap n)
+pub trap_quiet : (n : ℕ) → Quiet (Trap n)
 unfolding run trap
 trap_quiet n w = join after_entry bare_entry after_call bare_call of_entry of_entry_lem w _ _ (entry_tied (trap_base + n % 16) w)
 
-irq_quiet : (n : ℕ) → Quiet (SetIrq n)
+pub irq_quiet : (n : ℕ) → Quiet (SetIrq n)
 unfolding run plain
 irq_quiet n w = record { blind = refl; stores = refl; logs = refl }
 
-service_quiet : Quiet CheckAndServiceInterrupts
+pub service_quiet : Quiet CheckAndServiceInterrupts
 unfolding run
 service_quiet w = join after_try bare_try after_call bare_call of_service of_service_lem w _ _ (interrupt w)
 
@@ -507,15 +503,15 @@ abbrev bare_session : Session → Session
 bare_session s = session (bare s.after) s.printed
 
 -- sessions that differ only in what their logs hold
-record Alike (s r : Session) : Type 0 where
+pub record Alike (s r : Session) : Type 0 where
   pub blind : bare_session s ≡ bare_session r
   pub logs : length s.after.log ≡ length r.after.log
 
 -- a session after a call that prints nothing
-abbrev called : Session → Call → Session
+abbrev pub called : Session → Call → Session
 called s c = session (perform s.after c).after s.printed
 
-called_alike : (c : Call) → Quiet c → (s r : Session) → Alike s r → Alike (called s c) (called r c)
+pub called_alike : (c : Call) → Quiet c → (s r : Session) → Alike s r → Alike (called s c) (called r c)
 called_alike c q s r e =
     record {
       blind =
@@ -524,7 +520,7 @@ called_alike c q s r e =
       logs = (call_sizes c q s.after).1 ∙ e.logs ∙ sym (call_sizes c q r.after).1;
     }
 
-entered_alike : (c : Call) → Quiet c → (s r : Session) → Alike s r → Alike (entered s c) (entered r c)
+pub entered_alike : (c : Call) → Quiet c → (s r : Session) → Alike s r → Alike (entered s c) (entered r c)
 unfolding entered
 entered_alike c q s r e =
     record {
@@ -536,48 +532,10 @@ entered_alike c q s r e =
     }
 
 -- commands that are no calls
-plain_alike : (f : Session → Session) (s r : Session) → Alike s r → ((y : Session) → bare_session (f y) ≡ bare_session (f (bare_session y))) →
+pub plain_alike : (f : Session → Session) (s r : Session) → Alike s r → ((y : Session) → bare_session (f y) ≡ bare_session (f (bare_session y))) →
     ((y : Session) → length (f y).after.log ≡ length y.after.log) → Alike (f s) (f r)
 plain_alike f s r e g n =
     record { blind = g s ∙ ap (λ (y : Session). bare_session (f y)) e.blind ∙ sym (g r); logs = n s ∙ e.logs ∙ sym (n r) }
-
-act_alike : (c : Command) (s r : Session) → Alike s r → Alike (act s c) (act r c)
-unfolding act interrupted returned
-act_alike command.Wrong s r e = plain_alike (λ y. act y command.Wrong) s r e (λ y. refl) (λ y. refl)
-act_alike (command.Kind k) s r e = plain_alike (λ y. act y (command.Kind k)) s r e (λ y. refl) (λ y. refl)
-act_alike (command.Pc v) s r e = plain_alike (λ y. act y (command.Pc v)) s r e (λ y. refl) (λ y. refl)
-act_alike (command.Ppc v) s r e = plain_alike (λ y. act y (command.Ppc v)) s r e (λ y. refl) (λ y. refl)
-act_alike (command.A7 v) s r e = plain_alike (λ y. act y (command.A7 v)) s r e (λ y. refl) (λ y. refl)
-act_alike (command.Long a v) s r e = plain_alike (λ y. act y (command.Long a v)) s r e (λ y. refl) (λ y. refl)
-act_alike (command.Exc v) s r e = entered_alike (TakeException v) (exc_quiet v) s r e
-act_alike (command.Trap n) s r e = entered_alike (Trap n) (trap_quiet n) s r e
-act_alike (command.Irq n) s r e =
-    entered_alike CheckAndServiceInterrupts service_quiet (called s (SetIrq n)) (called r (SetIrq n)) (called_alike (SetIrq n) (irq_quiet n) s r e)
-act_alike (command.Walk n) s r e = plain_alike (λ y. act y (command.Walk n)) s r e (λ y. refl) (λ y. refl)
-act_alike command.Ret s r e = plain_alike (λ y. act y command.Ret) s r e (λ y. refl) (λ y. refl)
-
-steps_alike : (ls : List (List ℕ)) (s r : Session) → Alike s r → Alike (steps s ls) (steps r ls)
-unfolding steps line
-steps_alike [] s r e = e
-steps_alike (l ∷ ls) s r e = steps_alike ls (line s l) (line r l) (act_alike (command_of l) s r e)
-
--- two sessions whose stores have one length, and whose logs have one, print the same from a `kind` on, whatever else differs
-pub kind_forgets : (s r : Session) (k : ℕ) (l : List ℕ) (ls : List (List ℕ)) → command_of l ≡ command.Kind k →
-    length s.after.store ≡ length r.after.store → length s.after.log ≡ length r.after.log → s.printed ≡ r.printed →
-    (steps s (l ∷ ls)).printed ≡ (steps r (l ∷ ls)).printed
-unfolding steps line act cleared
-kind_forgets s r k l ls e m n p =
-    ap (λ (c : Command). (steps (act s c) ls).printed) e
-    ∙ ap (λ (y : Session). y.printed) (steps_alike ls (act s (command.Kind k)) (act r (command.Kind k)) fresh).blind
-    ∙ sym (ap (λ (c : Command). (steps (act r c) ls).printed) e)
-  where
-    fresh : Alike (act s (command.Kind k)) (act r (command.Kind k))
-    fresh = record {
-      blind =
-          ap (λ (j : ℕ). session (world (fresh_core k) (replicate j 0) []) s.printed) m
-          ∙ ap (λ (bs : List ℕ). session (world (fresh_core k) (cleared r.after.store) []) bs) p;
-      logs = n;
-    }
 
 -- ---- the lengths of store and log
 
@@ -592,7 +550,7 @@ poke_length b s a v = go (served_of b (length s) a 4)
     go true = put_length true s (place_of b a) v
     go false = refl
 
-act_sizes : (c : Command) (s : Session) → Sizes (act s c) s
+pub act_sizes : (c : Command) (s : Session) → Sizes (act s c) s
 unfolding act cleared entered interrupted returned
 act_sizes command.Wrong s = (refl, refl)
 act_sizes (command.Kind k) s = (length-replicate {A = ℕ} (length s.after.store) 0, refl)
@@ -609,36 +567,12 @@ act_sizes (command.Irq n) s =
 act_sizes (command.Walk n) s = (refl, refl)
 act_sizes command.Ret s = (refl, refl)
 
--- every line keeps the length of the store, 65,536 bytes from the start on, and of the log
-pub steps_sizes : (ls : List (List ℕ)) (s : Session) → Sizes (steps s ls) s
-unfolding steps line
-steps_sizes [] s = (refl, refl)
-steps_sizes (l ∷ ls) s =
-    ((steps_sizes ls (line s l)).0 ∙ (act_sizes (command_of l) s).0, (steps_sizes ls (line s l)).1 ∙ (act_sizes (command_of l) s).1)
-
--- "65,536 zero bytes": what a `kind` leaves in the store, after any lines
-pub kind_zeros : (ls : List (List ℕ)) → cleared (steps started ls).after.store ≡ replicate 65536 0
-unfolding cleared started
-kind_zeros ls = ap (λ (n : ℕ). replicate n 0) ((steps_sizes ls started).0 ∙ length-replicate {A = ℕ} 65536 0)
-
 -- ---- anew
 
-steps_append : (s : Session) (ls ms : List (List ℕ)) → steps s (ls ++ ms) ≡ steps (steps s ls) ms
+pub steps_append : (s : Session) (ls ms : List (List ℕ)) → steps s (ls ++ ms) ≡ steps (steps s ls) ms
 unfolding steps
 steps_append s [] ms = refl
 steps_append s (l ∷ ls) ms = steps_append (line s l) ls ms
-
--- from a `kind` on a session prints, after what it printed, what one that has just started prints
-pub kind_anew : (bs : List (List ℕ)) (k : ℕ) (l : List ℕ) (ls : List (List ℕ)) → command_of l ≡ command.Kind k →
-    (steps started (bs ++ (l ∷ ls))).printed ≡ more (steps started bs).printed (steps started (l ∷ ls)).printed
-unfolding started
-kind_anew bs k l ls e =
-    let s : Session = steps started bs in
-    ap (λ (y : Session). y.printed) (steps_append started bs (l ∷ ls))
-    ∙ ap (λ (q : List ℕ). (steps (session s.after q) (l ∷ ls)).printed) (sym (more_none s.printed))
-    ∙ ap (λ (y : Session). y.printed) (steps_onto s.printed (session s.after []) (l ∷ ls))
-    ∙ ap (λ (q : List ℕ). more s.printed q)
-    (kind_forgets (session s.after []) started k l ls e (steps_sizes bs started).0 (steps_sizes bs started).1 refl)
 
 -- what a line feed ends, before whatever comes
 lines_ended : (xs : List ℕ) → (m : List ℕ) × (ms : List (List ℕ)) × ((ys : List ℕ) → lines_of (xs ++ (10 ∷ ys)) ≡ (m ∷ ms) ++ lines_of ys)
@@ -652,20 +586,10 @@ lines_ended (b ∷ xs) = go (eqb b 10) (lines_ended xs)
     go true (m, ms, h) = ([], m ∷ ms, λ ys. ap (λ (ls : List (List ℕ)). [] ∷ ls) (h ys))
     go false (m, ms, h) = (b ∷ m, ms, λ ys. ap (λ (ls : List (List ℕ)). in_front b ls) (h ys))
 
-lines_split : (xs ys : List ℕ) → lines_of (xs ++ (10 ∷ ys)) ≡ lines_of (xs ++ (10 ∷ [])) ++ lines_of ys
+pub lines_split : (xs ys : List ℕ) → lines_of (xs ++ (10 ∷ ys)) ≡ lines_of (xs ++ (10 ∷ [])) ++ lines_of ys
 unfolding lines_of
 lines_split xs ys = go (lines_ended xs)
   where
     go : (m : List ℕ) × (ms : List (List ℕ)) × ((zs : List ℕ) → lines_of (xs ++ (10 ∷ zs)) ≡ (m ∷ ms) ++ lines_of zs) →
         lines_of (xs ++ (10 ∷ ys)) ≡ lines_of (xs ++ (10 ∷ [])) ++ lines_of ys
     go (m, ms, h) = h ys ∙ ap (λ (ls : List (List ℕ)). ls ++ lines_of ys) (sym (h [] ∙ append-nil (m ∷ ms)))
-
--- in bytes: where a line is `kind`, the input may be cut before it and played as two
-pub played_as_two : (xs ys : List ℕ) (k : ℕ) (l : List ℕ) (ls : List (List ℕ)) → lines_of ys ≡ l ∷ ls → command_of l ≡ command.Kind k →
-    printed (xs ++ (10 ∷ ys)) ≡ more (printed (xs ++ (10 ∷ []))) (printed ys)
-unfolding printed
-played_as_two xs ys k l ls f e =
-    let bs : List (List ℕ) = lines_of (xs ++ (10 ∷ [])) in
-    ap (λ (ms : List (List ℕ)). (steps started ms).printed) (lines_split xs ys ∙ ap (λ (ms : List (List ℕ)). bs ++ ms) f)
-    ∙ kind_anew bs k l ls e
-    ∙ ap (λ (ms : List (List ℕ)). more (steps started bs).printed (steps started ms).printed) (sym f)

@@ -1,6 +1,6 @@
 -- The acting calls by number, as a session makes them: what one prints by its answer in numbers, and that this is what `entered` says.
 use Rattle.std.specs.Prelude.{ℕ, ◌%◌, ◌<◌, ◌≡◌, refl, Bool, true, false, List, eqb}
-use Rattle.std.proofs.Common.{ap, ◌∙◌, arith}
+use Rattle.std.proofs.Common.{ap, arith}
 use Rattle.types.specs.Kinds.{pick}
 use Rattle.cpu.specs.Fields.{pc_of, a7_of}
 use Rattle.status.specs.Status.{get_sr}
@@ -13,10 +13,10 @@ use Rattle.numbers.specs.Numbers.{bit, flag}
 use Rattle.answers.specs.Answers.{Performed, answered, refused_by, value_of, cycles, flag as flagged, of_entry, of_service}
 use Rattle.calls.specs.Calls.{run, begun, refusal, perform}
 use Rattle.numbers.specs.declared.RawCall.{RawCall}
-use Rattle.boundary.specs.Calls.{Outcome, outcome, decode, of_performed, raw_of, raw_call}
+use Rattle.boundary.specs.Calls.{decode, of_performed, raw_of, raw_call}
 use Rattle.prints.specs.Prints.{state_line, refused_line}
 use Rattle.sessions.specs.declared.Shown.{Shown}
-use Rattle.sessions.specs.Sessions.{Session, session, say, state_of, charge_of, answer_told, entered, interrupted}
+use Rattle.sessions.specs.Sessions.{Session, say, state_of, charge_of, answer_told, entered}
 
 -- a call by number with one argument
 abbrev pub numbered : ℕ → ℕ → RawCall
@@ -57,14 +57,14 @@ unfolding raw_call raw_of decode
 raw_service w = refl
 
 -- a call whose numbers print what its answer prints
-unfoldable Tells : ℕ → Performed → Type 0
+unfoldable pub Tells : ℕ → Performed → Type 0
 Tells n x = told (shown_of x.after.core) (refused_by x.answer) (cycles_of x.after.core n (value_of x.answer)) ≡ answer_told x.after.core x.answer
 
 tells_refused : (n k : ℕ) (w : World) → eqb k 0 ≡ false → Tells n (answered w (Refused k))
 unfolding Tells told refused_by answer_told
 tells_refused n k w e = rw e
 
-performed_tells : (n : ℕ) (w : World) (c : Call) → Tells n (run (begun w) c) → Tells n (perform w c)
+pub performed_tells : (n : ℕ) (w : World) (c : Call) → Tells n (run (begun w) c) → Tells n (perform w c)
 unfolding perform
 performed_tells n w c h = go (eqb (refusal w c) 0) refl
   where
@@ -72,11 +72,11 @@ performed_tells n w c h = go (eqb (refusal w c) 0) refl
     go true e = rw e h
     go false e = rw e (tells_refused n (refusal w c) w e)
 
-exc_tells : (w : World) (v : ℕ) → Tells 1 (run w (TakeException v))
+pub exc_tells : (w : World) (v : ℕ) → Tells 1 (run w (TakeException v))
 unfolding Tells run of_entry cycles told shown_of cycles_of refused_by value_of answer_told state_of
 exc_tells w v = refl
 
-trap_tells : (w : World) (n : ℕ) → Tells 2 (run w (Trap n))
+pub trap_tells : (w : World) (n : ℕ) → Tells 2 (run w (Trap n))
 unfolding Tells run of_entry cycles told shown_of cycles_of refused_by value_of answer_told state_of
 trap_tells w n = refl
 
@@ -85,25 +85,10 @@ unfolding flag
 flag_bit true = refl
 flag_bit false = refl
 
-service_tells : (w : World) → Tells 22 (run w CheckAndServiceInterrupts)
+pub service_tells : (w : World) → Tells 22 (run w CheckAndServiceInterrupts)
 unfolding Tells run of_service flagged told shown_of cycles_of refused_by value_of answer_told state_of
 service_tells w = rw flag_bit
 
-by_number_lem : (s : Session) (r : RawCall) (c : Call) → raw_call s.after r ≡ of_performed (perform s.after c) → Tells r.number (perform s.after c) → entered_by s r ≡ entered s c
+pub by_number_lem : (s : Session) (r : RawCall) (c : Call) → raw_call s.after r ≡ of_performed (perform s.after c) → Tells r.number (perform s.after c) → entered_by s r ≡ entered s c
 unfolding entered_by entered of_performed Tells
 by_number_lem s r c e h = rw e (ap (λ (bs : List ℕ). say s (perform s.after c).after bs) h)
-
-pub exc_same : (s : Session) (v : ℕ) → entered_by s (numbered 1 v) ≡ entered s (TakeException v)
-exc_same s v = by_number_lem s (numbered 1 v) (TakeException v) (raw_exc s.after v) (performed_tells 1 s.after (TakeException v) (exc_tells (begun s.after) v))
-
-pub trap_same : (s : Session) (n : ℕ) → n < 256 → entered_by s (numbered 2 n) ≡ entered s (Trap n)
-trap_same s n l = by_number_lem s (numbered 2 n) (Trap n) (raw_trap s.after n l) (performed_tells 2 s.after (Trap n) (trap_tells (begun s.after) n))
-
-pub service_same : (s : Session) → entered_by s (numbered 22 0) ≡ entered s CheckAndServiceInterrupts
-service_same s = by_number_lem s (numbered 22 0) CheckAndServiceInterrupts (raw_service s.after) (performed_tells 22 s.after CheckAndServiceInterrupts (service_tells (begun s.after)))
-
--- the level set, and then the interrupt call
-pub interrupt_same : (w w2 : World) (bs : List ℕ) (n k a e : ℕ) → n < 256 → outcome w2 k a e ≡ raw_call w (numbered 20 n) → entered_by (session w2 bs) (numbered 22 0) ≡ interrupted (session w bs) n
-unfolding interrupted of_performed
-interrupt_same w w2 bs n k a e l h =
-    service_same (session w2 bs) ∙ ap (λ (o : Outcome). entered (session o.after bs) CheckAndServiceInterrupts) (h ∙ raw_level w n l)

@@ -1,13 +1,13 @@
 -- The rows of a walk, read back from the buffer that it was lent.
 use Rattle.std.specs.Prelude.{◌≡◌, ℕ, zero, suc, ◌+◌, ◌*◌, ◌<◌, ◌≤◌, Bool, true, false, List, [], ◌∷◌, length, ◌==◌, slice_index, slice_set, refl}
-use Rattle.std.proofs.Common.{ap, ◌∙◌, arith, le-ltb, length-set, get_or-set_same, get_or-set_other}
+use Rattle.std.proofs.Common.{◌∙◌, arith, length-set, get_or-set_same, get_or-set_other}
 use Rattle.types.specs.Kinds.{pick}
 use Rattle.cpu.specs.declared.Cpu.{Cpu}
 use Rattle.memory.specs.declared.Core.{Core}
 use Rattle.unwind.specs.declared.returns.Row.{Row}
 use Rattle.unwind.specs.Frames.{Sight}
-use Rattle.unwind.specs.Returns.{back, Trail, trail, trail_of, put_row, put_rows, laid, walk_of}
-use Rattle.unwind.specs.Unwind.{refusal, sight_of, short_rows, walk_from}
+use Rattle.unwind.specs.Returns.{back, Trail, trail, trail_of, put_row, put_rows}
+use Rattle.unwind.specs.Unwind.{refusal, sight_of, walk_from}
 
 -- row k of a buffer is its words 4k to 4k + 3
 abbrev pub row_at : List ℕ → ℕ → Row
@@ -22,12 +22,12 @@ rows_from ws k (suc n) = row_at ws k ∷ rows_from ws (suc k) n
 unfoldable pub trail_from : Core → List ℕ → ℕ → Trail
 trail_from m s n = pick (refusal m (length s) == 0) (trail_of n (sight_of m s) m.cpu) (trail [] (refusal m (length s)))
 
-put_length : (ws : List ℕ) (k : ℕ) (r : Row) → length (put_row ws k r) ≡ length ws
+pub put_length : (ws : List ℕ) (k : ℕ) (r : Row) → length (put_row ws k r) ≡ length ws
 unfolding put_row
 put_length ws k r = simp length-set
 
 -- a row reads back
-put_row_lem : (ws : List ℕ) (k : ℕ) (r : Row) → suc k * 4 ≤ length ws → row_at (put_row ws k r) k ≡ r
+pub put_row_lem : (ws : List ℕ) (k : ℕ) (r : Row) → suc k * 4 ≤ length ws → row_at (put_row ws k r) k ≡ r
 unfolding put_row
 put_row_lem ws k r l =
     let a : List ℕ = slice_set ws (k * 4) r.format in
@@ -64,7 +64,7 @@ unfolding put_rows
 put_rows_before [] ws k j l = refl
 put_rows_before (r ∷ rs) ws k j l = put_rows_before rs (put_row ws k r) (suc k) j (omega arith) ∙ put_row_before ws k r j l
 
-row_before : (rs : List Row) (ws : List ℕ) (k : ℕ) → row_at (put_rows ws (suc k) rs) k ≡ row_at ws k
+pub row_before : (rs : List Row) (ws : List ℕ) (k : ℕ) → row_at (put_rows ws (suc k) rs) k ≡ row_at ws k
 row_before rs ws k =
     rw (
       put_rows_before rs ws (suc k) (k * 4) (omega arith),
@@ -72,14 +72,6 @@ row_before rs ws k =
       put_rows_before rs ws (suc k) (k * 4 + 2) (omega arith),
       put_rows_before rs ws (suc k) (k * 4 + 3) (omega arith),
     )
-
--- rows laid into a buffer that is long enough read back
-pub rows_back : (rs : List Row) (ws : List ℕ) (k : ℕ) → (k + length rs) * 4 ≤ length ws → rows_from (put_rows ws k rs) k (length rs) ≡ rs
-unfolding rows_from put_rows
-rows_back [] ws k l = refl
-rows_back (r ∷ rs) ws k l =
-    let e : length (put_row ws k r) ≡ length ws = put_length ws k r in
-    rw (row_before rs (put_row ws k r) k, put_row_lem ws k r (omega arith), rows_back rs (put_row ws k r) (suc k) (omega (arith, e)))
 
 -- a trail of n has at most n rows
 pub trail_length : (n : ℕ) (v : Sight) (c : Cpu) → length (trail_of n v c).rows ≤ n
@@ -96,25 +88,3 @@ pub record Reads (m : Core) (s : List ℕ) (n : ℕ) (ws : List ℕ) : Type 0 wh
   pub rows_are : rows_from (walk_from m s n ws).words 0 (walk_from m s n ws).count ≡ (trail_from m s n).rows
   pub refused_is : (walk_from m s n ws).refused ≡ (trail_from m s n).refused
   pub at_most : (walk_from m s n ws).count ≤ n
-
-pub walk_reads : (m : Core) (s : List ℕ) (n : ℕ) (ws : List ℕ) → n * 4 ≤ length ws → Reads m s n ws
-unfolding walk_from trail_from walk_of laid short_rows rows_from
-walk_reads m s n ws l = go (refusal m (length s) == 0) refl
-  where
-    t : Trail
-    t = trail_of n (sight_of m s) m.cpu
-
-    count : 0 + length t.rows ≡ length t.rows
-    count = omega arith
-
-    enough : (0 + length t.rows) * 4 ≤ length ws
-    enough = omega (arith, l, trail_length n (sight_of m s) m.cpu)
-
-    go : (b : Bool) → (refusal m (length s) == 0) ≡ b → Reads m s n ws
-    go true e =
-        record {
-          rows_are = rw (e, le-ltb (length ws) (n * 4) l) (ap (rows_from (put_rows ws 0 t.rows) 0) count ∙ rows_back t.rows ws 0 enough);
-          refused_is = rw (e, le-ltb (length ws) (n * 4) l);
-          at_most = rw (e, le-ltb (length ws) (n * 4) l) (omega (arith, trail_length n (sight_of m s) m.cpu));
-        }
-    go false e = record { rows_are = rw e; refused_is = rw e; at_most = rw e (omega arith) }
