@@ -24,7 +24,9 @@ SCALARS = {"bool": 1, "u8": 1, "i8": 1, "u16": 2, "i16": 2, "u32": 4, "i32": 4, 
 STRUCT = re.compile(r"#\[repr\(C\)\]\s*(?:#\[derive\([^)]*\)\]\s*)?pub struct (\w+)\s*\{([^}]*)\}")
 EXPORT = re.compile(r'#\[unsafe\(no_mangle\)\]\s*pub extern "C" fn (\w+)\s*\(([^)]*)\)\s*(?:->\s*([\w:]+))?\s*(requires)?')
 FUNCTION = re.compile(r"^(?:pub )?fn (\w+)\b.*?^\}", re.M | re.S)
-ARM = re.compile(r"^\s*(\d+) => (?:\{(.*?)^        \}|(.*?),$)", re.M | re.S)
+METHOD = re.compile(r"^    (?:pub )?fn (\w+)\b.*?^    \}", re.M | re.S)
+ARM = re.compile(r"^\s*(\d+) => (.*?),(?=\s*(?:\d+|_) => )", re.M | re.S)
+ARGUMENT = re.compile(r"(cause_of\()?\(?call\.(\w)( % 0x100\) as u8| % 0x10000\) as u16| != 0)?")
 ARRAY = re.compile(r"\[\s*([\w:]+)\s*;\s*(\d+)\s*\]$")
 LENDING = re.compile(r"&\s*(mut\s+)?(?:\[\s*(\w+)\s*\]|([\w:]+))$")
 
@@ -241,19 +243,12 @@ def function_of(text, name):
 def numbers(crates):
     """[(number, call, arguments)]: the arms of `decode`. An argument is `a: byte` and the like."""
     arms = []
-    for number, block, line in ARM.findall(function_of(source(crates, NUMBERED), "decode")):
-        text = block or line
-        call = re.search(r"Call::(\w+)", text)
+    sorts = {"": "long", " % 0x100) as u8": "byte", " % 0x10000) as u16": "word", " != 0": "flag"}
+    for number, text in ARM.findall(function_of(source(crates, NUMBERED), "decode")):
+        call = re.match(r"Call::(\w+)", text)
         if not call:
             raise Bad(f"decode: no call for {number}")
-        arguments = []
-        for way, letter in re.findall(r"let x\w = (?:(\w+)\()?call\.(\w)\)?;", text):
-            sorts = {"": "long", "low_byte": "byte", "low_word": "word", "is_set": "flag"}
-            if way not in sorts:
-                raise Bad(f"decode: no sort of argument for {way}")
-            arguments.append([letter, sorts[way]])
-        if "cause_of" in text:
-            arguments[-1][1] = "cause"
+        arguments = [(letter, "cause" if cause else sorts[way]) for cause, letter, way in ARGUMENT.findall(text)]
         if [letter for letter, _ in arguments] != list("abcde")[:len(arguments)]:
             raise Bad(f"decode: the arguments of {number} are not a, b, c ..")
         arms.append((int(number), call[1], arguments))
@@ -262,23 +257,28 @@ def numbers(crates):
     return arms
 
 
+def case_of(text, maker):
+    """The case of `Answer` that a method of `Performed` makes."""
+    for found in METHOD.finditer(text):
+        if found[1] == maker:
+            return re.search(r"Answer::(\w+)\(", found[0])[1]
+    raise Bad(f"no method {maker} of Performed")
+
+
 def answers(crates):
     """{call: the case of `Answer` that `run` gives it}."""
     run, text = function_of(source(crates, PERFORMED), "run"), source(crates, ANSWERED)
-    found, made = {}, {function[1] for function in FUNCTION.finditer(text)}
-    for call, maker in re.findall(rf"Call::(\w+)(?:\([^)]*\))? =>\s+{ANSWERED}::(\w+)\(", run):
-        seen = []
-        while True:
-            body = function_of(text, maker)
-            case = re.search(r"Answer::(\w+)\(", body)
-            if case:
-                found[call] = case[1]
-                break
-            seen.append(maker)
-            inner = [name for name in re.findall(r"\b(\w+)\(", body) if name in made and name not in seen]
-            if not inner:
-                raise Bad(f"run: no answer of {call}")
-            maker = inner[0]
+    found = {}
+    for call, maker, crate, callee in re.findall(r"Call::(\w+)(?:\([^)]*\))? =>[^;]*?(?:;[^;]*?)?Performed::(\w+)\(\s*(?:(\w+)::(?:\w+::)*(\w+))?", run):
+        if maker != "from":
+            found[call] = case_of(text, maker)
+            continue
+        answer = re.search(r"-> (\w+)", function_of(source(crates, crate), callee))[1]
+        block = re.search(rf"^impl From<{answer}> for Performed.*?^}}", text, re.M | re.S)
+        if not block:
+            raise Bad(f"run: no answer of {call}")
+        case, inner = re.search(r"Ok\(Answer::(\w+)\(", block[0].split("fn from")[1]), re.search(r"Performed::(\w+)\(", block[0])
+        found[call] = case[1] if case else case_of(text, inner[1])
     return found
 
 

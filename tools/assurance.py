@@ -120,7 +120,7 @@ def line_faults(line):
 
 def equal(head):
     """Whether one of the things that a function ensures is an equation under no condition."""
-    return any("≡" in part and "→" not in part for ensured in re.findall(r"\bensures\b(.*)", head) for part in ensured.split("×"))
+    return any("≡" in part and "→" not in part and "IfSome" not in part for ensured in re.findall(r"\bensures\b(.*)", head) for part in ensured.split("×"))
 
 
 def bare(source):

@@ -1,16 +1,13 @@
 #!/usr/bin/env python3
 """generate.py [--check] [CRATE ..]: writes the files of tools/manifest.txt again, of all crates or of the named ones.
 
-Each is made from the code and the definitions alone, in seconds and without the prover. The imports of a file of proofs/ are the tools' only
-where it is new or its laws change: after that rt keeps them (`rt check --fix-imports`, `rt tidy`), and they name no definition of the
-repository by another path than the tools do.
+Each is made from the code and the definitions alone, in seconds and without the prover.
 --check    writes nothing: says which file is not what the tools give, which is not there, and which has the first line of a
            written file and no line in the manifest; exit status 1 where one is
 """
 import argparse
 import importlib
 import os
-import re
 import shlex
 import sys
 
@@ -18,7 +15,6 @@ sys.dont_write_bytecode = True
 HERE = os.path.dirname(os.path.abspath(__file__))
 ROOT = os.path.dirname(HERE)
 sys.path.insert(0, HERE)
-OWN = r"Rattle\.(?!std\.)"  # a module of the repository
 FIRST = "-- Written by tools/generate.py from tools/manifest.txt: not edited by hand.\n"
 
 
@@ -43,22 +39,6 @@ def made(crates):
             failed += 1
             print(f"{crate} {tool} {name}: cannot be made: {error or type(error).__name__}")
     return files, failed
-
-
-def parted(text):
-    """The lines of a text without its imports, and the names that it imports, each with its module."""
-    use = r"^use (\S+)\.\{([^{}]*)\}\n"
-    names = {(module, name.strip()) for module, listed in re.findall(use, text, re.M) for name in listed.split(",") if name.strip()}
-    return re.sub(use, "", text, flags=re.M).split("\n"), names
-
-
-def same(path, old, new):
-    """Whether a file is what the tools give: a law file may lack imports, and has those of the library from where rt found them."""
-    if old is None or old == new or "/proofs/" not in path:
-        return old == new
-    (lines, names), (wanted, given) = parted(old), parted(new)
-    library = {name for module, name in given if module.startswith("Rattle.std.")}
-    return lines == wanted and all((module, name) in given or name in library and not re.match(OWN, module) for module, name in names)
 
 
 def read(path):
@@ -103,7 +83,7 @@ def check(crates):
     files, bad = made(crates)
     for path, text in files.items():
         old = read(path)
-        if not same(path, old, text):
+        if old != text:
             bad += 1
             print(f"{path}: " + ("is not there" if old is None else "is not what the tools give; run tools/generate.py"))
     for path in written(crates):
@@ -123,7 +103,7 @@ def main():
         return check(a.crates)
     files, failed = made(a.crates)
     for path, text in files.items():
-        if not same(path, read(path), text):
+        if read(path) != text:
             write(path, text.removeprefix(FIRST))
             print(f"{path}: written")
     return 1 if failed else 0

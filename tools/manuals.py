@@ -93,7 +93,7 @@ def inputs():
             row, ks, call, manual, ours = int(get("row")), "(" + get("kinds") + ")", get("call"), get("manual"), get("ours")
             more = [f"{k} {get(k)}" for k in ("ppc", "vbr") if get(k) not in ("0", "0xFE")] + ([f"byte 0x40 at {get('byte')}"] if get("byte") != "0x1FF" else [])
         else:
-            m = re.match(r"(\w+) (\d+) (\([^()]*\)|\w+) (\([^()]*\)|\w+) (.*)$", entry.strip().split("\n")[0])
+            m = re.match(r"(\w+) (\d+) (\([^()]*\)|\w+) (\((?:[^()]|\([^()]*\))*\)|\w+) (.*)$", entry.strip().split("\n")[0])
             if not m:
                 continue
             rest, row, ks, call = m[5].split(), int(m[2]), m[3], m[4]
@@ -102,7 +102,7 @@ def inputs():
         if re.fullmatch(r"[a-z]\w*", call):
             call = re.search(rf"^{call} = (.*)$", source, re.M)[1]
         numbers = [int(n) for n in (re.findall(r"\d+", ks) if ks.startswith("(") else re.findall(r"\d+", re.search(rf"^{ks} = (.*)$", source, re.M)[1]))]
-        found.setdefault(row, []).append((numbers, call.strip("()"), more, manual, ours))
+        found.setdefault(row, []).append((numbers, call.removeprefix("(").removesuffix(")"), more, manual, ours))
     return found
 
 

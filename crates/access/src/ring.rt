@@ -1,14 +1,15 @@
-// The functions that call each other, by the Rust's names; each says in its contract the definition of the same name. Only the two
+// The functions that call each other, by the Rust's names and parameters, with `levels` in front; each says in its contract the definition of the same name. Only the two
 // triggers lower `levels`. A read and a write are of a word or a long: `read_16`, `read_32`, `write_16`, `write_32` of the crate's root.
 // While the record is faulted, `run_mode` 1, nothing is read, written or raised.
 ghost use Rattle.std.specs.Prelude.{◌≡◌, true, false};
-ghost use Rattle.memory.specs.World.{world, reply};
+ghost use Rattle.memory.specs.World.{world, read_as};
 ghost use Rattle.access.specs.Access.{trigger, bus_error, address_error, read_at, write_at, push_field, push_fields, jump_vector, prefetch_read, prefetch_first, prefetch_second, exception_bus_error, exception_address_error};
 
-use frames::{Field, Frame};
+use frames::{Field, Frame, Mode};
 use memory::{Core, Reply};
 
 #[cycle(ring)]
+#[tactic(auto, unfolding(crate::specs::Access::trigger, crate::specs::Access::raise_bus, cpu::specs::Fields::is_faulted, cpu::specs::Fields::in_exception, cpu::specs::Fields::cause_number_of))]
 pub fn trigger_bus_error(
     m: Core,
     store: &mut [u8],
@@ -47,6 +48,7 @@ pub fn trigger_bus_error(
 }
 
 #[cycle(ring)]
+#[tactic(auto, unfolding(crate::specs::Access::trigger, crate::specs::Access::raise_address, cpu::specs::Fields::is_faulted))]
 pub fn trigger_address_error(
     m: Core,
     store: &mut [u8],
@@ -70,6 +72,7 @@ pub fn trigger_address_error(
 }
 
 #[cycle(ring)]
+#[tactic(auto, unfolding(crate::specs::Access::exception_bus_error, crate::specs::Access::push_frame))]
 pub fn exception_bus_error(
     m: Core,
     store: &mut [u8],
@@ -85,12 +88,12 @@ pub fn exception_bus_error(
 {
     let f = frames::bus_frame(m.cpu, address, write, instruction, size, cause);
     let a = memory::with_cpu(m, steps::enter_bus_error(m.cpu));
-    let n = frames::count(f);
-    let b = push_fields(a, store, log, levels, f, n);
+    let b = push_fields(a, store, log, levels, f, f.count);
     jump_vector(b, store, log, levels, types::BUS_ERROR)
 }
 
 #[cycle(ring)]
+#[tactic(auto, unfolding(crate::specs::Access::exception_address_error, crate::specs::Access::push_frame))]
 pub fn exception_address_error(
     m: Core,
     store: &mut [u8],
@@ -104,15 +107,15 @@ pub fn exception_address_error(
 {
     let f = frames::address_frame(m.cpu, address, write, instruction);
     let a = memory::with_cpu(m, status::banks::enter_supervisor(m.cpu));
-    let n = frames::count(f);
-    let b = push_fields(a, store, log, levels, f, n);
+    let b = push_fields(a, store, log, levels, f, f.count);
     jump_vector(b, store, log, levels, types::ADDRESS_ERROR)
 }
 
 // The first `left` fields of a frame, from the last of them down to the first.
 #[cycle(ring)]
+#[tactic(auto, unfolding(crate::specs::Access::push_fields))]
 pub fn push_fields(
-    m: Core,
+    mut m: Core,
     store: &mut [u8],
     log: &mut [u32],
     levels: u8,
@@ -121,37 +124,35 @@ pub fn push_fields(
 ) -> Core
     ensures { world result store.new log.new ≡ push_fields (trigger levels) (world m store.old log.old) f left }
 {
-    if left == 0 {
-        return m;
+    for k in (0..left).rev() {
+        m = push_field(m, store, log, levels, frames::field_at(f, k));
     }
-    let x = frames::field_at(f, left - 1);
-    let a = push_field(m, store, log, levels, x);
-    push_fields(a, store, log, levels, f, left - 1)
+    m
 }
 
 // One field: A7 is lowered, then the field is only counted, written raw, or written guarded.
 #[cycle(ring)]
-pub fn push_field(m: Core, store: &mut [u8], log: &mut [u32], levels: u8, f: Field) -> Core
+#[tactic(auto, unfolding(crate::specs::Access::push_field, crate::specs::Access::stack_field, frames::specs::Frames::is_counted, frames::specs::Frames::is_raw, cpu::specs::Fields::a7_of, memory::specs::World::put_cpu))]
+pub fn push_field(mut m: Core, store: &mut [u8], log: &mut [u32], levels: u8, f: Field) -> Core
     ensures { world result store.new log.new ≡ push_field (trigger levels) (world m store.old log.old) f }
 {
-    let n = memory::width(f.long);
-    let a = memory::with_cpu(m, cpu::fields::lower_a7(m.cpu, n));
-    if f.mode == 2 {
-        return a;
+    m.cpu = cpu::fields::lower_a7(m.cpu, memory::width(f.long));
+    let at = m.cpu.regs.dar[15];
+    match f.mode {
+        Mode::Guarded => write_at(m, store, log, levels, at, f.long, f.value),
+        Mode::Raw => {
+            let p = cpu::fields::address(m.cpu, at);
+            memory::raw_write(m, store, log, p, f.long, f.value)
+        }
+        Mode::Counted => m,
     }
-    let regs = a.cpu.regs;
-    let at = regs.dar[15];
-    if f.mode == 1 {
-        let p = cpu::fields::address(a.cpu, at);
-        return memory::raw_write(a, store, log, p, f.long, f.value);
-    }
-    write_at(a, store, log, levels, at, f.long, f.value)
 }
 
 // `write_16`, `write_32`.
 #[cycle(ring)]
+#[tactic(auto, unfolding(crate::specs::Access::write_at, crate::specs::Access::checked_write, crate::specs::Access::wrote, cpu::specs::Fields::is_faulted, memory::specs::World::put_cpu))]
 pub fn write_at(
-    m: Core,
+    mut m: Core,
     store: &mut [u8],
     log: &mut [u32],
     levels: u8,
@@ -164,141 +165,127 @@ pub fn write_at(
     if m.cpu.flow.run_mode == 1 {
         return m;
     }
-    let a = memory::flush_sync(m, store, log);
-    let at = cpu::fields::address(a.cpu, address);
-    if steps::refuses_odd(a.cpu, at) {
-        return trigger_address_error(a, store, log, levels, at, true, false);
+    m = memory::flush_sync(m, store, log);
+    let at = cpu::fields::address(m.cpu, address);
+    if steps::refuses_odd(m.cpu, at) {
+        return trigger_address_error(m, store, log, levels, at, true, false);
     }
-    let b = memory::with_cpu(a, cpu::fields::set_wdata(a.cpu, value));
-    let r = memory::try_write(b, store, log, at, long, value);
-    let d = r.core;
+    m.cpu = cpu::fields::set_wdata(m.cpu, value);
+    let r = memory::try_write(m, store, log, at, long, value);
     if r.ok {
-        return d;
+        return r.core;
     }
     let n = memory::width(long);
-    trigger_bus_error(d, store, log, levels, at, true, false, n)
+    trigger_bus_error(r.core, store, log, levels, at, true, false, n)
 }
 
 // `read_16`, `read_32`.
 #[cycle(ring)]
+#[tactic(auto, unfolding(crate::specs::Access::read_at, crate::specs::Access::checked_read, crate::specs::Access::read_or, cpu::specs::Fields::is_faulted))]
 pub fn read_at(
-    m: Core,
+    mut m: Core,
     store: &mut [u8],
     log: &mut [u32],
     levels: u8,
     address: u32,
     long: bool,
 ) -> Reply
-    ensures { reply (world result.core store.new log.new) result.ok result.value ≡ read_at (trigger levels) (world m store.old log.old) address long }
+    ensures { read_as (world result.core store.new log.new) result.value ≡ read_at (trigger levels) (world m store.old log.old) address long }
 {
     if m.cpu.flow.run_mode == 1 {
         return Reply {
             core: m,
-            ok: false,
-            value: 0,
+            value: None,
         };
     }
-    let a = memory::flush_sync(m, store, log);
-    let at = cpu::fields::address(a.cpu, address);
-    if steps::refuses_odd(a.cpu, at) {
-        let e = trigger_address_error(a, store, log, levels, at, false, false);
+    m = memory::flush_sync(m, store, log);
+    let at = cpu::fields::address(m.cpu, address);
+    if steps::refuses_odd(m.cpu, at) {
         return Reply {
-            core: e,
-            ok: false,
-            value: 0,
+            core: trigger_address_error(m, store, log, levels, at, false, false),
+            value: None,
         };
     }
-    let r = memory::try_read(a, store, log, at, long);
-    if r.ok {
+    let r = memory::try_read(m, store, log, at, long);
+    if r.value.is_some() {
         return r;
     }
-    let d = r.core;
     let n = memory::width(long);
-    let e = trigger_bus_error(d, store, log, levels, at, false, false, n);
     Reply {
-        core: e,
-        ok: false,
-        value: 0,
+        core: trigger_bus_error(r.core, store, log, levels, at, false, false, n),
+        value: None,
     }
 }
 
 #[cycle(ring)]
-pub fn jump_vector(m: Core, store: &mut [u8], log: &mut [u32], levels: u8, vector: u32) -> Core
+#[tactic(auto, unfolding(crate::specs::Access::jump_vector, crate::specs::Access::jump_to, crate::specs::Access::vector_read, crate::specs::Access::refill, memory::specs::World::put_cpu))]
+pub fn jump_vector(mut m: Core, store: &mut [u8], log: &mut [u32], levels: u8, vector: u32) -> Core
     ensures { world result store.new log.new ≡ jump_vector (trigger levels) (world m store.old log.old) vector }
 {
-    let a = memory::release_sample(m, store, log);
-    let at = steps::vector_address(a.cpu, vector);
-    let b = memory::with_cpu(a, cpu::fields::start_vector(a.cpu, vector));
-    let r = read_at(b, store, log, levels, at, true);
-    let d = r.core;
-    let e = memory::with_cpu(d, cpu::fields::set_pc(d.cpu, r.value));
-    let g = prefetch_first(e, store, log, levels);
-    let h = memory::with_cpu(g, cpu::clocks::internal_cycles(g.cpu, 2));
-    prefetch_second(h, store, log, levels)
+    m = memory::release_sample(m, store, log);
+    let at = steps::vector_address(m.cpu, vector);
+    m.cpu = cpu::fields::start_vector(m.cpu, vector);
+    let r = read_at(m, store, log, levels, at, true);
+    m = r.core;
+    m.cpu = cpu::fields::set_pc(m.cpu, r.value.unwrap_or(0));
+    m = prefetch_first(m, store, log, levels);
+    m.cpu = cpu::clocks::internal_cycles(m.cpu, 2);
+    prefetch_second(m, store, log, levels)
 }
 
 #[cycle(ring)]
+#[tactic(auto, unfolding(crate::specs::Access::prefetch_read, crate::specs::Access::read_or))]
 pub fn prefetch_read(m: Core, store: &mut [u8], log: &mut [u32], levels: u8, address: u32) -> Reply
-    ensures { reply (world result.core store.new log.new) result.ok result.value ≡ prefetch_read (trigger levels) (world m store.old log.old) address }
+    ensures { read_as (world result.core store.new log.new) result.value ≡ prefetch_read (trigger levels) (world m store.old log.old) address }
 {
     let a = memory::flush_sync(m, store, log);
     let at = cpu::fields::address(a.cpu, address);
     let r = memory::try_read(a, store, log, at, false);
-    if r.ok {
+    if r.value.is_some() {
         return r;
     }
-    let d = r.core;
-    let e = trigger_bus_error(d, store, log, levels, at, false, true, 2);
     Reply {
-        core: e,
-        ok: false,
-        value: 0,
+        core: trigger_bus_error(r.core, store, log, levels, at, false, true, 2),
+        value: None,
     }
 }
 
 #[cycle(ring)]
-pub fn prefetch_first(m: Core, store: &mut [u8], log: &mut [u32], levels: u8) -> Core
+#[tactic(auto, unfolding(crate::specs::Access::prefetch_first, crate::specs::Access::first_from, crate::specs::Access::kept_first, cpu::specs::Fields::pc_of, cpu::specs::Fields::odd_pc, memory::specs::World::put_cpu))]
+pub fn prefetch_first(mut m: Core, store: &mut [u8], log: &mut [u32], levels: u8) -> Core
     ensures { world result store.new log.new ≡ prefetch_first (trigger levels) (world m store.old log.old) }
 {
-    if cpu::clocks::prefetch_enabled(m.cpu) {
-        let a = memory::with_cpu(m, cpu::clocks::clear_prefetch(m.cpu));
-        if a.cpu.flow.pc % 2 == 1 {
-            return a;
-        }
-        let r = prefetch_read(a, store, log, levels, a.cpu.flow.pc);
-        let d = r.core;
-        if r.ok {
-            return memory::with_cpu(d, cpu::clocks::first_word(d.cpu, steps::low_word(r.value)));
-        }
-        return d;
+    if !cpu::clocks::prefetch_enabled(m.cpu) {
+        return m;
+    }
+    m.cpu = cpu::clocks::clear_prefetch(m.cpu);
+    if m.cpu.flow.pc % 2 == 1 {
+        return m;
+    }
+    let r = prefetch_read(m, store, log, levels, m.cpu.flow.pc);
+    m = r.core;
+    if let Some(v) = r.value {
+        m.cpu = cpu::clocks::first_word(m.cpu, steps::low_word(v));
     }
     m
 }
 
 #[cycle(ring)]
-pub fn prefetch_second(m: Core, store: &mut [u8], log: &mut [u32], levels: u8) -> Core
+#[tactic(auto, unfolding(crate::specs::Access::prefetch_second, crate::specs::Access::second_from, crate::specs::Access::kept_second, cpu::specs::Fields::pc_of, cpu::specs::Fields::odd_pc, cpu::specs::Fields::is_faulted, cpu::specs::Clocks::one_fetched, memory::specs::World::put_cpu))]
+pub fn prefetch_second(mut m: Core, store: &mut [u8], log: &mut [u32], levels: u8) -> Core
     ensures { world result store.new log.new ≡ prefetch_second (trigger levels) (world m store.old log.old) }
 {
-    if cpu::clocks::prefetch_enabled(m.cpu) {
-        if m.cpu.queue.prefetch_count == 1 {
-            if m.cpu.flow.pc % 2 == 1 {
-                return m;
-            }
-            if m.cpu.flow.run_mode == 1 {
-                return m;
-            }
-            let p = std::num::wrapping_add_u32(m.cpu.flow.pc, 2);
-            let r = prefetch_read(m, store, log, levels, p);
-            let d = r.core;
-            if r.ok {
-                return memory::with_cpu(
-                    d,
-                    cpu::clocks::second_word(d.cpu, steps::low_word(r.value)),
-                );
-            }
-            return d;
-        }
+    if !cpu::clocks::prefetch_enabled(m.cpu) || m.cpu.queue.prefetch_count != 1 {
         return m;
+    }
+    if m.cpu.flow.pc % 2 == 1 || m.cpu.flow.run_mode == 1 {
+        return m;
+    }
+    let p = m.cpu.flow.pc.wrapping_add(2);
+    let r = prefetch_read(m, store, log, levels, p);
+    m = r.core;
+    if let Some(v) = r.value {
+        m.cpu = cpu::clocks::second_word(m.cpu, steps::low_word(v));
     }
     m
 }

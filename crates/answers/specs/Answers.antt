@@ -5,8 +5,7 @@ use Rattle.pending.specs.declared.trace.Traced.{Traced}
 use Rattle.memory.specs.declared.Core.{Core}
 use Rattle.memory.specs.World.{World, Attempt, with_cpu}
 use Rattle.exceptions.specs.Exceptions.{Entry}
-use Rattle.answers.specs.declared.Answer.{Answer}
-use Rattle.answers.specs.declared.Answer.TheVariants.{Cycles, Flag, Value, Done, Refused}
+use Rattle.answers.specs.Answer.{Answer, Cycles, Flag, Value, Done, Refused}
 
 -- the numbers that paper 01 gives an answer: of its refusal, 0 for none; its value; its events
 unfoldable pub refused_by : Answer → ℕ

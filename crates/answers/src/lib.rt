@@ -1,19 +1,17 @@
-// What a call is, what it is given and what it answers: one enum of calls, the matter of each that decides which numbers it checks, and the
-// answers with record and bus after a call. It uses `refusals`, `interrupts`, `exceptions` and everything below; `calls` uses it, and
+// What a call is, what it is given and what it answers: one enum of calls, what each is given, which decides the numbers that it checks, and
+// the answers with record and bus after a call. It uses `refusals`, `interrupts`, `exceptions` and everything below; `calls` uses it, and
 // whoever makes a call or reads an answer.
 #![tactic(auto)]
 
-use cpu::Cpu;
 use exceptions::Entered;
 use interrupts::Serviced;
 use memory::{Core, Reply};
-use pending::trace::Traced;
+use refusals::Refusal;
 use types::FaultCause;
 
 pub mod matters; // what each call is given
 
-ghost use Rattle.std.specs.Prelude.{◌≡◌};
-ghost use Rattle.memory.specs.World.{put_cpu};
+ghost use Rattle.std.specs.Prelude.{◌≡◌, Ok, Err, unwrap_or};
 ghost use Rattle.answers.specs.Answers.{events_of};
 
 // The calls, in the order of the case format and by the names of the Rust.
@@ -27,7 +25,7 @@ pub enum Call {
     ExceptionPrivilege,
     ExceptionTrace,
     ExceptionAddressError(u32, bool, bool),
-    ExceptionBusError(u32, bool, bool, u32, FaultCause),
+    ExceptionBusError(u32, bool, bool, u32, Option<FaultCause>),
     TakeFpUnimp060(u32),
     TakeFpDisabled060,
     TakeAlineException,
@@ -51,91 +49,90 @@ pub enum Call {
     PrefetchSecond,
 }
 
-// What a call answers, with the number of its events; or the number of its refusal.
-#[derive(Clone, Copy)]
+// What a call answers, with the number of its events.
+#[derive(Clone, Copy, PartialEq, Eq, Debug)]
 pub enum Answer {
     Cycles(u32, u32),
     Flag(bool, u32),
     Value(u32, u32),
     Done(u32),
-    Refused(u32),
 }
 
-// Record and bus after a call, and its answer.
+// Record and bus after a call, and its answer; or as they were, and why it is refused.
 #[derive(Clone, Copy)]
 pub struct Performed {
     pub core: Core,
-    pub answer: Answer,
+    pub answer: Result<Answer, Refusal>,
 }
 
-pub fn entered(x: Entered) -> Performed
-    ensures { result ≡ record { core = x.core; answer = Answer.Cycles x.cycles (events_of x.core) } }
-{
-    let m = x.core;
-    let b = m.bus;
-    let a = Answer::Cycles(x.cycles, b.events);
-    Performed { core: m, answer: a }
+// A maker for each case of the answer: the cases take one number, two, or a flag and a number.
+impl Performed {
+    pub fn cycles(core: Core, cycles: u32) -> Self
+        ensures { result ≡ record { core = core; answer = Ok (Answer.Cycles cycles (events_of core)) } }
+    {
+        Performed {
+            core,
+            answer: Ok(Answer::Cycles(cycles, core.bus.events)),
+        }
+    }
+
+    pub fn flag(core: Core, flag: bool) -> Self
+        ensures { result ≡ record { core = core; answer = Ok (Answer.Flag flag (events_of core)) } }
+    {
+        Performed {
+            core,
+            answer: Ok(Answer::Flag(flag, core.bus.events)),
+        }
+    }
+
+    pub fn done(core: Core) -> Self
+        ensures { result ≡ record { core = core; answer = Ok (Answer.Done (events_of core)) } }
+    {
+        Performed {
+            core,
+            answer: Ok(Answer::Done(core.bus.events)),
+        }
+    }
+
+    pub fn refused(core: Core, refusal: Refusal) -> Self
+        ensures { result ≡ record { core = core; answer = Err refusal } }
+    {
+        Performed {
+            core,
+            answer: Err(refusal),
+        }
+    }
 }
 
-// An error entry answers 50 cycles.
-pub fn charged(m: Core) -> Performed
-    ensures { result ≡ record { core = m; answer = Answer.Cycles 50 (events_of m) } }
-{
-    let b = m.bus;
-    let a = Answer::Cycles(50, b.events);
-    Performed { core: m, answer: a }
+impl From<Entered> for Performed {
+    ghost use Rattle.answers.specs.declared.Answer.{Answer};
+
+    ghost from_gives = { λ x r. r ≡ record { core = x.core; answer = Ok (Answer.Cycles x.cycles (events_of x.core)) } };
+
+    fn from(entered: Entered) -> Self {
+        Performed::cycles(entered.core, entered.cycles)
+    }
 }
 
-pub fn done(m: Core) -> Performed
-    ensures { result ≡ record { core = m; answer = Answer.Done (events_of m) } }
-{
-    let b = m.bus;
-    let a = Answer::Done(b.events);
-    Performed { core: m, answer: a }
+impl From<Serviced> for Performed {
+    ghost use Rattle.answers.specs.declared.Answer.{Answer};
+
+    ghost from_gives = { λ x r. r ≡ record { core = x.core; answer = Ok (Answer.Flag x.taken (events_of x.core)) } };
+
+    fn from(serviced: Serviced) -> Self {
+        Performed::flag(serviced.core, serviced.taken)
+    }
 }
 
-pub fn read(x: Reply) -> Performed
-    ensures { result ≡ record { core = x.core; answer = Answer.Value x.value (events_of x.core) } }
-{
-    let m = x.core;
-    let b = m.bus;
-    let a = Answer::Value(x.value, b.events);
-    Performed { core: m, answer: a }
-}
+impl From<Reply> for Performed {
+    ghost use Rattle.answers.specs.declared.Answer.{Answer};
 
-pub fn flagged(m: Core, f: bool) -> Performed
-    ensures { result ≡ record { core = m; answer = Answer.Flag f (events_of m) } }
-{
-    let b = m.bus;
-    let a = Answer::Flag(f, b.events);
-    Performed { core: m, answer: a }
-}
+    ghost from_gives = { λ x r. r ≡ record { core = x.core; answer = Ok (Answer.Value (unwrap_or x.value 0) (events_of x.core)) } };
 
-pub fn serviced(x: Serviced) -> Performed
-    ensures { result ≡ record { core = x.core; answer = Answer.Flag x.taken (events_of x.core) } }
-{
-    let m = x.core;
-    flagged(m, x.taken)
-}
-
-pub fn traced(m: Core, x: Traced) -> Performed
-    ensures { result ≡ record { core = put_cpu m x.cpu; answer = Answer.Flag x.trace (events_of m) } }
-{
-    let c = x.cpu;
-    let d = memory::with_cpu(m, c);
-    flagged(d, x.trace)
-}
-
-pub fn replaced(m: Core, c: Cpu) -> Performed
-    ensures { result ≡ record { core = put_cpu m c; answer = Answer.Done (events_of m) } }
-{
-    let d = memory::with_cpu(m, c);
-    done(d)
-}
-
-pub fn refused(m: Core, n: u32) -> Performed
-    ensures { result ≡ record { core = m; answer = Answer.Refused n } }
-{
-    let a = Answer::Refused(n);
-    Performed { core: m, answer: a }
+    fn from(reply: Reply) -> Self {
+        Performed {
+            core: reply.core,
+            answer: Ok(Answer::Value(reply.value.unwrap_or(0), reply.core.bus.events)),
+        }
+    }
 }

@@ -1,13 +1,12 @@
 -- The call by a fast way: what an attempt may leave of what was lent, and the lent record with its patch.
-use Rattle.std.specs.Prelude.{ℕ, ◌≡◌, Bool, true, false, List, eqb, ltb, ℤ, set, get_or}
+use Rattle.std.specs.Prelude.{ℕ, ◌≡◌, Bool, false, List, ltb}
 use Rattle.types.specs.Kinds.{pick}
-use Rattle.cpu.specs.declared.Regs.{Regs}
-use Rattle.cpu.specs.declared.Flags.{Flags}
-use Rattle.pending.specs.Interrupts.{less_cycles}
 use Rattle.memory.specs.Log.{with_events}
 use Rattle.numbers.specs.Numbers.{bit}
 use Rattle.numbers.specs.declared.RawCall.{RawCall}
 use Rattle.fast_plans.specs.declared.Patch.{Patch}
+use Rattle.fast_plans.specs.declared.Way.TheVariants.{Plain, Idle, Calm, Entry}
+use Rattle.fast_plans.specs.Patched.{patched_regs, patched_flags, calmed_flags, patched_cycles, patched_fpiar, patched_words, patched_count}
 use Rattle.records.specs.declared.LentCpu.{LentCpu}
 use Rattle.records.specs.declared.LentCore.{LentCore}
 use Rattle.records.specs.declared.LentFlow.{LentFlow}
@@ -31,15 +30,9 @@ is_tidy c =
 
 -- what an attempt says by its patch
 unfoldable pub attempted_by : Patch → Attempted
-attempted_by q = record { said = says 0 q.answer q.events; idle = q.idle; calm = q.calm; fast = q.fast; patch = q }
+attempted_by q = record { said = says 0 q.answer q.events; patch = q }
 
 -- the groups of the lent record with a patch of an entry
-unfoldable pub charged_by : LentFlow → Bool → ℤ
-charged_by f serviced = pick serviced (less_cycles f.cycles_remaining (eqb f.cpu_type 2)) f.cycles_remaining
-
-unfoldable pub patched_regs : Regs → Patch → Regs
-patched_regs r q = record { dar = set r.dar 15 q.a7; dar_save = r.dar_save; sp = set (set r.sp 0 q.user) 4 q.top }
-
 unfoldable pub patched_flow : LentFlow → Patch → LentFlow
 patched_flow f q =
     record {
@@ -47,40 +40,21 @@ patched_flow f q =
       pc = q.pc;
       vbr = f.vbr;
       ir = f.ir;
-      fpiar = pick q.noted f.ppc f.fpiar;
+      fpiar = patched_fpiar f.ppc f.fpiar q;
       cpu_type = f.cpu_type;
       run_mode = f.run_mode;
       stopped = q.stopped;
       exception_processing = f.exception_processing;
       change_of_flow = f.change_of_flow;
       loop_mode = 0;
-      cycles_remaining = charged_by f q.serviced;
-    }
-
-unfoldable pub patched_flags : Flags → Patch → Flags
-patched_flags f q =
-    record {
-      t1_flag = 0;
-      t0_flag = 0;
-      s_flag = 4;
-      m_flag = f.m_flag;
-      x_flag = f.x_flag;
-      n_flag = f.n_flag;
-      not_z_flag = f.not_z_flag;
-      v_flag = f.v_flag;
-      c_flag = f.c_flag;
-      int_mask = q.mask;
-      int_level = q.level;
-      sr_save = f.sr_save;
+      cycles_remaining = patched_cycles f.cycles_remaining f.cpu_type q;
     }
 
 unfoldable pub patched_queue : LentQueue → Patch → LentQueue
 patched_queue f q =
     record {
-      prefetch_queue =
-          set (set f.prefetch_queue 0 (pick q.fetches q.first (get_or f.prefetch_queue 0 0))) 1
-          (pick q.fetches q.second (get_or f.prefetch_queue 1 0));
-      prefetch_count = pick q.fetches 2 f.prefetch_count;
+      prefetch_queue = patched_words f.prefetch_queue q;
+      prefetch_count = patched_count f.prefetch_count q;
       pending_sync_clocks = 0;
       precise_bus = f.precise_bus;
     }
@@ -130,23 +104,6 @@ calmed_flow f q =
       cycles_remaining = f.cycles_remaining;
     }
 
-unfoldable pub calmed_flags : Flags → Patch → Flags
-calmed_flags f q =
-    record {
-      t1_flag = f.t1_flag;
-      t0_flag = f.t0_flag;
-      s_flag = f.s_flag;
-      m_flag = f.m_flag;
-      x_flag = f.x_flag;
-      n_flag = f.n_flag;
-      not_z_flag = f.not_z_flag;
-      v_flag = f.v_flag;
-      c_flag = f.c_flag;
-      int_mask = f.int_mask;
-      int_level = q.level;
-      sr_save = f.sr_save;
-    }
-
 unfoldable pub calmed_cpu : LentCpu → Patch → LentCpu
 calmed_cpu c q =
     record {
@@ -163,8 +120,8 @@ calmed_by c x = record { cpu = calmed_cpu c.cpu x.patch; bus = with_events c.bus
 
 -- an attempt x did the call, in one of three ways: all of it, or all but the patch; or it left store and log alone
 pub record Tried (c : LentCore) (call : RawCall) (s l : List ℕ) (x : Attempted) (s' l' : List ℕ) : Type 0 where
-  pub idle : x.idle ≡ true → left c s' l' x.said ≡ lent_call c s l call
-  pub calm : x.calm ≡ true → left (calmed_by c x) s' l' x.said ≡ lent_call c s l call
-  pub fast : x.fast ≡ true → left (patched_by c x) s' l' x.said ≡ lent_call c s l call
-  pub store : x.idle ≡ false → x.calm ≡ false → x.fast ≡ false → s' ≡ s
-  pub log : x.idle ≡ false → x.calm ≡ false → x.fast ≡ false → l' ≡ l
+  pub idle : x.patch.way ≡ Idle → left c s' l' x.said ≡ lent_call c s l call
+  pub calm : x.patch.way ≡ Calm → left (calmed_by c x) s' l' x.said ≡ lent_call c s l call
+  pub fast : x.patch.way ≡ Entry → left (patched_by c x) s' l' x.said ≡ lent_call c s l call
+  pub store : x.patch.way ≡ Plain → s' ≡ s
+  pub log : x.patch.way ≡ Plain → l' ≡ l

@@ -7,7 +7,7 @@ use Rattle.numbers.specs.Numbers.{bit, flag}
 use Rattle.answers.specs.Answers.{refused_by, value_of, count_of}
 use Rattle.calls.specs.Calls.{refusal, perform}
 use Rattle.numbers.specs.declared.RawCall.{RawCall}
-use Rattle.boundary.specs.declared.Decoded.TheVariants.{Known, Unknown}
+use Rattle.std.specs.Prelude.{Some, None}
 use Rattle.boundary.specs.Calls.{decode, of_performed, raw_of, raw_call}
 use Rattle.records.specs.declared.LentCore.{LentCore}
 use Rattle.records.specs.Records.{raised_vector, raised_code, raised_flow, raised_queue, raised_fault, raised_resume, raised_cpu, raised, lowered_vector, lowered_code, lowered_flow, lowered_queue, lowered_fault, lowered_resume, lowered_cpu, lowered}
@@ -39,12 +39,12 @@ lowered_back m = simp bit_back
 
 module _ (c : LentCore) (s l : List ℕ) (x : RawCall) where
   -- a refused call leaves record, store and log as they came, every byte
-  pub refused_leaves : (k : Call) → decode x ≡ Known k → eqb (refusal (world (raised c) s l) k) 0 ≡ false → lent_call c s l x ≡ left c s l (says (refusal (world (raised c) s l) k) 0 0)
+  pub refused_leaves : (k : Call) → decode x ≡ Some k → eqb (refusal (world (raised c) s l) k) 0 ≡ false → lent_call c s l x ≡ left c s l (says (refusal (world (raised c) s l) k) 0 0)
   unfolding lent_call left_by raw_call raw_of of_performed perform refused_by value_of count_of record_after
   refused_leaves k d e = simp (d, e)
 
   -- and so does a number that names no call
-  pub unknown_leaves : decode x ≡ Unknown → lent_call c s l x ≡ left c s l (says 99 0 0)
+  pub unknown_leaves : decode x ≡ None → lent_call c s l x ≡ left c s l (says 99 0 0)
   unfolding lent_call left_by raw_call raw_of record_after
   unknown_leaves d = simp d
 

@@ -10,7 +10,7 @@ use Rattle.memory.specs.declared.Core.{Core}
 use Rattle.memory.specs.World.{world}
 use Rattle.numbers.specs.declared.RawCall.{RawCall}
 use Rattle.boundary.specs.Calls.{Outcome, raw_call}
-use Rattle.unwind.specs.declared.Returned.{Returned}
+use Rattle.unwind.specs.Models.{Returned}
 use Rattle.unwind.specs.Returns.{Walk}
 use Rattle.unwind.specs.Unwind.{return_from, walk_from}
 use Rattle.records.specs.declared.LentCpu.{LentCpu}

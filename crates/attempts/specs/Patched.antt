@@ -1,8 +1,7 @@
 -- The lent record with a patch is the core's record with it, as it is lent, where every flag byte is 0 or 1.
-use Rattle.std.specs.Prelude.{ℕ, zero, suc, ◌≤◌, ◌<◌, ◌≡◌, Bool, true, false, not, List, eqb, ltb, set, get_or}
+use Rattle.std.specs.Prelude.{ℕ, zero, suc, ◌≤◌, ◌<◌, ◌≡◌, Bool, true, false, not, List, eqb, ltb}
 use Rattle.std.proofs.Math.Path.{refl}
-use Rattle.std.proofs.Common.{arith, ltb-true, ltb-false}
-use Rattle.std.proofs.lemmas.List.{set-get_or}
+use Rattle.std.proofs.Common.{ap, arith, ltb-true, ltb-false}
 use Rattle.types.specs.Kinds.{pick}
 use Rattle.numbers.specs.Numbers.{bit, flag}
 use Rattle.memory.specs.World.{world}
@@ -13,12 +12,13 @@ use Rattle.records.specs.Records.{raised_vector, raised_code, raised_flow, raise
 use Rattle.fast_laws.specs.Patched.{patch_cpu, patch_of, calm_of, Words, Fetched}
 use Rattle.fast_plans.specs.Views.{view_of}
 use Rattle.fast.specs.Patches.{Ended, go_of}
-use Rattle.fast_plans.specs.Quiet.{no_patch}
+use Rattle.fast_plans.specs.Patched.{patched_regs, patched_flags, calmed_flags, patched_cycles, patched_fpiar, patched_words, patched_count}
+use Rattle.fast_plans.specs.Quiet.{no_patch, is_entry, is_calm, is_idle}
 use Rattle.fast_laws.specs.Matched.{kept}
 use Rattle.fast_laws.proofs.Matched.{entry_same, calm_same, idle_same}
 use Rattle.attempts.specs.declared.Attempted.{Attempted}
 use Rattle.attempts.specs.Lent.{left, says, record_after, left_by, lent_call}
-use Rattle.attempts.specs.Attempts.{is_tidy, attempted_by, charged_by, patched_regs, patched_flow, patched_flags, patched_queue, patched_fault, patched_cpu, patched_by, calmed_flow, calmed_flags, calmed_cpu, calmed_by, Tried}
+use Rattle.attempts.specs.Attempts.{is_tidy, attempted_by, patched_flow, patched_queue, patched_fault, patched_cpu, patched_by, calmed_flow, calmed_cpu, calmed_by, Tried}
 
 -- a byte of 0 or 1 comes back
 tidy_byte : (n : ℕ) → ltb 1 n ≡ false → bit (flag n) ≡ n
@@ -75,14 +75,10 @@ tidy c e =
     small (suc zero) h = refl
     small (suc (suc n)) h = absurd (omega arith)
 
-queue_words : (b : Bool) (q : List ℕ) (x y : ℕ) → pick b (set (set q 0 x) 1 y) q ≡ set (set q 0 (pick b x (get_or q 0 0))) 1 (pick b y (get_or q 1 0))
-queue_words true q x y = refl
-queue_words false q x y = rw (set-get_or q 0 0, set-get_or q 1 0) refl
-
 pub patched_law : (c : LentCore) (x : Attempted) → Tidy c → lowered (patch_of (raised c) x.patch) ≡ patched_by c x
-unfolding lowered lowered_cpu lowered_flow lowered_queue lowered_fault lowered_resume lowered_vector lowered_code raised raised_cpu raised_flow raised_queue raised_fault raised_resume raised_vector raised_code patch_of patch_cpu patched_by patched_cpu patched_regs patched_flow patched_flags patched_queue patched_fault charged_by
+unfolding lowered lowered_cpu lowered_flow lowered_queue lowered_fault lowered_resume lowered_vector lowered_code raised raised_cpu raised_flow raised_queue raised_fault raised_resume raised_vector raised_code patch_of patch_cpu patched_by patched_cpu patched_regs patched_flow patched_flags patched_queue patched_fault patched_cycles patched_fpiar patched_words patched_count
 patched_law c x t =
-    rw (t.exception, t.change, t.precise, t.code, t.resume, queue_words x.patch.fetches c.cpu.queue.prefetch_queue x.patch.first x.patch.second) refl
+    rw (t.exception, t.change, t.precise, t.code, t.resume) refl
 
 pub calmed_law : (c : LentCore) (x : Attempted) → Tidy c → lowered (calm_of (raised c) x.patch) ≡ calmed_by c x
 unfolding lowered lowered_cpu lowered_flow lowered_queue lowered_fault lowered_resume lowered_vector lowered_code raised raised_cpu raised_flow raised_queue raised_fault raised_resume raised_vector raised_code calm_of calmed_by calmed_cpu calmed_flow calmed_flags
@@ -104,22 +100,22 @@ module _ (c : LentCore) (call : RawCall) (s l : List ℕ) (g : Ended) (t : Tidy 
   unfolding attempted_by
   tried =
       record {
-        idle = λ h. lent_by c call s l c (outcome (world (raised c) g.store g.log) 0 g.patch.answer g.patch.events) (lent_law c t) refl (rw (← e) at (idle_same (raised c) call s l (rw e at h)));
+        idle = λ h. lent_by c call s l c (outcome (world (raised c) g.store g.log) 0 g.patch.answer g.patch.events) (lent_law c t) refl (rw (← e) at (idle_same (raised c) call s l (rw e at (ap is_idle h))));
         calm = λ h.
             lent_by c call s l (calmed_by c (attempted_by g.patch)) (outcome (world (calm_of (raised c) g.patch) g.store g.log) 0 g.patch.answer g.patch.events) (calmed_law c (attempted_by g.patch) t) refl
-            (rw (← e) at (calm_same (raised c) call s l (rw e at h)));
+            (rw (← e) at (calm_same (raised c) call s l (rw e at (ap is_calm h))));
         fast = λ h.
             lent_by c call s l (patched_by c (attempted_by g.patch)) (outcome (world (patch_of (raised c) g.patch) g.store g.log) 0 g.patch.answer g.patch.events) (patched_law c (attempted_by g.patch) t) refl
-            (rw (← e) at (entry_same (raised c) call s l w (rw e at q) (rw e at h)));
-        store = λ i j h. rw e (kept (view_of (raised c)) call s l (rw e at h)).0;
-        log = λ i j h. rw e (kept (view_of (raised c)) call s l (rw e at h)).1;
+            (rw (← e) at (entry_same (raised c) call s l w (rw e at q) (rw e at (ap is_entry h))));
+        store = λ h. rw e (kept (view_of (raised c)) call s l (rw e at (ap is_entry h))).0;
+        log = λ h. rw e (kept (view_of (raised c)) call s l (rw e at (ap is_entry h))).1;
       }
 
 -- a call that is not tried
 pub not_tried : (c : LentCore) (call : RawCall) (s l : List ℕ) → Tried c call s l (attempted_by no_patch) s l
 unfolding attempted_by no_patch
 not_tried c call s l =
-    record { idle = λ h. absurd (clash h); calm = λ h. absurd (clash h); fast = λ h. absurd (clash h); store = λ i j h. refl; log = λ i j h. refl }
+    record { idle = λ h. absurd (clash (ap is_idle h)); calm = λ h. absurd (clash (ap is_calm h)); fast = λ h. absurd (clash (ap is_entry h)); store = λ h. refl; log = λ h. refl }
   where
     clash : false ≡ true → ⊥
     clash h = let z : ◌≡◌ {A = ℕ} 0 1 = cc in omega arith

@@ -1,5 +1,5 @@
 -- The return by a fast way: what an attempt says, and the record after it.
-use Rattle.std.specs.Prelude.{ℕ, ◌≡◌, true, List}
+use Rattle.std.specs.Prelude.{ℕ, ◌≡◌, List}
 use Rattle.std.proofs.Common.{sym, ap, ◌∙◌}
 use Rattle.cpu.specs.Fields.{set_a7, set_pc}
 use Rattle.cpu.specs.Clocks.{clear_prefetch}
@@ -10,7 +10,7 @@ use Rattle.memory.specs.World.{put_cpu}
 use Rattle.unwind.specs.Returns.{raise_a7, swap_sr, take_frame}
 use Rattle.unwind.specs.Unwind.{return_from}
 use Rattle.fast_return.specs.declared.ReturnPatch.{ReturnPatch}
-use Rattle.fast_return.specs.Patch.{patch_back, patch_returned}
+use Rattle.fast_return.specs.Patch.{going, patch_back, patch_returned}
 use Rattle.records.specs.declared.LentCore.{LentCore}
 use Rattle.records.specs.declared.LentResume.{LentResume}
 use Rattle.attempts.specs.declared.AttemptedReturn.{AttemptedReturn}
@@ -19,23 +19,22 @@ use Rattle.attempts.specs.Lent.{record_after, served_return, returned_by, lent_r
 
 -- the lent record with the patch of a return
 unfoldable pub restored_by : LentCore → AttemptedReturn → LentCore
-restored_by c x = lowered (patch_back (raised c) x.patch)
+restored_by c x = lowered (patch_back (raised c) (going x.patch))
 
--- an attempt that goes is the return, but for the patch
+-- an attempt that did the return, but for the patch
 pub record TriedReturn (c : LentCore) (s : List ℕ) (x : AttemptedReturn) : Type 0 where
-  pub ok : x.ok ≡ true → served_return (restored_by c x) x.said ≡ lent_return c s
+  pub same : served_return (restored_by c x) x.said ≡ lent_return c s
 
-pub attempt_law : (c : LentCore) (s : List ℕ) (m : Core) (q : ReturnPatch) → m ≡ raised c → (q.ok ≡ true → return_from m s ≡ patch_returned m q)
-    → TriedReturn c s (record { said = record { refused = 0; row = q.row }; ok = q.ok; patch = q })
+pub attempt_law : (c : LentCore) (s : List ℕ) (m : Core) (q : ReturnPatch) → m ≡ raised c → return_from m s ≡ patch_returned m (going q)
+    → TriedReturn c s (record { said = record { refused = 0; row = q.row }; patch = q })
 unfolding restored_by lent_return returned_by record_after patch_returned
 attempt_law c s m q e h =
     record {
-      ok = λ o.
-          sym (ap (returned_by c) (ap (λ (x : Core). return_from x s) (sym e) ∙ h o ∙ ap (λ (x : Core). patch_returned x q) e));
+      same = sym (ap (returned_by c) (ap (λ (x : Core). return_from x s) (sym e) ∙ h ∙ ap (λ (x : Core). patch_returned x (going q)) e));
     }
 
 -- what a faulted instruction keeps is not touched but for its flag
-pub restored_law : (d : LentCore) (x : AttemptedReturn) (m e : Core) (l : LentCore) (r : LentResume) → m ≡ raised d → e ≡ patch_back m x.patch → l ≡ lowered e → r ≡ lowered_resume (raised_resume d.cpu.fault_resume)
+pub restored_law : (d : LentCore) (x : AttemptedReturn) (m e : Core) (l : LentCore) (r : LentResume) → m ≡ raised d → e ≡ patch_back m (going x.patch) → l ≡ lowered e → r ≡ lowered_resume (raised_resume d.cpu.fault_resume)
     → (record { cpu = record { regs = l.cpu.regs; flow = l.cpu.flow; flags = l.cpu.flags; queue = l.cpu.queue; fault = l.cpu.fault; fault_resume = r }; bus = l.bus }) ≡ restored_by d x
 unfolding restored_by lowered lowered_cpu raised raised_cpu patch_back put_cpu take_frame clear_prefetch set_pc swap_sr restore_sp backup_sp raise_a7 set_a7 put_back_sr
 restored_law d x m e l r h0 h1 h2 h3 = rw (h3, h2, h1, h0)

@@ -14,15 +14,16 @@ use unwind::returns::{Row, Walked};
 mod patches; // a patch laid into the groups of a lent record
 mod views; // what the fast way reads of a lent record
 
-ghost use Rattle.std.specs.Prelude.{◌≡◌};
+ghost use Rattle.std.specs.Prelude.{◌≡◌, IfSome};
 ghost use Rattle.numbers.specs.Numbers.{exception_call, interrupt_call};
 ghost use Rattle.unwind.specs.Returns.{walk};
 ghost use Rattle.attempts.specs.Lent.{left, record_after, lent_call, served_return, lent_return, lent_walk, lent_sr, set_sr, served_status, lent_set_sr};
 ghost use Rattle.attempts.specs.Attempts.{attempted_by, calmed_by, patched_by, Tried};
 ghost use Rattle.records.specs.Records.{raised_resume, lowered_resume};
+ghost use Rattle.fast_laws.specs.Patched.{Fetched};
 ghost use Rattle.attempts.specs.Restored.{restored_by, TriedReturn};
 
-// What a call says. `refused` is 0, the number of the refusal, or 99 where the number names no call.
+// What a call says, as C reads it. `refused` is 0, the number of the refusal, or 99 where the number names no call.
 #[repr(C)]
 #[derive(Clone, Copy)]
 pub struct Said {
@@ -31,7 +32,7 @@ pub struct Said {
     pub events: u32,
 }
 
-// What a return says: 0 and its row, or the number of the refusal and a row of zeros.
+// What a return says, as C reads it: 0 and its row, or the number of the refusal and a row of zeros.
 #[repr(C)]
 #[derive(Clone, Copy)]
 pub struct SaidReturn {
@@ -39,20 +40,18 @@ pub struct SaidReturn {
     pub row: Row,
 }
 
-// What the functions by value hand back: the lent record after a call, and what the call says.
+// What the functions by value hand back: the lent record after a call, and what the call says. A struct for each of call, return and status, as
+// for what C reads of each.
 #[derive(Clone, Copy)]
 pub struct Served {
     pub said: Said,
     pub core: LentCore,
 }
 
-// What an attempt hands back: whether it did the call, in one of three ways, and then what the call says and the patch of the record.
+// What an attempt hands back: the patch of the record, which tells whether it did the call and how, and then what the call says.
 #[derive(Clone, Copy)]
 pub struct Attempted {
     pub said: Said,
-    pub idle: bool,
-    pub calm: bool,
-    pub fast: bool,
     pub patch: Patch,
 }
 
@@ -62,11 +61,10 @@ pub struct ServedReturn {
     pub core: LentCore,
 }
 
-// The same of a return, in one way.
+// The same of a return that an attempt did, in one way.
 #[derive(Clone, Copy)]
 pub struct AttemptedReturn {
     pub said: SaidReturn,
-    pub ok: bool,
     pub patch: ReturnPatch,
 }
 
@@ -76,22 +74,30 @@ pub struct ServedStatus {
     pub cpu: LentCpu,
 }
 
-// The lent record after a call that was refused by n, every byte as it came, or that left the record m, its flags as 0 and 1.
+// A call with no number and no argument, of which others are made.
+const NO_CALL: RawCall = RawCall {
+    number: 0,
+    a: 0,
+    b: 0,
+    c: 0,
+    d: 0,
+    e: 0,
+};
+
+// The lent record after a call that was refused by n, the number that C reads, every byte as it came, or that left the record m, its flags as 0 and 1.
+#[tactic(auto, unfolding(crate::specs::Lent::record_after))]
 fn record_after(c: LentCore, n: u32, m: Core) -> LentCore
     ensures { result ≡ record_after c n m }
 {
-    if n == 0 {
-        return records::lower::core(m);
-    }
-    c
+    if n == 0 { LentCore::from(m) } else { c }
 }
 
 // The call on a lent record by value.
+#[tactic(auto, unfolding(crate::specs::Lent::lent_call, crate::specs::Lent::left_by))]
 pub fn serve(c: LentCore, call: RawCall, store: &mut [u8], log: &mut [u32]) -> Served
     ensures { left result.core store.new log.new result.said ≡ lent_call c store.old log.old call }
 {
-    let m = records::raise::core(c);
-    let x = boundary::raw_call(m, store, log, call);
+    let x = boundary::raw_call(c.into(), store, log, call);
     let d = record_after(c, x.refused, x.core);
     Served {
         said: Said {
@@ -110,10 +116,7 @@ pub fn serve_exception(c: LentCore, vector: u32, store: &mut [u8], log: &mut [u3
     let call = RawCall {
         number: 1,
         a: vector,
-        b: 0,
-        c: 0,
-        d: 0,
-        e: 0,
+        ..NO_CALL
     };
     serve(c, call, store, log)
 }
@@ -124,28 +127,21 @@ pub fn serve_interrupt(c: LentCore, store: &mut [u8], log: &mut [u32]) -> Served
 {
     let call = RawCall {
         number: 22,
-        a: 0,
-        b: 0,
-        c: 0,
-        d: 0,
-        e: 0,
+        ..NO_CALL
     };
     serve(c, call, store, log)
 }
 
+#[tactic(auto, unfolding(crate::specs::Attempts::attempted_by))]
 fn hand_over(q: Patch) -> Attempted
-    ensures { result ≡ attempted_by q }
+    ensures { (result ≡ attempted_by q) × Fetched q }
 {
-    let s = Said {
-        refused: 0,
-        answer: q.answer,
-        events: q.events,
-    };
     Attempted {
-        said: s,
-        idle: q.idle,
-        calm: q.calm,
-        fast: q.fast,
+        said: Said {
+            refused: 0,
+            answer: q.answer,
+            events: q.events,
+        },
         patch: q,
     }
 }
@@ -154,197 +150,146 @@ fn hand_over(q: Patch) -> Attempted
 pub fn attempt(c: LentCore, call: RawCall, store: &mut [u8], log: &mut [u32]) -> Attempted
     ensures { Tried c call store.old log.old result store.new log.new }
 {
-    if views::is_tidy(c) {
-        let regs = c.cpu.regs;
-        let dar = regs.dar;
-        let sp = regs.sp;
-        let known = views::fits(
-            c.cpu.flow.pc,
-            c.cpu.flow.ppc,
-            c.cpu.queue.pending_sync_clocks,
-            dar,
-            sp,
-        );
-        let x = views::view(c);
-        if fast_frames::rows::is_framed(call.number) {
-            let q = fast_frames::go(
-                x,
-                c.cpu.fault.pending_fault_wdata,
-                c.cpu.fault.mmu_fc_override.value,
-                call,
-                store,
-                log,
-            );
-            let fetched = views::words(q.first, q.second);
-            return hand_over(q);
-        }
-        let q = fast::go(x, call, store, log);
-        let fetched = views::words(q.first, q.second);
-        return hand_over(q);
+    if !views::is_tidy(c) {
+        return hand_over(fast_plans::none());
     }
-    let q = fast_plans::none();
-    hand_over(q)
+    let x = views::view(c);
+    if fast_frames::rows::is_framed(call.number) {
+        let wdata = c.cpu.fault.pending_fault_wdata;
+        let code = c.cpu.fault.mmu_fc_override.value;
+        return hand_over(fast_frames::go(x, wdata, code, call, store, log));
+    }
+    hand_over(fast::go(x, call, store, log))
 }
 
-// `take_exception` alone by a fast way, the same.
+// `take_exception` alone by a fast way, the same. Each attempt is short, and one that took the way as a closure would be no plainer.
 pub fn attempt_exception(c: LentCore, vector: u32, store: &mut [u8], log: &mut [u32]) -> Attempted
     ensures { Tried c (exception_call vector) store.old log.old result store.new log.new }
 {
-    if views::is_tidy(c) {
-        let regs = c.cpu.regs;
-        let dar = regs.dar;
-        let sp = regs.sp;
-        let known = views::fits(
-            c.cpu.flow.pc,
-            c.cpu.flow.ppc,
-            c.cpu.queue.pending_sync_clocks,
-            dar,
-            sp,
-        );
-        let x = views::view(c);
-        let q = fast::own::take_exception(x, vector, store, log);
-        let fetched = views::words(q.first, q.second);
-        return hand_over(q);
+    if !views::is_tidy(c) {
+        return hand_over(fast_plans::none());
     }
-    let q = fast_plans::none();
-    hand_over(q)
+    hand_over(fast::own::take_exception(views::view(c), vector, store, log))
 }
 
 // The interrupt call alone, the same.
 pub fn attempt_interrupt(c: LentCore, store: &mut [u8], log: &mut [u32]) -> Attempted
     ensures { Tried c interrupt_call store.old log.old result store.new log.new }
 {
-    if views::is_tidy(c) {
-        let regs = c.cpu.regs;
-        let dar = regs.dar;
-        let sp = regs.sp;
-        let known = views::fits(
-            c.cpu.flow.pc,
-            c.cpu.flow.ppc,
-            c.cpu.queue.pending_sync_clocks,
-            dar,
-            sp,
-        );
-        let x = views::view(c);
-        let q = fast::own::check_and_service(x, store, log);
-        let fetched = views::words(q.first, q.second);
-        return hand_over(q);
+    if !views::is_tidy(c) {
+        return hand_over(fast_plans::none());
     }
-    let q = fast_plans::none();
-    hand_over(q)
+    hand_over(fast::own::check_and_service(views::view(c), store, log))
 }
 
 // The lent record after an attempt that was calm.
-pub fn calmed(d: LentCore, x: Attempted) -> LentCore
+#[tactic(auto, unfolding(crate::specs::Attempts::calmed_by))]
+pub fn calmed(mut d: LentCore, x: Attempted) -> LentCore
     ensures { result ≡ calmed_by d x }
 {
-    let q = x.patch;
-    let c = patches::calmed_cpu(d.cpu, q);
-    let mut b = d.bus;
-    b.events = 0;
-    LentCore { cpu: c, bus: b }
+    d.cpu = patches::calmed_cpu(d.cpu, x.patch);
+    d.bus.events = 0;
+    d
 }
 
-// The lent record after an attempt that was fast.
-pub fn patched(d: LentCore, x: Attempted) -> LentCore
+// The lent record after an attempt that was an entry.
+#[tactic(auto, unfolding(crate::specs::Attempts::patched_by))]
+pub fn patched(mut d: LentCore, x: Attempted) -> LentCore
     ensures { result ≡ patched_by d x }
 {
-    let q = x.patch;
-    let c = patches::patched_cpu(d.cpu, q);
-    let mut b = d.bus;
-    b.events = q.events;
-    LentCore { cpu: c, bus: b }
+    d.cpu = patches::patched_cpu(d.cpu, x.patch);
+    d.bus.events = x.patch.events;
+    d
 }
 
 // The return on a lent record by value.
+#[tactic(auto, using(crate::proofs::Ways::served_way), unfolding(crate::specs::Lent::lent_return, crate::specs::Lent::returned_by, crate::specs::Lent::record_after))]
 pub fn serve_return(c: LentCore, store: &[u8]) -> ServedReturn
     ensures { served_return result.core result.said ≡ lent_return c store.now }
 {
-    let m = records::raise::core(c);
-    let x = unwind::return_from(m, store);
-    let d = record_after(c, x.refused, x.core);
-    let w = x.row;
-    ServedReturn {
-        said: SaidReturn {
-            refused: x.refused,
-            row: w,
+    match unwind::return_from(Core::from(c), store) {
+        Ok(returned) => ServedReturn {
+            said: SaidReturn {
+                refused: 0,
+                row: returned.row,
+            },
+            core: LentCore::from(returned.core),
         },
-        core: d,
+        Err(refusal) => ServedReturn {
+            said: SaidReturn {
+                refused: refusal.number(),
+                row: Row::ZEROS,
+            },
+            core: c,
+        },
     }
 }
 
 // The return by a fast way, or no return.
-pub fn attempt_return(c: LentCore, store: &[u8]) -> AttemptedReturn
-    ensures { TriedReturn c store.now result }
+#[tactic(auto, using(crate::specs::Restored::attempt_law))]
+pub fn attempt_return(c: LentCore, store: &[u8]) -> Option<AttemptedReturn>
+    ensures { IfSome result (TriedReturn c store.now) }
 {
-    let m = records::raise::core(c);
-    let q = fast_return::try_return(m, store);
-    let w = q.row;
-    AttemptedReturn {
-        said: SaidReturn { refused: 0, row: w },
-        ok: q.ok,
-        patch: q,
-    }
+    let patch = fast_return::try_return(Core::from(c), store)?;
+    Some(AttemptedReturn {
+        said: SaidReturn {
+            refused: 0,
+            row: patch.row,
+        },
+        patch,
+    })
 }
 
 // What a faulted instruction keeps, its flag as 0 or 1. It changes in place: made anew it would be copied.
-fn resume_after(x: LentResume) -> LentResume
+#[tactic(auto, unfolding(records::specs::Records::raised_resume, records::specs::Records::lowered_resume, numbers::specs::Numbers::flag))]
+fn resume_after(mut x: LentResume) -> LentResume
     ensures { result ≡ lowered_resume (raised_resume x) }
 {
-    let mut r = x;
-    r.some = (x.some != 0) as u8;
-    r
+    x.some = (x.some != 0) as u8;
+    x
 }
 
 // The lent record after a return that was attempted and goes.
+#[tactic(auto, using(crate::specs::Restored::restored_law))]
 pub fn restored(d: LentCore, x: AttemptedReturn) -> LentCore
     ensures { result ≡ restored_by d x }
 {
-    let m = records::raise::core(d);
-    let q = x.patch;
-    let e = fast_return::patched(m, q);
-    let l = records::lower::core(e);
-    let resume = resume_after(d.cpu.fault_resume);
-    let mut c = l.cpu;
-    c.fault_resume = resume;
-    let mut r = l;
-    r.cpu = c;
+    let mut r = LentCore::from(fast_return::patched(d.into(), x.patch));
+    r.cpu.fault_resume = resume_after(d.cpu.fault_resume);
     r
 }
 
 // The walk on a lent record by value.
+#[tactic(auto, unfolding(crate::specs::Lent::lent_walk))]
 pub fn serve_walk(c: LentCore, n: u32, store: &[u8], rows: &mut [u32]) -> Walked
     ensures { walk result.refused result.count rows.new ≡ lent_walk c store.now n rows.old }
 {
-    let m = records::raise::core(c);
-    fast_return::walk(m, store, n, rows)
+    fast_return::walk(c.into(), store, n, rows)
 }
 
 // The status register of a lent record by value.
+#[tactic(auto, unfolding(crate::specs::Lent::lent_sr))]
 pub fn serve_sr(c: LentCpu) -> u32
     ensures { result ≡ lent_sr c }
 {
-    let d = records::raise::cpu(c);
-    status::get_sr(d) as u32
+    status::get_sr(c.into()) as u32
 }
 
+#[tactic(auto, unfolding(crate::specs::Lent::set_sr))]
 fn set_sr(c: Cpu, sr: u16) -> Cpu
     ensures { result ≡ set_sr c sr }
 {
-    let kept = status::banks::backup_sp(c);
-    let moved = status::set_sr_noint_nosp(kept, sr);
-    status::banks::restore_sp(moved)
+    status::banks::restore_sp(status::set_sr_noint_nosp(status::banks::backup_sp(c), sr))
 }
 
 // The status register set, on a lent record by value.
+#[tactic(auto, unfolding(crate::specs::Lent::lent_set_sr))]
 pub fn serve_set_sr(c: LentCpu, sr: u16) -> ServedStatus
     ensures { served_status result.cpu result.status ≡ lent_set_sr c sr }
 {
-    let d = records::raise::cpu(c);
-    let e = set_sr(d, sr);
-    let f = records::lower::cpu(e);
+    let d = set_sr(c.into(), sr);
     ServedStatus {
-        status: status::get_sr(e) as u32,
-        cpu: f,
+        status: status::get_sr(d) as u32,
+        cpu: d.into(),
     }
 }

@@ -1,6 +1,6 @@
 -- The calls by number, for the C boundary: which call of `calls` each number is, and its answer in numbers. Numbers and arguments
 -- are those of the case format.
-use Rattle.std.specs.Prelude.{ℕ, ◌%◌, eqb, List, [], ◌∷◌}
+use Rattle.std.specs.Prelude.{ℕ, ◌%◌, eqb, List, [], ◌∷◌, Option, Some, None}
 use Rattle.answers.specs.declared.Call.{Call}
 use Rattle.types.specs.Kinds.{pick}
 use Rattle.types.specs.Causes.{cause_of}
@@ -10,8 +10,6 @@ use Rattle.answers.specs.Answers.{Performed, refused_by, value_of, count_of}
 use Rattle.calls.specs.Calls.{perform}
 use Rattle.numbers.specs.declared.RawCall.{RawCall}
 use Rattle.numbers.specs.Numbers.{flag}
-use Rattle.boundary.specs.declared.Decoded.{Decoded}
-use Rattle.boundary.specs.declared.Decoded.TheVariants.{Known, Unknown}
 
 -- a world after a call; the number of a refusal or 0; the answer; the events
 pub record Outcome : Type 0 where
@@ -32,9 +30,9 @@ abbrev pub is : ℕ → Call → Row
 is n x = record { number = n; call = x }
 
 -- the call of a number, or none
-abbrev pub find : ℕ → List Row → Decoded
-find n [] = Unknown
-find n (x ∷ xs) = pick (eqb n x.number) (Known x.call) (find n xs)
+abbrev pub find : ℕ → List Row → Option Call
+find n [] = None
+find n (x ∷ xs) = pick (eqb n x.number) (Some x.call) (find n xs)
 
 -- the numbers of the case format
 abbrev pub calls_of : RawCall → List Row
@@ -71,16 +69,16 @@ calls_of c =
     ∷ is 30 PrefetchSecond
     ∷ []
 
-unfoldable pub decode : RawCall → Decoded
+unfoldable pub decode : RawCall → Option Call
 decode c = find c.number (calls_of c)
 
 -- the public call, its answer in numbers; 99 where the number names no call
 unfoldable pub of_performed : Performed → Outcome
 of_performed x = outcome x.after (refused_by x.answer) (value_of x.answer) (count_of x.answer)
 
-unfoldable pub raw_of : World → Decoded → Outcome
-raw_of w (Known c) = of_performed (perform w c)
-raw_of w Unknown = outcome w 99 0 0
+unfoldable pub raw_of : World → Option Call → Outcome
+raw_of w (Some c) = of_performed (perform w c)
+raw_of w None = outcome w 99 0 0
 
 unfoldable pub raw_call : World → RawCall → Outcome
 raw_call w c = raw_of w (decode c)

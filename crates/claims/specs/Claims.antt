@@ -1,6 +1,7 @@
 -- WHAT IS CLAIMED, in the papers' words, each stated in full. A reader stops here: the proof is the name on the right, and what the words
 -- of a statement mean is in the `specs` of the crate that they are taken from. The contract of the calls is an equation with `perform`, those
 -- of return and walk with `return_from` and `walk_from`, and that of a block of a session's input with `taken_all`.
+use Rattle.std.specs.Prelude.{Option}
 use Rattle.std.specs.Prelude.{ℕ, ◌+◌, ◌*◌, ◌%◌, ◌^◌, ◌≤◌, ◌<◌, ◌≡◌, Bool, true, false, List, [], ◌∷◌, ◌++◌, ◌⊎◌, ◌↔◌, eqb, pos, negsuc, ◌-ℤ◌, ◌<ℤ◌, length, get_or, drop, replicate}
 use Rattle.std.proofs.Math.Option.{none, some}
 use Rattle.types.specs.Kinds.{pick}
@@ -15,7 +16,7 @@ use Rattle.memory.specs.World.{World, cpu_of}
 use Rattle.access.specs.Access.{Raise, raised}
 use Rattle.answers.specs.declared.Call.{Call}
 use Rattle.answers.specs.declared.Call.TheVariants.{ExceptionBusError, TriggerBusError, CheckAndServiceInterrupts}
-use Rattle.answers.specs.declared.Answer.TheVariants.{Cycles, Refused}
+use Rattle.answers.specs.Answer.{Cycles, Refused}
 use Rattle.answers.specs.Matters.{matter_of}
 use Rattle.answers.specs.Answers.{answered, events_of, value_of, count_of}
 use Rattle.calls.specs.Calls.{refusal, perform, begun}
@@ -192,7 +193,7 @@ pub every_row_differs : AllShown inputs × (has_all 0 differences inputs ≡ tru
 every_row_differs = (shown_rows.all_shown, shown.every_row)
 
 -- and what a bus error's trigger leaves, from the status and registers that it puts back
-pub trigger_from_the_manuals : (w : World) (F : Family) → family_of (kind_of (cpu_of w)) ≡ some F → InDomain (cpu_of (put_back w)) → Sound (regs_of (cpu_of (put_back w))) → (a : ℕ) (write i : Bool) (z : ℕ) (k : FaultCause)
+pub trigger_from_the_manuals : (w : World) (F : Family) → family_of (kind_of (cpu_of w)) ≡ some F → InDomain (cpu_of (put_back w)) → Sound (regs_of (cpu_of (put_back w))) → (a : ℕ) (write i : Bool) (z : ℕ) (k : Option FaultCause)
     → cause_number_of (cpu_of w) ≡ cause_number k → refusal w (TriggerBusError a write i z) ≡ 0 → is_faulted (cpu_of w) ≡ false → in_exception (cpu_of w) ≡ false
     → Clean (gist (put_back w)) (trigger_plan (cpu_of (put_back w)) a write i z (cause_number k))
     → Agrees differences (state_of (put_back w) F (ExceptionBusError a write i z k)) (exception bus_error 2 own) (put_back w) (perform w (TriggerBusError a write i z)).after

@@ -5,6 +5,7 @@ ghost use Rattle.cpu.specs.Fresh.{fresh_cpu, fresh_regs, fresh_flow, fresh_flags
 use crate::{Cpu, Fault, Flags, Flow, OptionalCode, OptionalVector, Queue, Regs, Resume};
 
 // A record as `new()` and then `set_cpu_type` leave it.
+#[tactic(auto, unfolding(crate::specs::Fresh::fresh_cpu))]
 pub fn fresh(kind: u8) -> Cpu
     ensures { result ≡ fresh_cpu kind }
 {
@@ -18,6 +19,7 @@ pub fn fresh(kind: u8) -> Cpu
     }
 }
 
+#[tactic(auto, unfolding(crate::specs::Fresh::fresh_regs))]
 fn fresh_regs() -> Regs
     ensures { result ≡ fresh_regs }
 {
@@ -28,6 +30,7 @@ fn fresh_regs() -> Regs
     }
 }
 
+#[tactic(auto, unfolding(crate::specs::Fresh::fresh_flow))]
 fn fresh_flow(kind: u8) -> Flow
     ensures { result ≡ fresh_flow kind }
 {
@@ -48,6 +51,7 @@ fn fresh_flow(kind: u8) -> Flow
 }
 
 // Supervisor state, all interrupts masked, Z clear.
+#[tactic(auto, unfolding(crate::specs::Fresh::fresh_flags))]
 fn fresh_flags() -> Flags
     ensures { result ≡ fresh_flags }
 {
@@ -67,6 +71,7 @@ fn fresh_flags() -> Flags
     }
 }
 
+#[tactic(auto, unfolding(crate::specs::Fresh::fresh_queue))]
 fn fresh_queue() -> Queue
     ensures { result ≡ fresh_queue }
 {
@@ -78,6 +83,7 @@ fn fresh_queue() -> Queue
     }
 }
 
+#[tactic(auto, unfolding(crate::specs::Fresh::fresh_fault))]
 fn fresh_fault() -> Fault
     ensures { result ≡ fresh_fault }
 {
@@ -99,6 +105,7 @@ fn fresh_fault() -> Fault
     }
 }
 
+#[tactic(auto, unfolding(crate::specs::Fresh::fresh_resume))]
 fn fresh_resume() -> Resume
     ensures { result ≡ fresh_resume }
 {

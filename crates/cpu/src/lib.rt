@@ -1,16 +1,18 @@
 // The record of the processor: the fields of `CpuCore` that the taken functions read or write, by their Rust names, in six
 // groups, and the one-step functions on it. Everything is by value: a function takes the record and hands it back. It uses
-// `types`; `status` and `pending` add the steps on the status and on what asks for an exception, and nobody above those three
-// stores to a field.
+// `types`; `status` and `pending` add the steps on the status and on what asks for an exception, and of the plain way nobody above
+// those three stores to a field.
 //
-// An option of the Rust is a struct with a flag and a value; where the flag is false the value means nothing. A fault cause is
-// a number here, 0 for none, so that the record crosses the C boundary. Masks follow from the kind and are no fields.
+// The record crosses C by value (`leaves`), so it has no Option and no enum, which have no layout there: an option of the Rust is a
+// struct with a flag and a value, where the flag is false the value means nothing; a fault cause is a number, 0 for none, and a kind is
+// one. Masks follow from the kind and are no fields.
 #![tactic(auto)]
 
 pub mod clocks; // clocks that wait to be reported, and the prefetch queue
 pub mod fields; // registers, flow and faults, one field at a time
 pub mod fresh; // a record as `new()` and `set_cpu_type` leave it
 
+// C: no Option has a layout there, and no generic struct.
 #[repr(C)]
 #[derive(Clone, Copy)]
 pub struct OptionalVector {
@@ -18,6 +20,7 @@ pub struct OptionalVector {
     pub value: u32,
 }
 
+// C: the same.
 #[repr(C)]
 #[derive(Clone, Copy)]
 pub struct OptionalCode {
@@ -67,6 +70,7 @@ pub struct Flags {
     pub sr_save: u16,
 }
 
+// C: two words of fixed memory, and how many of them are queued.
 #[repr(C)]
 #[derive(Clone, Copy)]
 pub struct Queue {
@@ -86,6 +90,7 @@ pub struct Fault {
     pub pending_fault_wdata: u32,
 }
 
+// C: the same, with what is kept for the end of a faulted instruction beside the flag.
 #[repr(C)]
 #[derive(Clone, Copy)]
 pub struct Resume {

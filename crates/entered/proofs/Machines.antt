@@ -15,7 +15,7 @@ use Rattle.refusals.specs.Refusals.{bad_store, bad_windows}
 use Rattle.answers.specs.declared.Call.{Call}
 use Rattle.answers.specs.declared.Call.TheVariants.{TakeException, Trap, TakeGroup2Exception, ExceptionChk, ExceptionZeroDivide, ExceptionPrivilege, ExceptionTrace, ExceptionAddressError, ExceptionBusError, TakeFpUnimp060, TakeFpDisabled060, TakeAlineException, TakeFlineException, TakeTrapException, TakeBkptException, TakeIllegalException, TriggerAddressError, TriggerBusError, CheckTrace, SetIrq, CheckInterrupts, CheckAndServiceInterrupts, Read16, Read32, Write16, Write32, Push16, Push32, PrefetchFirst, PrefetchSecond}
 use Rattle.answers.specs.Matters.{matter_of}
-use Rattle.answers.specs.declared.Answer.TheVariants.{Refused}
+use Rattle.answers.specs.Answer.{Refused}
 use Rattle.answers.specs.Answers.{answered, cycles}
 use Rattle.calls.specs.Calls.{run, begun, refusal, perform}
 use Rattle.forms.specs.Gist.{gist}

@@ -21,8 +21,8 @@ use Rattle.interrupts.specs.Interrupts.{check_and_service, serviced, service_int
 use Rattle.refusals.specs.Refusals.{bad_flags, odd_base, bad_code, bad_store, past_top, any_past, bad_windows}
 use Rattle.answers.specs.declared.Call.{Call}
 use Rattle.answers.specs.declared.Call.TheVariants.{TakeException, Trap, TakeGroup2Exception, ExceptionChk, ExceptionZeroDivide, ExceptionPrivilege, ExceptionTrace, ExceptionAddressError, ExceptionBusError, TakeFpUnimp060, TakeFpDisabled060, TakeAlineException, TakeFlineException, TakeTrapException, TakeBkptException, TakeIllegalException, TriggerAddressError, TriggerBusError, CheckTrace, SetIrq, CheckInterrupts, CheckAndServiceInterrupts, Read16, Read32, Write16, Write32, Push16, Push32, PrefetchFirst, PrefetchSecond}
-use Rattle.answers.specs.declared.Answer.{Answer}
-use Rattle.answers.specs.declared.Answer.TheVariants.{Cycles, Flag, Value, Done, Refused}
+use Rattle.answers.specs.Answer.{Answer}
+use Rattle.answers.specs.Answer.{Cycles, Flag, Value, Done, Refused}
 use Rattle.answers.specs.Answers.{Performed, cycles, flag, of_entry, of_service}
 use Rattle.calls.specs.Calls.{restarted, begun, refusal, perform}
 use Rattle.images.specs.Pushes.{calm}

@@ -17,6 +17,7 @@ pub struct Entered {
 }
 
 // The status as it was, an address and, on kinds with a format, a format word.
+#[tactic(auto, unfolding(crate::specs::Exceptions::stack_short, cpu::specs::Fields::kind_of))]
 pub fn stack_short(m: Core, store: &mut [u8], log: &mut [u32], pc: u32, format: u32) -> Core
     ensures { world result store.new log.new ≡ stack_short (world m store.old log.old) pc format }
 {
@@ -24,38 +25,45 @@ pub fn stack_short(m: Core, store: &mut [u8], log: &mut [u32], pc: u32, format: 
     let a = memory::with_cpu(m, status::banks::enter_supervisor(m.cpu));
     let k = m.cpu.flow.cpu_type;
     if k == types::M68000 {
-        return access::push_exception_frame_68000(a, store, log, pc, sr);
+        access::push_exception_frame_68000(a, store, log, pc, sr)
+    } else {
+        let f = formats::short_frame(u32::from(sr), pc, format);
+        access::push_frame(a, store, log, f)
     }
-    let f = formats::short_frame(sr as u32, pc, format);
-    access::push_frame(a, store, log, f)
 }
 
 // The frame of `take_exception`, the jump, and the end of exception processing.
+#[tactic(auto, unfolding(crate::specs::Exceptions::taken, crate::specs::Exceptions::finished))]
 fn stack_and_jump(m: Core, store: &mut [u8], log: &mut [u32], vector: u32) -> Core
     ensures { world result store.new log.new ≡ taken (world m store.old log.old) vector }
 {
     let pc = steps::stacked_address(m.cpu, vector);
     let format = formats::offset_word(vector);
-    let a = stack_short(m, store, log, pc, format as u32);
+    let a = stack_short(m, store, log, pc, u32::from(format));
     let b = access::jump_vector(a, store, log, vector);
     memory::with_cpu(b, cpu::fields::set_exception(b.cpu, false))
 }
 
 // An exception by its vector.
+#[tactic(auto, unfolding(crate::specs::Exceptions::take_exception, cpu::specs::Fields::in_exception))]
 pub fn take_exception(m: Core, store: &mut [u8], log: &mut [u32], vector: u32) -> Entered
     ensures { entry (world result.core store.new log.new) result.cycles ≡ take_exception (world m store.old log.old) vector }
 {
     if m.cpu.flow.exception_processing {
-        let h = memory::with_cpu(m, cpu::fields::halt(m.cpu));
-        return Entered { core: h, cycles: 0 };
+        return Entered {
+            core: memory::with_cpu(m, cpu::fields::halt(m.cpu)),
+            cycles: 0,
+        };
     }
     let a = memory::with_cpu(m, steps::begin_entry(m.cpu));
-    let d = stack_and_jump(a, store, log, vector);
-    let n = types::exception_cycles(vector);
-    Entered { core: d, cycles: n }
+    Entered {
+        core: stack_and_jump(a, store, log, vector),
+        cycles: types::exception_cycles(vector),
+    }
 }
 
 // The frame of a group 2 exception.
+#[tactic(auto, unfolding(crate::specs::Exceptions::stack_group2, cpu::specs::Fields::kind_of, cpu::specs::Fields::pc_of, cpu::specs::Fields::ppc_of))]
 fn stack_group2(m: Core, store: &mut [u8], log: &mut [u32], vector: u32) -> Core
     ensures { world result store.new log.new ≡ stack_group2 (world m store.old log.old) vector }
 {
@@ -63,30 +71,35 @@ fn stack_group2(m: Core, store: &mut [u8], log: &mut [u32], vector: u32) -> Core
     let k = m.cpu.flow.cpu_type;
     if types::is_pre_68020(k) {
         let format = formats::offset_word(vector);
-        return stack_short(m, store, log, pc, format as u32);
+        return stack_short(m, store, log, pc, u32::from(format));
     }
     let a = memory::with_cpu(m, status::banks::enter_supervisor(m.cpu));
     let sr = status::get_sr(m.cpu);
     let format = formats::format_word(2, vector);
-    let f = formats::long_frame(sr as u32, pc, format, m.cpu.flow.ppc);
+    let f = formats::long_frame(u32::from(sr), pc, format, m.cpu.flow.ppc);
     access::push_frame(a, store, log, f)
 }
 
 // A group 2 exception: CHK, TRAPV, zero divide, trace.
+#[tactic(auto, unfolding(crate::specs::Exceptions::take_group2))]
 pub fn take_group2_exception(m: Core, store: &mut [u8], log: &mut [u32], vector: u32) -> Entered
     ensures { entry (world result.core store.new log.new) result.cycles ≡ take_group2 (world m store.old log.old) vector }
 {
     let a = stack_group2(m, store, log, vector);
-    let d = access::jump_vector(a, store, log, vector);
-    let n = types::exception_cycles(vector);
-    Entered { core: d, cycles: n }
+    Entered {
+        core: access::jump_vector(a, store, log, vector),
+        cycles: types::exception_cycles(vector),
+    }
 }
 
+// The Rust has a name for each exception: each is one line here over the function that takes the vector.
+
 // TRAP #n.
+#[tactic(auto, unfolding(crate::specs::Exceptions::trap))]
 pub fn trap(m: Core, store: &mut [u8], log: &mut [u32], n: u8) -> Entered
     ensures { entry (world result.core store.new log.new) result.cycles ≡ trap (world m store.old log.old) n }
 {
-    take_exception(m, store, log, types::TRAP_BASE + (n % 16) as u32)
+    take_exception(m, store, log, types::TRAP_BASE + u32::from(n % 16))
 }
 
 // CHK.
@@ -111,6 +124,7 @@ pub fn exception_privilege(m: Core, store: &mut [u8], log: &mut [u32]) -> Entere
 }
 
 // Trace.
+#[tactic(auto, unfolding(crate::specs::Exceptions::exception_trace))]
 pub fn exception_trace(m: Core, store: &mut [u8], log: &mut [u32]) -> Entered
     ensures { entry (world result.core store.new log.new) result.cycles ≡ exception_trace (world m store.old log.old) }
 {
@@ -119,6 +133,7 @@ pub fn exception_trace(m: Core, store: &mut [u8], log: &mut [u32]) -> Entered
 }
 
 // An exception with PC back at the instruction.
+#[tactic(auto, unfolding(crate::specs::Exceptions::take_rewound))]
 fn take_rewound(m: Core, store: &mut [u8], log: &mut [u32], vector: u32) -> Entered
     ensures { entry (world result.core store.new log.new) result.cycles ≡ take_rewound (world m store.old log.old) vector }
 {
@@ -162,6 +177,7 @@ pub fn take_trap_exception(m: Core, store: &mut [u8], log: &mut [u32], n: u8) ->
 }
 
 // The frame of an unimplemented floating-point instruction.
+#[tactic(auto, unfolding(crate::specs::Exceptions::stack_unimp, cpu::specs::Fields::pc_of))]
 fn stack_unimp(m: Core, store: &mut [u8], log: &mut [u32], ea: u32) -> Core
     ensures { world result store.new log.new ≡ stack_unimp (world m store.old log.old) ea }
 {
@@ -169,22 +185,25 @@ fn stack_unimp(m: Core, store: &mut [u8], log: &mut [u32], ea: u32) -> Core
     let sr = status::get_sr(m.cpu);
     let pc = m.cpu.flow.pc;
     let format = formats::format_word(2, types::LINE_1111);
-    let f = formats::long_frame(sr as u32, pc, format, ea);
+    let f = formats::long_frame(u32::from(sr), pc, format, ea);
     access::push_frame(a, store, log, f)
 }
 
 // 68060: a floating-point instruction that is not implemented.
+#[tactic(auto, unfolding(crate::specs::Exceptions::take_fp_unimp060))]
 pub fn take_fp_unimp_060(m: Core, store: &mut [u8], log: &mut [u32], ea: u32) -> Entered
     ensures { entry (world result.core store.new log.new) result.cycles ≡ take_fp_unimp060 (world m store.old log.old) ea }
 {
     let b = memory::with_cpu(m, cpu::fields::note_fpiar(m.cpu));
     let a = stack_unimp(b, store, log, ea);
-    let d = access::jump_vector(a, store, log, types::LINE_1111);
-    let n = types::exception_cycles(types::LINE_1111);
-    Entered { core: d, cycles: n }
+    Entered {
+        core: access::jump_vector(a, store, log, types::LINE_1111),
+        cycles: types::exception_cycles(types::LINE_1111),
+    }
 }
 
 // The frame of a disabled floating-point unit.
+#[tactic(auto, unfolding(crate::specs::Exceptions::stack_disabled, cpu::specs::Fields::ppc_of))]
 fn stack_disabled(m: Core, store: &mut [u8], log: &mut [u32]) -> Core
     ensures { world result store.new log.new ≡ stack_disabled (world m store.old log.old) }
 {
@@ -192,16 +211,18 @@ fn stack_disabled(m: Core, store: &mut [u8], log: &mut [u32]) -> Core
     let sr = status::get_sr(m.cpu);
     let ppc = m.cpu.flow.ppc;
     let format = formats::format_word(4, types::LINE_1111);
-    let f = formats::disabled_frame(sr as u32, ppc, format, 0, ppc);
+    let f = formats::disabled_frame(u32::from(sr), ppc, format, 0, ppc);
     access::push_frame(a, store, log, f)
 }
 
 // 68060: the floating-point unit is disabled.
+#[tactic(auto, unfolding(crate::specs::Exceptions::take_fp_disabled060))]
 pub fn take_fp_disabled_060(m: Core, store: &mut [u8], log: &mut [u32]) -> Entered
     ensures { entry (world result.core store.new log.new) result.cycles ≡ take_fp_disabled060 (world m store.old log.old) }
 {
     let a = stack_disabled(m, store, log);
-    let d = access::jump_vector(a, store, log, types::LINE_1111);
-    let n = types::exception_cycles(types::LINE_1111);
-    Entered { core: d, cycles: n }
+    Entered {
+        core: access::jump_vector(a, store, log, types::LINE_1111),
+        cycles: types::exception_cycles(types::LINE_1111),
+    }
 }

@@ -1,3 +1,2 @@
-pub mod OwnWays
-pub mod Ways
-pub mod Writes
+mod Rooms
+mod Shapes

@@ -8,6 +8,7 @@ use Rattle.fast_plans.specs.declared.places.Spot.{Spot}
 use Rattle.fast.specs.declared.landings.Landing.{Landing}
 use Rattle.fast_plans.specs.declared.plans.Plan.{Plan}
 use Rattle.fast_plans.specs.Places.{fetches_of}
+use Rattle.fast_plans.specs.Plans.{shape_number}
 
 pub record Tape : Type 0 where
   pub store : List ℕ
@@ -84,20 +85,20 @@ acknowledged x p t = tape t.store (clocks_at 1 (waiting_of x p.clocks) (note_log
 
 unfoldable pub lay_at : View → Spot → Plan → Tape → Tape
 lay_at x s p t =
-    pick (p.shape == 6) (short_at s (clocks_count 1 (waiting_of x p.clocks)) p (acknowledged x p t))
-    (pick (p.shape == 2) (short_at s (first_number x p) p (after_clocks x p t))
-    (pick (p.shape == 3) (short_at s (first_number x p + 1) p (long_at s 8 (first_number x p) p.extra (after_clocks x p t)))
-    (pick (p.shape == 5) (four_at s (first_number x p) p (after_clocks x p t))
-    (pick (p.shape == 4) (old_at s (first_number x p) p (fetches_of x) (after_clocks x p t))
+    pick (shape_number p.shape == 6) (short_at s (clocks_count 1 (waiting_of x p.clocks)) p (acknowledged x p t))
+    (pick (shape_number p.shape == 2) (short_at s (first_number x p) p (after_clocks x p t))
+    (pick (shape_number p.shape == 3) (short_at s (first_number x p + 1) p (long_at s 8 (first_number x p) p.extra (after_clocks x p t)))
+    (pick (shape_number p.shape == 5) (four_at s (first_number x p) p (after_clocks x p t))
+    (pick (shape_number p.shape == 4) (old_at s (first_number x p) p (fetches_of x) (after_clocks x p t))
     (three_at s (first_number x p) p (after_clocks x p t))))))
 
 unfoldable pub lay_count : View → Plan → ℕ
 lay_count x p =
-    pick (p.shape == 6) (clocks_count 1 (waiting_of x p.clocks) + 3)
-    (pick (p.shape == 2) (first_number x p + 3)
-    (pick (p.shape == 3) (first_number x p + 4)
-    (pick (p.shape == 5) (first_number x p + 5)
-    (pick (p.shape == 4) (pick (fetches_of x) (first_number x p + 6) (first_number x p + 4))
+    pick (shape_number p.shape == 6) (clocks_count 1 (waiting_of x p.clocks) + 3)
+    (pick (shape_number p.shape == 2) (first_number x p + 3)
+    (pick (shape_number p.shape == 3) (first_number x p + 4)
+    (pick (shape_number p.shape == 5) (first_number x p + 5)
+    (pick (shape_number p.shape == 4) (pick (fetches_of x) (first_number x p + 6) (first_number x p + 4))
     (first_number x p + 3)))))
 
 -- the events of the jump

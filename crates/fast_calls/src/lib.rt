@@ -4,9 +4,11 @@
 #![tactic(auto)]
 
 use boundary::RawAnswer;
+use fast_plans::Way;
 use fast_return::ReturnPatch;
 use memory::Core;
 use numbers::RawCall;
+use refusals::Refusal;
 use unwind::Returned;
 
 mod patches; // a patch laid into the record
@@ -15,60 +17,40 @@ mod views; // what the fast way reads of the record
 ghost use Rattle.std.specs.Prelude.{◌≡◌};
 ghost use Rattle.memory.specs.World.{world};
 ghost use Rattle.boundary.specs.Calls.{outcome, raw_call};
-ghost use Rattle.unwind.specs.Unwind.{return_from};
-ghost use Rattle.fast_return.specs.Patch.{patch_returned};
+ghost use Rattle.std.specs.Prelude.{Ok};
+ghost use Rattle.unwind.specs.Unwind.{handed_back, return_from};
+ghost use Rattle.fast_return.specs.Patch.{going, patch_returned};
 
 // A call by number: `boundary::raw_call`.
 pub fn raw_call(m: Core, store: &mut [u8], log: &mut [u32], call: RawCall) -> RawAnswer
     ensures { outcome (world result.core store.new log.new) result.refused result.answer result.events ≡ raw_call (world m store.old log.old) call }
 {
-    let regs = m.cpu.regs;
-    let dar = regs.dar;
-    let sp = regs.sp;
-    let known = views::fits(
-        m.cpu.flow.pc,
-        m.cpu.flow.ppc,
-        m.cpu.queue.pending_sync_clocks,
-        dar,
-        sp,
-    );
-    let x = views::view(m);
-    let q = fast::go(x, call, store, log);
-    let fetched = views::words(q.first, q.second);
-    if q.fast {
-        let d = patches::patched(m, q);
-        return patches::said(d, q);
+    let q = fast::go(views::view(m), call, store, log);
+    match q.way {
+        Way::Entry => patches::said(patches::patched(m, q), q),
+        Way::Calm => patches::said(patches::calmed(m, q), q),
+        Way::Idle => patches::said(m, q),
+        Way::Plain => boundary::raw_call(m, store, log, call),
     }
-    if q.calm {
-        let d = patches::calmed(m, q);
-        return patches::said(d, q);
-    }
-    if q.idle {
-        return patches::said(m, q);
-    }
-    boundary::raw_call(m, store, log, call)
 }
 
 // The return by the patch of one that was tried and goes.
+#[tactic(auto, unfolding(fast_return::specs::Patch::patch_returned))]
 fn returned_by(m: Core, q: ReturnPatch) -> Returned
-    ensures { result ≡ patch_returned m q }
+    ensures { handed_back m (Ok result) ≡ patch_returned m (going q) }
 {
-    let d = fast_return::patched(m, q);
-    let w = q.row;
     Returned {
-        core: d,
-        refused: 0,
-        row: w,
+        core: fast_return::patched(m, q),
+        row: q.row,
     }
 }
 
 // The return: `unwind::return_from`.
-pub fn return_from(m: Core, store: &[u8]) -> Returned
-    ensures { result ≡ return_from m store.now }
+pub fn return_from(m: Core, store: &[u8]) -> Result<Returned, Refusal>
+    ensures { handed_back m result ≡ return_from m store.now }
 {
-    let q = fast_return::try_return(m, store);
-    if q.ok {
-        return returned_by(m, q);
+    match fast_return::try_return(m, store) {
+        Some(q) => Ok(returned_by(m, q)),
+        None => unwind::return_from(m, store),
     }
-    unwind::return_from(m, store)
 }

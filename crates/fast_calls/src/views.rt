@@ -1,23 +1,21 @@
 // What the fast way reads of the record and its bus.
-ghost use Rattle.std.specs.Prelude.{◌≡◌, ◌<◌, ◌^◌, length};
+ghost use Rattle.std.specs.Prelude.{◌≡◌};
 ghost use Rattle.fast_plans.specs.Views.{view_of};
+ghost use Rattle.fast_laws.specs.Patched.{Words};
 
 use fast_plans::View;
 use memory::Core;
 
+#[tactic(auto, unfolding(fast_plans::specs::Views::view_of))]
 pub(crate) fn view(m: Core) -> View
-    ensures { result ≡ view_of m }
+    ensures { (result ≡ view_of m) × Words m }
 {
-    let room = pending::interrupts::has_cycles(m.cpu);
-    let regs = m.cpu.regs;
-    let flags = m.cpu.flags;
-    let responses = m.bus.responses;
     View {
         kind: m.cpu.flow.cpu_type,
-        flags: flags,
-        a7: regs.dar[15],
-        user: regs.sp[0],
-        interrupt: regs.sp[4],
+        flags: m.cpu.flags,
+        a7: m.cpu.regs.dar[15],
+        user: m.cpu.regs.sp[0],
+        interrupt: m.cpu.regs.sp[4],
         pc: m.cpu.flow.pc,
         ppc: m.cpu.flow.ppc,
         vbr: m.cpu.flow.vbr,
@@ -25,26 +23,13 @@ pub(crate) fn view(m: Core) -> View
         stopped: m.cpu.flow.stopped,
         exception: m.cpu.flow.exception_processing,
         change_of_flow: m.cpu.flow.change_of_flow,
-        room: room,
+        room: pending::interrupts::has_cycles(m.cpu),
         clocks: m.cpu.queue.pending_sync_clocks,
         precise: m.cpu.queue.precise_bus,
         overridden: m.cpu.fault.mmu_fc_override.some,
         base: m.bus.base,
         windows: m.bus.windows,
-        responses: responses,
+        responses: m.bus.responses,
         events: m.bus.events,
     }
-}
-
-// What is true of these by their types.
-pub(crate) fn fits(pc: u32, ppc: u32, clocks: u32, dar: [u32; 16], sp: [u32; 8]) -> bool
-    ensures { (pc < 2 ^ 32) × (ppc < 2 ^ 32) × (clocks < 2 ^ 32) × (15 < length dar) × (7 < length sp) }
-{
-    true
-}
-
-pub(crate) fn words(first: u16, second: u16) -> bool
-    ensures { (first < 0x10000) × (second < 0x10000) }
-{
-    true
 }

@@ -1,3 +1,1 @@
-pub mod RowWays
-pub mod Lays
-pub mod Ways
+mod Lays

@@ -1,5 +1,5 @@
 -- A world and two calls that the fast way takes, so that the theorems of Matched speak of something.
-use Rattle.std.specs.Prelude.{ℕ, ◌<◌, ◌≡◌, refl, true, List, [], replicate}
+use Rattle.std.specs.Prelude.{ℕ, ◌≡◌, refl, true, List, [], replicate}
 use Rattle.std.proofs.Common.{lit<}
 use Rattle.types.specs.Kinds.{is_pre68020, is040, is060, is_prefetch_kind}
 use Rattle.cpu.specs.Fields.{set_a7}
@@ -12,8 +12,9 @@ use Rattle.fast_plans.specs.Places.{fetches_of, top_of, spot_of}
 use Rattle.fast.specs.Landings.{meets, queued_of, vector_at, landing_of}
 use Rattle.fast_laws.specs.Patched.{Words}
 use Rattle.fast_frames.specs.Rows.{bus_bytes, bus_row, disabled_row, row_of}
-use Rattle.fast_frames.specs.Entries.{patch_for, written_of, land_of, place_of, enter_of, go_of}
+use Rattle.fast_frames.specs.Entries.{patch_for, written_of, land_of, place_of, enter_of, enter_by, go_of}
 use Rattle.fast_frames.specs.Matched.{went_by}
+use Rattle.fast_plans.specs.Quiet.{is_entry}
 
 -- a fresh processor of a kind with A7 at 128, 256 bytes from 0 on and no window
 unfoldable pub board : ℕ → Core
@@ -31,10 +32,10 @@ unfolding board set_a7 fresh_cpu fresh_flow fresh_regs fresh_queue
 board_words kind = record { registers = lit< tt; pointers = lit< tt; pc = lit< tt; ppc = lit< tt; clocks = lit< tt }
 
 -- a bus error on a 68040, and a disabled floating-point unit on a 68060
-pub bus_enters : (went_by (board 9) (call 9) bytes (replicate 192 0)).patch.fast ≡ true
-unfolding board set_a7 fresh_cpu fresh_flow fresh_regs fresh_flags fresh_queue fresh_fault is_prefetch_kind is_pre68020 is040 is060 put_long put_word get_long get_word view_of span_of is_other accepts_of fetches_of top_of spot_of meets queued_of vector_at landing_of bus_bytes bus_row disabled_row row_of patch_for written_of land_of place_of enter_of go_of
+pub bus_enters : is_entry (went_by (board 9) (call 9) bytes (replicate 192 0)).patch.way ≡ true
+unfolding board set_a7 fresh_cpu fresh_flow fresh_regs fresh_flags fresh_queue fresh_fault is_prefetch_kind is_pre68020 is040 is060 put_long put_word get_long get_word view_of span_of is_other accepts_of fetches_of top_of spot_of meets queued_of vector_at landing_of bus_bytes bus_row disabled_row row_of patch_for written_of land_of place_of enter_of enter_by go_of
 bus_enters = refl
 
-pub disabled_enters : (went_by (board 11) (call 11) bytes (replicate 192 0)).patch.fast ≡ true
-unfolding board set_a7 fresh_cpu fresh_flow fresh_regs fresh_flags fresh_queue fresh_fault is_prefetch_kind is_pre68020 is040 is060 put_long put_word get_long get_word view_of span_of is_other accepts_of fetches_of top_of spot_of meets queued_of vector_at landing_of bus_bytes bus_row disabled_row row_of patch_for written_of land_of place_of enter_of go_of
+pub disabled_enters : is_entry (went_by (board 11) (call 11) bytes (replicate 192 0)).patch.way ≡ true
+unfolding board set_a7 fresh_cpu fresh_flow fresh_regs fresh_flags fresh_queue fresh_fault is_prefetch_kind is_pre68020 is040 is060 put_long put_word get_long get_word view_of span_of is_other accepts_of fetches_of top_of spot_of meets queued_of vector_at landing_of bus_bytes bus_row disabled_row row_of patch_for written_of land_of place_of enter_of enter_by go_of
 disabled_enters = refl

@@ -1,5 +1,5 @@
 -- Which entries have their frame as data, and the frames.
-use Rattle.std.specs.Prelude.{ℕ, ◌%◌, Bool, not, eqb}
+use Rattle.std.specs.Prelude.{ℕ, ◌%◌, Bool, not, eqb, Some, None, Option}
 use Rattle.types.specs.Kinds.{pick, either, is_pre68020, is040, is060}
 use Rattle.types.specs.Vectors.{bus_error_vector, line1111}
 use Rattle.types.specs.Causes.{cause_number, cause_of}
@@ -18,25 +18,29 @@ use Rattle.fast_frames.specs.declared.rows.FrameRow.{FrameRow}
 abbrev pub row : ℕ → ℕ → ℕ → FrameRow
 row n v a = record { bytes = n; vector = v; answer = a }
 
--- the bytes of a bus error's frame where all of it is guarded, or 0
-unfoldable pub bus_bytes : ℕ → ℕ
-bus_bytes kind = pick (is_pre68020 kind) 0 (pick (is060 kind) 16 (pick (is040 kind) 60 92))
+-- the bytes of a bus error's frame where all of it is guarded
+unfoldable pub bus_bytes : ℕ → Option ℕ
+bus_bytes kind = pick (is_pre68020 kind) None (pick (is060 kind) (Some 16) (pick (is040 kind) (Some 60) (Some 92)))
 
 -- a bus error, where the record keeps no function code
-unfoldable pub bus_row : ℕ → ℕ → FrameRow
-bus_row kind code = pick (eqb code 0) (row (bus_bytes kind) bus_error_vector 50) (row 0 0 0)
+abbrev pub bus_sized : Option ℕ → Option FrameRow
+bus_sized None = None
+bus_sized (Some n) = Some (row n bus_error_vector 50)
+
+unfoldable pub bus_row : ℕ → ℕ → Option FrameRow
+bus_row kind code = pick (eqb code 0) (bus_sized (bus_bytes kind)) None
 
 -- the calls that such an entry may be
 abbrev pub is_framed : ℕ → Bool
 is_framed number = either (eqb number 9) (eqb number 11)
 
 -- a floating-point unit that is disabled, on the 68060 alone
-unfoldable pub disabled_row : ℕ → FrameRow
-disabled_row kind = pick (is060 kind) (row 16 line1111 34) (row 0 0 0)
+unfoldable pub disabled_row : ℕ → Option FrameRow
+disabled_row kind = pick (is060 kind) (Some (row 16 line1111 34)) None
 
 -- the entry of a call by number, on a kind, with what the record keeps as function code
-unfoldable pub row_of : ℕ → ℕ → ℕ → FrameRow
-row_of number kind code = pick (eqb number 9) (bus_row kind code) (pick (eqb number 11) (disabled_row kind) (row 0 0 0))
+unfoldable pub row_of : ℕ → ℕ → ℕ → Option FrameRow
+row_of number kind code = pick (eqb number 9) (bus_row kind code) (pick (eqb number 11) (disabled_row kind) None)
 
 -- a record with what a frame is made of, and fresh else
 unfoldable pub bare_cpu : View → ℕ → Cpu

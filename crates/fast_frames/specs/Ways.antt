@@ -1,5 +1,5 @@
 -- An entry whose frame is data: where the fast way makes it, it says what the frame and the jump of the plain call leave.
-use Rattle.std.specs.Prelude.{ℕ, zero, suc, ◌+◌, ◌-◌, ◌^◌, ◌<◌, ◌≡◌, Bool, true, false, ltb}
+use Rattle.std.specs.Prelude.{ℕ, zero, suc, ◌+◌, ◌-◌, ◌^◌, ◌<◌, ◌≡◌, Bool, true, ltb, Some, None, Option}
 use Rattle.std.proofs.Math.Path.{refl, ap}
 use Rattle.std.proofs.Common.{sym, ◌∙◌, arith}
 use mathlib.Core.List.{List}
@@ -34,18 +34,19 @@ use Rattle.fast_plans.specs.Views.{view_of}
 use Rattle.fast_plans.specs.Places.{fetches_of, top_of, user_of, spot, spot_of}
 use Rattle.fast.specs.Landings.{landing_of}
 use Rattle.fast.specs.Stacks.{jump_at, jump_count}
-use Rattle.fast_plans.specs.Quiet.{no_patch}
-use Rattle.fast.specs.Patches.{Ended, ended}
+use Rattle.fast_plans.specs.Quiet.{no_patch, is_entry}
+use Rattle.fast.specs.Patches.{Ended}
 use Rattle.fast_laws.specs.Patched.{patch_cpu, Words, Fetched}
-use Rattle.fast_laws.specs.Accepts.{Accepted}
+use Rattle.fast_laws.specs.Accepts.{false_true, Accepted}
 use Rattle.fast_laws.specs.Supervised.{top_at, user_at, Fitting, Plain}
 use Rattle.fast_laws.proofs.Supervised.{plain_patched}
-use Rattle.fast_laws.specs.Placed.{Spotted, spotted, Landed, landed_by, enters}
+use Rattle.fast_laws.specs.Placed.{Spotted, spotted, Landed, landed_by, landing_at, enters}
 use Rattle.fast_laws.specs.Tapes.{clocks_told, clocks_counted, jump_told, jump_counted}
-use Rattle.fast_laws.specs.Ways.{ended_step, same_world, Says, clear_of_lem}
+use Rattle.fast_laws.specs.Ways.{same_world, Says, clear_of_lem}
 use Rattle.fast_frames.specs.declared.rows.FrameRow.{FrameRow}
 use Rattle.fast_frames.specs.Entries.{patch_for, first_number, framed_of, frame_log, written_of, land_of, place_of, enter_of}
 use Rattle.fast_frames.specs.Laws.{Fitted}
+use Rattle.std.proofs.lemmas.Option.{same_Some}
 
 -- ---- where the fast way makes an entry, it writes it
 
@@ -56,16 +57,12 @@ abbrev pub spot_for : View → FrameRow → Spot
 spot_for x r = spot (top_of x - r.bytes) (place_at x r)
 
 abbrev pub landing_for : View → FrameRow → List ℕ → Landing
-landing_for x r s = landing_of x s r.vector (place_at x r) r.bytes
+landing_for x r s = landing_at x s r.vector (place_at x r) r.bytes
 
 pub record Entered (x : View) (r : FrameRow) (f : Frame) (s l : List ℕ) : Type 0 where
   pub spot : Spotted x (length s) r.bytes
   pub landing : Landed x s r.vector (place_at x r) r.bytes
   pub same : enter_of x r f s l ≡ written_of x r f (spot_for x r) (landing_for x r s) s l
-
-none_fast : (s l : List ℕ) → (ended no_patch s l).patch.fast ≡ false
-unfolding no_patch
-none_fast s l = refl
 
 fetched_in : (a b : Ended) → a ≡ b → Fetched a.patch → Fetched b.patch
 fetched_in a b e h = rw e at h
@@ -74,16 +71,24 @@ written_fetched : (x : View) (r : FrameRow) (f : Frame) (s : Spot) (j : Landing)
 unfolding written_of patch_for
 written_fetched x r f s j m l h = h
 
-pub entered_by_lem : (x : View) (r : FrameRow) (f : Frame) (s l : List ℕ) → Fetched (enter_of x r f s l).patch → (enter_of x r f s l).patch.fast ≡ true → Entered x r f s l
-unfolding enter_of place_of land_of
-entered_by_lem x r f s l w e =
-    let S : Spot = spot_of x (length s) r.bytes in
-    let a = ended_step S.ok (land_of x r f S (landing_of x s r.vector S.place r.bytes) s l) (ended no_patch s l) (none_fast s l) e in
-    let g : Spotted x (length s) r.bytes = spotted x (length s) r.bytes a.0 in
-    let b = ended_step (landing_for x r s).ok (written_of x r f (spot_for x r) (landing_for x r s) s l) (ended no_patch s l) (none_fast s l) (rw g.same at a.1) in
-    let z : enter_of x r f s l ≡ written_of x r f (spot_for x r) (landing_for x r s) s l = a.2 ∙ ap (λ (z : Spot). land_of x r f z (landing_of x s r.vector z.place r.bytes) s l) g.same ∙ b.2 in
-    let v : ((landing_for x r s).first < 0x10000) × ((landing_for x r s).second < 0x10000) = written_fetched x r f (spot_for x r) (landing_for x r s) s l (fetched_in (enter_of x r f s l) (written_of x r f (spot_for x r) (landing_for x r s) s l) z w) in
-    record { spot = g; landing = landed_by x s r.vector (place_at x r) r.bytes v b.0; same = z }
+pub entered_by_lem : (x : View) (r : FrameRow) (f : Frame) (s l : List ℕ) → Fetched (enter_of x r f s l).patch → is_entry (enter_of x r f s l).patch.way ≡ true → Entered x r f s l
+unfolding enter_of place_of land_of no_patch
+entered_by_lem x r f s l w e = go (spot_of x (length s) r.bytes) refl e
+  where
+    made : (y : Spot) → spot_of x (length s) r.bytes ≡ Some y → (o : Option Landing) → landing_of x s r.vector y.place r.bytes ≡ o → is_entry (land_of x r f y o s l).patch.way ≡ true → Entered x r f s l
+    made y d None k z = false_true _ z
+    made y d (Some j) k z =
+        let g : Spotted x (length s) r.bytes = spotted x (length s) r.bytes y d in
+        let i : y ≡ spot_for x r = same_Some _ _ (sym d ∙ g.same) in
+        let q : enter_of x r f s l ≡ written_of x r f y j s l = rw (d, k) refl in
+        let v : (j.first < 0x10000) × (j.second < 0x10000) = written_fetched x r f y j s l (fetched_in (enter_of x r f s l) (written_of x r f y j s l) q w) in
+        let h : Landed x s r.vector (place_at x r) r.bytes = landed_by x s r.vector (place_at x r) r.bytes j v (rw i at k) in
+        let u : j ≡ landing_for x r s = same_Some _ _ (sym (rw i at k) ∙ h.same) in
+        record { spot = g; landing = h; same = q ∙ rw (i, u) refl }
+
+    go : (o : Option Spot) → spot_of x (length s) r.bytes ≡ o → is_entry (place_of x r f o s l).patch.way ≡ true → Entered x r f s l
+    go None d z = false_true _ z
+    go (Some y) d z = made y d (landing_of x s r.vector y.place r.bytes) refl z
 
 -- ---- the frame and the jump where nothing faults
 

@@ -8,7 +8,7 @@ use fast_plans::View;
 use frames::Frame;
 use numbers::RawCall;
 
-// An entry: the bytes of its frame, all of whose fields are guarded, or 0; its vector and the cycles that it answers.
+// An entry: the bytes of its frame, all of whose fields are guarded, its vector and the cycles that it answers.
 #[derive(Clone, Copy)]
 pub struct FrameRow {
     pub bytes: u32,
@@ -20,111 +20,110 @@ fn row(bytes: u32, vector: u32, answer: u32) -> FrameRow
     ensures { result ≡ row bytes vector answer }
 {
     FrameRow {
-        bytes: bytes,
-        vector: vector,
-        answer: answer,
+        bytes,
+        vector,
+        answer,
     }
 }
 
-// The bytes of a bus error's frame; 0 where it is written raw.
-fn bus_bytes(kind: u8) -> u32
+// The bytes of a bus error's frame; none where it is written raw.
+#[tactic(auto, unfolding(crate::specs::Rows::bus_bytes))]
+fn bus_bytes(kind: u8) -> Option<u32>
     ensures { result ≡ bus_bytes kind }
 {
     if types::is_pre_68020(kind) {
-        return 0;
+        None
+    } else if types::is_060(kind) {
+        Some(16)
+    } else if types::is_040(kind) {
+        Some(60)
+    } else {
+        Some(92)
     }
-    if types::is_060(kind) {
-        return 16;
-    }
-    if types::is_040(kind) {
-        return 60;
-    }
-    92
 }
 
 // A bus error leaves 0 where the record keeps a function code, also where none stands in: a record with another number there goes the plain way.
-fn bus_row(kind: u8, code: u8) -> FrameRow
+#[tactic(auto, unfolding(crate::specs::Rows::bus_row))]
+fn bus_row(kind: u8, code: u8) -> Option<FrameRow>
     ensures { result ≡ bus_row kind code }
 {
-    if code == 0 {
-        let n = bus_bytes(kind);
-        return row(n, types::BUS_ERROR, 50);
+    if code != 0 {
+        return None;
     }
-    row(0, 0, 0)
+    Some(row(bus_bytes(kind)?, types::BUS_ERROR, 50))
 }
 
 // Whether the entry of a call by number has its frame as data.
 pub fn is_framed(number: u32) -> bool
     ensures { result ≡ is_framed number }
 {
-    if number == 9 {
-        return true;
-    }
-    number == 11
+    number == 9 || number == 11
 }
 
 // A floating-point unit that is disabled, on the 68060 alone.
-fn disabled_row(kind: u8) -> FrameRow
+#[tactic(auto, unfolding(crate::specs::Rows::disabled_row))]
+fn disabled_row(kind: u8) -> Option<FrameRow>
     ensures { result ≡ disabled_row kind }
 {
     if types::is_060(kind) {
-        return row(16, types::LINE_1111, 34);
+        Some(row(16, types::LINE_1111, 34))
+    } else {
+        None
     }
-    row(0, 0, 0)
 }
 
 // The entry of a call by number: a further entry is a row here and a frame below.
-pub(crate) fn row_of(number: u32, kind: u8, code: u8) -> FrameRow
+#[tactic(auto, unfolding(crate::specs::Rows::row_of))]
+pub(crate) fn row_of(number: u32, kind: u8, code: u8) -> Option<FrameRow>
     ensures { result ≡ row_of number kind code }
 {
-    if number == 9 {
-        return bus_row(kind, code);
+    match number {
+        9 => bus_row(kind, code),
+        11 => disabled_row(kind),
+        _ => None,
     }
-    if number == 11 {
-        return disabled_row(kind);
-    }
-    row(0, 0, 0)
 }
 
 fn cause(n: u32) -> u8
     ensures { result ≡ cause_number (cause_of (n % 256)) }
 {
-    let x = types::cause_of((n % 256) as u8);
-    types::cause_number(x)
+    types::cause_number(types::cause_of((n % 256) as u8))
 }
 
 // A record with what a frame is made of, and fresh else: nothing else of a record is read, so nothing else is copied.
+#[tactic(auto, unfolding(crate::specs::Rows::bare_cpu, cpu::specs::Setters::with_ppc, cpu::specs::Setters::with_pending_fault_wdata, cpu::specs::Groups::with_flags))]
 fn bare(x: View, wdata: u32) -> Cpu
     ensures { result ≡ bare_cpu x wdata }
 {
-    let c = cpu::fresh::fresh(x.kind);
-    let mut flow = c.flow;
-    flow.ppc = x.ppc;
-    let mut fault = c.fault;
-    fault.pending_fault_wdata = wdata;
-    let flags = x.flags;
-    let mut d = c;
-    d.flow = flow;
-    d.flags = flags;
-    d.fault = fault;
-    d
+    let mut c = cpu::fresh::fresh(x.kind);
+    c.flow.ppc = x.ppc;
+    c.flags = x.flags;
+    c.fault.pending_fault_wdata = wdata;
+    c
 }
 
+#[tactic(auto, unfolding(crate::specs::Rows::bus_frame_of))]
 fn bus_frame(x: View, wdata: u32, call: RawCall) -> Frame
     ensures { result ≡ bus_frame_of x wdata call }
 {
-    let why = cause(call.e);
-    let c = bare(x, wdata);
-    frames::bus_frame(c, call.a, call.b != 0, call.c != 0, call.d, why)
+    frames::bus_frame(
+        bare(x, wdata),
+        call.a,
+        call.b != 0,
+        call.c != 0,
+        call.d,
+        cause(call.e),
+    )
 }
 
 // The frame of a call by number.
+#[tactic(auto, unfolding(crate::specs::Rows::frame_of))]
 pub(crate) fn frame_of(x: View, wdata: u32, call: RawCall) -> Frame
     ensures { result ≡ frame_of x wdata call }
 {
     if call.number == 9 {
-        return bus_frame(x, wdata, call);
+        bus_frame(x, wdata, call)
+    } else {
+        formats::disabled_frame(status::compose(x.flags) as u32, x.ppc, 0x402C, 0, x.ppc)
     }
-    let sr = status::compose(x.flags) as u32;
-    formats::disabled_frame(sr, x.ppc, 0x402C, 0, x.ppc)
 }

@@ -7,6 +7,7 @@ ghost use Rattle.fast.specs.Stacks.{clocks_at, clocks_count, jump_at, jump_count
 
 use fast::landings::Landing;
 
+#[tactic(auto, unfolding(memory::specs::Bytes::put_word))]
 pub(crate) fn put_word(store: &mut [u8], at: usize, v: u32)
     requires { (at + 2 ≤ length store.old) × (v < 0x10000) }
     ensures { store.new ≡ put_word store.old at v }
@@ -15,6 +16,7 @@ pub(crate) fn put_word(store: &mut [u8], at: usize, v: u32)
     store[at + 1] = (v % 256) as u8;
 }
 
+#[tactic(auto, unfolding(memory::specs::Bytes::put_long))]
 pub(crate) fn put_long(store: &mut [u8], at: usize, v: u32)
     requires { at + 4 ≤ length store.old }
     ensures { store.new ≡ put_long store.old at v }
@@ -24,6 +26,7 @@ pub(crate) fn put_long(store: &mut [u8], at: usize, v: u32)
 }
 
 // Event number n: number 7 asks for room for 64.
+#[tactic(auto, unfolding(memory::specs::Log::note_log))]
 pub(crate) fn event(log: &mut [u32], n: u32, code: u32, address: u32, value: u32)
     requires { (n < 64) × (192 ≤ length log.old) }
     ensures { log.new ≡ note_log n log.old code address value }
@@ -35,9 +38,10 @@ pub(crate) fn event(log: &mut [u32], n: u32, code: u32, address: u32, value: u32
 }
 
 // Clocks that wait are told; how many events there are then.
+#[tactic(auto, unfolding(fast::specs::Stacks::clocks_at, fast::specs::Stacks::clocks_count))]
 pub(crate) fn tell_clocks(log: &mut [u32], n: u32, clocks: u32) -> u32
     requires { (n < 64) × (192 ≤ length log.old) }
-    ensures { (result ≡ clocks_count n clocks) × (log.new ≡ clocks_at n clocks log.old) }
+    ensures { (result ≡ clocks_count n clocks) × (result ≤ n + 1) × (log.new ≡ clocks_at n clocks log.old) }
 {
     if 0 < clocks {
         event(log, n, 5, 0, clocks);
@@ -47,6 +51,7 @@ pub(crate) fn tell_clocks(log: &mut [u32], n: u32, clocks: u32) -> u32
 }
 
 // The events of the jump, from event n on; how many there are then.
+#[tactic(auto, unfolding(fast::specs::Stacks::jump_at, fast::specs::Stacks::jump_count))]
 pub(crate) fn tell_jump(log: &mut [u32], n: u32, l: Landing, fetched: bool) -> u32
     requires { (n + 5 ≤ 64) × (fetched ≡ true → l.pc + 2 < 0x100000000) × (192 ≤ length log.old) }
     ensures { (result ≡ jump_count n fetched) × (log.new ≡ jump_at n l fetched log.old) }

@@ -11,7 +11,7 @@ use Rattle.status.specs.Status.{get_sr}
 use Rattle.memory.specs.declared.Core.{Core}
 use Rattle.memory.specs.World.{world}
 use Rattle.exceptions.specs.Exceptions.{Entry, take_group2, exception_trace}
-use Rattle.answers.specs.Answers.{cycles, of_entry}
+use Rattle.answers.specs.Answers.{of_entry}
 use Rattle.numbers.specs.declared.RawCall.{RawCall}
 use Rattle.boundary.specs.Calls.{of_performed, raw_call}
 use Rattle.unfaulted.specs.Closed.{closed, clocks_after}
@@ -31,12 +31,14 @@ use Rattle.fast_laws.specs.Supervised.{Plain, stop_clear, stop_fitting, stop_pat
 use Rattle.fast_laws.proofs.Supervised.{plain_patched}
 use Rattle.fast_laws.specs.Ways.{waiting_none, fetched_in, spot_for, landing_for, Entered, entered_by_lem, Says, clear_of_lem, fitting_of}
 use Rattle.fast_laws.specs.Grouped.{Group, group_entering, group_same}
+use Rattle.fast_plans.specs.Quiet.{is_entry}
+use Rattle.fast_plans.specs.declared.plans.Maker.TheVariants.{Group2, Trace}
 
 -- ---- group 2
 
 module _ (m : Core) (s l : List ℕ) (w : Words m) (a : Accepted m (length s) (length l)) (c : RawCall) (bs : Fetched (go_of (view_of m) c s l).patch) where
   abbrev way2 : ℕ → Plan
-  way2 v = entry_plan (view_of m) (row 2 v false)
+  way2 v = entry_plan (view_of m) (row Group2 v false)
 
   group2_plan_lem : (v : ℕ) → Group m (way2 v) v
   unfolding entry_plan is_long address_of view_of kind_of get_sr pc_of ppc_of
@@ -50,7 +52,7 @@ module _ (m : Core) (s l : List ℕ) (w : Words m) (a : Accepted m (length s) (l
   unfolding entry_plan
   group2_clocks v = waiting_none m w
 
-  pub group2_same : (v : ℕ) → v < 256 → go_of (view_of m) c s l ≡ enter_of (view_of m) (way2 v) s l → (enter_of (view_of m) (way2 v) s l).patch.fast ≡ true
+  pub group2_same : (v : ℕ) → v < 256 → go_of (view_of m) c s l ≡ enter_of (view_of m) (way2 v) s l → is_entry (enter_of (view_of m) (way2 v) s l).patch.way ≡ true
       → raw_call (world m s l) c ≡ of_performed (of_entry (take_group2 (closed m.bus m.cpu 0 s l) v)) → Says m c s l (go_of (view_of m) c s l)
   group2_same v h e f r =
       let x : View = view_of m in
@@ -66,7 +68,7 @@ module _ (m : Core) (s l : List ℕ) (w : Words m) (a : Accepted m (length s) (l
   -- ---- the trace
 
   abbrev way3 : Plan
-  way3 = entry_plan (view_of m) (row 3 9 false)
+  way3 = entry_plan (view_of m) (row Trace 9 false)
 
   trace_plan_lem : Group m way3 9
   unfolding entry_plan is_long address_of view_of kind_of get_sr pc_of ppc_of
@@ -80,7 +82,7 @@ module _ (m : Core) (s l : List ℕ) (w : Words m) (a : Accepted m (length s) (l
   unfolding entry_plan waiting_of clocks_after fetches_of view_of prefetch_enabled clocks_of
   trace_clocks = refl
 
-  pub trace_same : go_of (view_of m) c s l ≡ enter_of (view_of m) way3 s l → (enter_of (view_of m) way3 s l).patch.fast ≡ true
+  pub trace_same : go_of (view_of m) c s l ≡ enter_of (view_of m) way3 s l → is_entry (enter_of (view_of m) way3 s l).patch.way ≡ true
       → raw_call (world m s l) c ≡ of_performed (of_entry (exception_trace (closed m.bus m.cpu 0 s l))) → Says m c s l (go_of (view_of m) c s l)
   trace_same e f r =
       let x : View = view_of m in

@@ -40,12 +40,13 @@ use Rattle.unfaulted.specs.Closed.{closed, told, Piece, laid, last_value, writes
 use Rattle.unfaulted.proofs.Serviced.{interrupt_other, interrupt_68010, interrupt_68000}
 use Rattle.unfaulted.specs.Written.{four_store, three_store, four_log, log68000_off, log68000_on, clocks_count_lem}
 use Rattle.unfaulted.proofs.Written.{entry_log, entry_count, other_log, other_count, log68010, count68010, count68000}
-use Rattle.fast_plans.specs.Plans.{takes, response_to, vector_of, interrupt_plan}
+use Rattle.fast_plans.specs.Plans.{response_to, vector_of, interrupt_plan, shape_number}
 use Rattle.fast.specs.Stacks.{Tape, tape, word_at, event_at, short_at, three_at, four_at, old_at, old_from, sync_at, sync_count, waiting_of, clocks_count, clocks_at, lay_at, lay_count, jump_at, jump_count}
 use Rattle.fast_laws.proofs.Supervised.{Interrupting, interrupt_patched}
 use Rattle.fast_laws.specs.Tapes.{clocks_told, clocks_counted, jump_told, jump_counted, Laid, short_laid}
 use Rattle.fast_laws.specs.Ways.{waiting_none, fetched_in, place_at, spot_for, landing_for, Entered, entered_by_lem, Says, same_world, clear_of_lem, entering_of, fitting_of}
 use Rattle.fast_laws.specs.Interrupted.{Told}
+use Rattle.fast_plans.specs.Quiet.{is_entry}
 
 served_said : (b : Bus) (c : Cpu) (e : ℕ) (s l : List ℕ) → of_performed (of_service (tried (closed b c e s l) true)) ≡ outcome (closed b c e s l) 0 1 e
 unfolding of_performed of_service flag closed refused_by value_of count_of
@@ -130,7 +131,7 @@ module _ (m : Core) (s l : List ℕ) (p : Plan) where
 
   -- the plan's own numbers
   pub record Asks (n : ℕ) : Type 0 where
-    pub shaped : p.shape ≡ n
+    pub shaped : shape_number p.shape ≡ n
     pub status : p.sr ≡ get_sr m.cpu
     pub address : p.pc ≡ pc_of m.cpu
     pub leveled : p.level ≡ level
@@ -269,7 +270,7 @@ unfolding m_is_set
 no_master c e = rw e
 
 module _ (m : Core) (s l : List ℕ) (w : Words m) (a : Accepted m (length s) (length l)) (c : RawCall) (bs : Fetched (go_of (view_of m) c s l).patch) (takes : takes_interrupt m.cpu ≡ true)
-    (e : go_of (view_of m) c s l ≡ enter_of (view_of m) (interrupt_plan (view_of m)) s l) (f : (enter_of (view_of m) (interrupt_plan (view_of m)) s l).patch.fast ≡ true)
+    (e : go_of (view_of m) c s l ≡ enter_of (view_of m) (interrupt_plan (view_of m)) s l) (f : is_entry (enter_of (view_of m) (interrupt_plan (view_of m)) s l).patch.way ≡ true)
     (r : raw_call (world m s l) c ≡ of_performed (of_service (check_and_service (closed m.bus m.cpu 0 s l)))) where
   abbrev p : Plan
   p = interrupt_plan (view_of m)
@@ -314,7 +315,7 @@ module _ (m : Core) (s l : List ℕ) (w : Words m) (a : Accepted m (length s) (l
   unfolding offset_word
   offset_fits = rw offset_of_lem (omega arith)
 
-  asks : (n : ℕ) → p.shape ≡ n → Asks m s l p n
+  asks : (n : ℕ) → shape_number p.shape ≡ n → Asks m s l p n
   unfolding interrupt_plan response_to response_of pending_level view_of get_sr pc_of
   asks n h =
       record {
@@ -333,7 +334,7 @@ module _ (m : Core) (s l : List ℕ) (w : Words m) (a : Accepted m (length s) (l
   unfolding interrupt_plan view_of kind_of
   other_clocks h g = rw (h, g) (waiting_none m w)
 
-  other_shape : eqb (kind_of m.cpu) 1 ≡ false → eqb (kind_of m.cpu) 2 ≡ false → p.shape ≡ 6
+  other_shape : eqb (kind_of m.cpu) 1 ≡ false → eqb (kind_of m.cpu) 2 ≡ false → shape_number p.shape ≡ 6
   unfolding interrupt_plan view_of kind_of
   other_shape h g = rw (h, g)
 
@@ -368,7 +369,7 @@ module _ (m : Core) (s l : List ℕ) (w : Words m) (a : Accepted m (length s) (l
       (r ∙ ap (λ (i : Attempt). of_performed (of_service i)) t)
 
   -- kind 2
-  ten_shape : eqb (kind_of m.cpu) 1 ≡ false → eqb (kind_of m.cpu) 2 ≡ true → p.shape ≡ 5
+  ten_shape : eqb (kind_of m.cpu) 1 ≡ false → eqb (kind_of m.cpu) 2 ≡ true → shape_number p.shape ≡ 5
   unfolding interrupt_plan view_of kind_of
   ten_shape h g = rw (h, g)
 
@@ -399,7 +400,7 @@ module _ (m : Core) (s l : List ℕ) (w : Words m) (a : Accepted m (length s) (l
       (r ∙ ap (λ (i : Attempt). of_performed (of_service i)) t)
 
   -- kind 1
-  old_shape : eqb (kind_of m.cpu) 1 ≡ true → p.shape ≡ 4
+  old_shape : eqb (kind_of m.cpu) 1 ≡ true → shape_number p.shape ≡ 4
   unfolding interrupt_plan view_of kind_of
   old_shape h = rw h
 

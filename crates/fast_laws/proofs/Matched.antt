@@ -2,7 +2,7 @@
 use Prim.Native.Nat.{ℕ, ◌+◌, ◌%◌, ◌≤◌}
 use Rattle.std.proofs.Math.Path.{◌≡◌, refl, ap}
 use Rattle.std.proofs.Common.{sym, ◌∙◌, leb-true, eqb-true}
-use Rattle.std.specs.Prelude.{Bool, List, leb, length}
+use Rattle.std.specs.Prelude.{Bool, List, leb, length, Some, None, Option}
 use Rattle.std.proofs.Math.Bool.{true, false}
 use native.Mathlib.Omega.{arith}
 use Rattle.std.proofs.Math.Dec.{eqb, lit≤}
@@ -29,8 +29,8 @@ use Rattle.unfaulted.specs.Closed.{closed}
 use Rattle.fast_plans.specs.declared.plans.EntryRow.{EntryRow}
 use Rattle.fast_plans.specs.declared.plans.Plan.{Plan}
 use Rattle.fast_plans.specs.Views.{view_of}
-use Rattle.fast_plans.specs.Plans.{row, row_of, no_plan, halts, entry_of, takes, interrupt_plan, unimp_plan, unimp_of, plan_of}
-use Rattle.fast_plans.specs.Quiet.{is_quiet, quiet, calm_patch, still_patch, asks, checks, quiet_of}
+use Rattle.fast_plans.specs.Plans.{row, row_of, halts, takes, interrupt_plan, unimp_plan, unimp_of, plan_of, entry_by}
+use Rattle.fast_plans.specs.Quiet.{is_quiet, quiet, calm_patch, still_patch, asks, checks, quiet_of, is_entry, is_calm, is_idle}
 use Rattle.fast.specs.Patches.{Ended, enter_of, go_of}
 use Rattle.fast_laws.specs.Patched.{patch_of, calm_of, Words, Fetched}
 use Rattle.fast_laws.specs.Accepts.{false_true, Accepted, accepted, not_refused, floating_fine}
@@ -40,6 +40,9 @@ use Rattle.fast_laws.proofs.Grouped.{group2_same, trace_same}
 use Rattle.fast_laws.proofs.Interrupted.{interrupt_same}
 use Rattle.fast_laws.proofs.Unimplemented.{unimp_same}
 use Rattle.fast_laws.specs.Matched.{Went, went, plan_entry, raw_run, split, Rowed, rowed, Given, Quietly, Silent, silent_by, quietly_as, none_calm, none_idle, entry_calm, entry_idle}
+use Rattle.fast_plans.specs.declared.plans.Maker.TheVariants.{Exception, Group2, Trace}
+use Rattle.std.proofs.lemmas.Option.{same_Some, none-some}
+use Rattle.fast_plans.specs.declared.Way.TheVariants.{Idle}
 
 module _ (m : Core) (c : RawCall) (s l : List ℕ) (w : Words m) (bs : Fetched (go_of (view_of m) c s l).patch) (a : Accepted m (length s) (length l)) (g : Went (view_of m) c s l) where
   abbrev whole : World
@@ -49,32 +52,32 @@ module _ (m : Core) (c : RawCall) (s l : List ℕ) (w : Words m) (bs : Fetched (
   unfolding bad_cycles
   given_run call n y h = raw_run m c s l a call y.known y.floating (y.vector h) (rw y.interrupt)
 
-  idle_row : (v : ℕ) (b : Bool) → halts (view_of m) (row 1 v b) ≡ false → in_exception m.cpu ≡ false
+  idle_row : (v : ℕ) (b : Bool) → halts (view_of m) (row Exception v b) ≡ false → in_exception m.cpu ≡ false
   unfolding halts view_of in_exception
   idle_row v b e = e
 
-  take_number : (v : ℕ) (call : Call) → eqb c.number 22 ≡ false → eqb c.number 10 ≡ false → row_of c ≡ row 1 v false → Given c call v → run whole call ≡ of_entry (take_exception whole v) → Says m c s l (go_of (view_of m) c s l)
+  take_number : (v : ℕ) (call : Call) → eqb c.number 22 ≡ false → eqb c.number 10 ≡ false → row_of c ≡ Some (row Exception v false) → Given c call v → run whole call ≡ of_entry (take_exception whole v) → Says m c s l (go_of (view_of m) c s l)
   take_number v call e d f y u =
-      let r : Rowed (view_of m) c s l (row 1 v false) = rowed (view_of m) c s l (row 1 v false) g e d f in
-      let h : v ≤ 255 = r.plan.vector in
-      taken_same m s l w a c v bs (omega arith) (idle_row v false r.plan.running) r.same r.made (given_run call v y h ∙ ap of_performed u)
+      let r : Rowed (view_of m) c s l (row Exception v false) = rowed (view_of m) c s l (row Exception v false) g e d f in
+      let h : v ≤ 255 = r.vector in
+      taken_same m s l w a c v bs (omega arith) (idle_row v false r.running) r.same r.made (given_run call v y h ∙ ap of_performed u)
 
-  rewound_number : (v : ℕ) (call : Call) → eqb c.number 22 ≡ false → eqb c.number 10 ≡ false → row_of c ≡ row 1 v true → Given c call v → run whole call ≡ of_entry (take_rewound whole v) → Says m c s l (go_of (view_of m) c s l)
+  rewound_number : (v : ℕ) (call : Call) → eqb c.number 22 ≡ false → eqb c.number 10 ≡ false → row_of c ≡ Some (row Exception v true) → Given c call v → run whole call ≡ of_entry (take_rewound whole v) → Says m c s l (go_of (view_of m) c s l)
   rewound_number v call e d f y u =
-      let r : Rowed (view_of m) c s l (row 1 v true) = rowed (view_of m) c s l (row 1 v true) g e d f in
-      let h : v ≤ 255 = r.plan.vector in
-      rewound_same m s l w a c v bs (omega arith) (idle_row v true r.plan.running) r.same r.made (given_run call v y h ∙ ap of_performed u)
+      let r : Rowed (view_of m) c s l (row Exception v true) = rowed (view_of m) c s l (row Exception v true) g e d f in
+      let h : v ≤ 255 = r.vector in
+      rewound_same m s l w a c v bs (omega arith) (idle_row v true r.running) r.same r.made (given_run call v y h ∙ ap of_performed u)
 
-  group2_number : (v : ℕ) (call : Call) → eqb c.number 22 ≡ false → eqb c.number 10 ≡ false → row_of c ≡ row 2 v false → Given c call v → run whole call ≡ of_entry (take_group2 whole v) → Says m c s l (go_of (view_of m) c s l)
+  group2_number : (v : ℕ) (call : Call) → eqb c.number 22 ≡ false → eqb c.number 10 ≡ false → row_of c ≡ Some (row Group2 v false) → Given c call v → run whole call ≡ of_entry (take_group2 whole v) → Says m c s l (go_of (view_of m) c s l)
   group2_number v call e d f y u =
-      let r : Rowed (view_of m) c s l (row 2 v false) = rowed (view_of m) c s l (row 2 v false) g e d f in
-      let h : v ≤ 255 = r.plan.vector in
+      let r : Rowed (view_of m) c s l (row Group2 v false) = rowed (view_of m) c s l (row Group2 v false) g e d f in
+      let h : v ≤ 255 = r.vector in
       group2_same m s l w a c bs v (omega arith) r.same r.made (given_run call v y h ∙ ap of_performed u)
 
-  trace_number : (call : Call) → eqb c.number 22 ≡ false → eqb c.number 10 ≡ false → row_of c ≡ row 3 9 false → Given c call 9 → run whole call ≡ of_entry (exception_trace whole) → Says m c s l (go_of (view_of m) c s l)
+  trace_number : (call : Call) → eqb c.number 22 ≡ false → eqb c.number 10 ≡ false → row_of c ≡ Some (row Trace 9 false) → Given c call 9 → run whole call ≡ of_entry (exception_trace whole) → Says m c s l (go_of (view_of m) c s l)
   trace_number call e d f y u =
-      let r : Rowed (view_of m) c s l (row 3 9 false) = rowed (view_of m) c s l (row 3 9 false) g e d f in
-      trace_same m s l w a c bs r.same r.made (given_run call 9 y r.plan.vector ∙ ap of_performed u)
+      let r : Rowed (view_of m) c s l (row Trace 9 false) = rowed (view_of m) c s l (row Trace 9 false) g e d f in
+      trace_same m s l w a c bs r.same r.made (given_run call 9 y r.vector ∙ ap of_performed u)
 
   number1 : c.number ≡ 1 → Says m c s l (go_of (view_of m) c s l)
   unfolding row_of decode run matter_of
@@ -110,23 +113,22 @@ module _ (m : Core) (c : RawCall) (s l : List ℕ) (w : Words m) (bs : Fetched (
   number7 h = trace_number ExceptionTrace (rw h) (rw h) (rw h) (record { known = rw h; floating = refl; vector = λ i. lit≤ tt; interrupt = refl }) refl
 
   -- the 68060's floating-point entry is refused on another kind, and there it has no plan
-  unimp10 : c.number ≡ 10 → (is060 m.cpu.flow.cpu_type ≡ true) × (plan_of (view_of m) c ≡ unimp_plan (view_of m) c.a)
+  unimp10 : c.number ≡ 10 → (is060 m.cpu.flow.cpu_type ≡ true) × (g.plan ≡ unimp_plan (view_of m) c.a)
   unfolding plan_of unimp_of view_of
-  unimp10 h = go (is060 m.cpu.flow.cpu_type) refl (ap (λ (p : Plan). eqb p.shape 0) (sym z) ∙ g.shaped)
+  unimp10 h = go (is060 m.cpu.flow.cpu_type) refl (sym z ∙ g.planned)
     where
-      z : plan_of (view_of m) c ≡ pick (is060 m.cpu.flow.cpu_type) (unimp_plan (view_of m) c.a) no_plan
+      z : plan_of (view_of m) c ≡ pick (is060 m.cpu.flow.cpu_type) (Some (unimp_plan (view_of m) c.a)) None
       z = rw h
 
-      go : (b : Bool) → is060 m.cpu.flow.cpu_type ≡ b → eqb (pick (is060 m.cpu.flow.cpu_type) (unimp_plan (view_of m) c.a) no_plan).shape 0 ≡ false
-          → (is060 m.cpu.flow.cpu_type ≡ true) × (plan_of (view_of m) c ≡ unimp_plan (view_of m) c.a)
-      go true e f = (e, z ∙ rw e)
-      go false e f = false_true _ (sym (rw e at f))
+      go : (b : Bool) → is060 m.cpu.flow.cpu_type ≡ b → pick b (Some (unimp_plan (view_of m) c.a)) None ≡ Some g.plan → (is060 m.cpu.flow.cpu_type ≡ true) × (g.plan ≡ unimp_plan (view_of m) c.a)
+      go true e f = (e, sym (same_Some _ _ f))
+      go false e f = absurd (none-some _ f)
 
   number10 : c.number ≡ 10 → Says m c s l (go_of (view_of m) c s l)
   unfolding decode run matter_of refusal bad_cycles
   number10 h =
       let r = unimp10 h in
-      unimp_same m s l w a c bs c.a (g.same ∙ ap (λ (p : Plan). enter_of (view_of m) p s l) r.1) (ap (λ (p : Plan). (enter_of (view_of m) p s l).patch.fast) (sym r.1) ∙ g.made)
+      unimp_same m s l w a c bs c.a (g.same ∙ ap (λ (p : Plan). enter_of (view_of m) p s l) r.1) (ap (λ (p : Plan). is_entry (enter_of (view_of m) p s l).patch.way) (sym r.1) ∙ g.made)
       (raw_known m s l c (TakeFpUnimp060 c.a) (rw h) (floating_fine m (length s) (length l) r.0 ∙ not_refused m (length s) (length l) a of_lent refl (lit≤ tt) refl))
 
   number12 : c.number ≡ 12 → Says m c s l (go_of (view_of m) c s l)
@@ -152,17 +154,16 @@ module _ (m : Core) (c : RawCall) (s l : List ℕ) (w : Words m) (bs : Fetched (
   number16 h = rewound_number 4 TakeIllegalException (rw h) (rw h) (rw h) (record { known = rw h; floating = refl; vector = λ i. lit≤ tt; interrupt = refl }) refl
 
   -- the interrupt call: its cycles have room, and it is taken
-  room22 : c.number ≡ 22 → (has_cycles m.cpu ≡ true) × (plan_of (view_of m) c ≡ interrupt_plan (view_of m))
+  room22 : c.number ≡ 22 → (has_cycles m.cpu ≡ true) × (g.plan ≡ interrupt_plan (view_of m))
   unfolding plan_of view_of
-  room22 h = go (has_cycles m.cpu) refl (ap (λ (p : Plan). eqb p.shape 0) (sym z) ∙ g.shaped)
+  room22 h = go (has_cycles m.cpu) refl (sym z ∙ g.planned)
     where
-      z : plan_of (view_of m) c ≡ pick (has_cycles m.cpu) (interrupt_plan (view_of m)) no_plan
+      z : plan_of (view_of m) c ≡ pick (has_cycles m.cpu) (Some (interrupt_plan (view_of m))) None
       z = rw h
 
-      go : (b : Bool) → has_cycles m.cpu ≡ b → eqb (pick (has_cycles m.cpu) (interrupt_plan (view_of m)) no_plan).shape 0 ≡ false
-          → (has_cycles m.cpu ≡ true) × (plan_of (view_of m) c ≡ interrupt_plan (view_of m))
-      go true e f = (e, z ∙ rw e)
-      go false e f = false_true _ (sym (rw e at f))
+      go : (b : Bool) → has_cycles m.cpu ≡ b → pick b (Some (interrupt_plan (view_of m))) None ≡ Some g.plan → (has_cycles m.cpu ≡ true) × (g.plan ≡ interrupt_plan (view_of m))
+      go true e f = (e, sym (same_Some _ _ f))
+      go false e f = absurd (none-some _ f)
 
   takes22 : c.number ≡ 22 → has_cycles m.cpu ≡ true → takes_interrupt m.cpu ≡ true
   unfolding takes_interrupt pending_level mask_level is_quiet takes view_of
@@ -180,16 +181,15 @@ module _ (m : Core) (c : RawCall) (s l : List ℕ) (w : Words m) (bs : Fetched (
   number22 h =
       let r = room22 h in
       interrupt_same m s l w a c bs (takes22 h r.0) (g.same ∙ ap (λ (p : Plan). enter_of (view_of m) p s l) r.1)
-      (ap (λ (p : Plan). (enter_of (view_of m) p s l).patch.fast) (sym r.1) ∙ g.made)
+      (ap (λ (p : Plan). is_entry (enter_of (view_of m) p s l).patch.way) (sym r.1) ∙ g.made)
       (raw_run m c s l a CheckAndServiceInterrupts (rw h) refl (lit≤ tt) (rw r.0))
 
   -- any other number has no plan
-  other_number : eqb c.number 22 ≡ false → eqb c.number 10 ≡ false → row_of c ≡ row 0 0 false → Says m c s l (go_of (view_of m) c s l)
-  unfolding entry_of
-  other_number e d f = false_true _ (sym (ap (λ (p : Plan). eqb p.shape 0) (sym (plan_entry (view_of m) c e d ∙ ap (λ (r : EntryRow). entry_of (view_of m) r) f)) ∙ g.shaped))
+  other_number : eqb c.number 22 ≡ false → eqb c.number 10 ≡ false → row_of c ≡ None → Says m c s l (go_of (view_of m) c s l)
+  other_number e d f = absurd (none-some _ (sym (plan_entry (view_of m) c e d ∙ ap (λ (r : Option EntryRow). entry_by (view_of m) r) f) ∙ g.planned))
 
   no_row : eqb c.number 1 ≡ false → eqb c.number 2 ≡ false → eqb c.number 3 ≡ false → eqb c.number 4 ≡ false → eqb c.number 5 ≡ false → eqb c.number 6 ≡ false
-      → eqb c.number 7 ≡ false → eqb c.number 12 ≡ false → eqb c.number 13 ≡ false → eqb c.number 14 ≡ false → eqb c.number 15 ≡ false → eqb c.number 16 ≡ false → row_of c ≡ row 0 0 false
+      → eqb c.number 7 ≡ false → eqb c.number 12 ≡ false → eqb c.number 13 ≡ false → eqb c.number 14 ≡ false → eqb c.number 15 ≡ false → eqb c.number 16 ≡ false → row_of c ≡ None
   unfolding row_of
   no_row h1 h2 h3 h4 h5 h6 h7 h12 h13 h14 h15 h16 = rw (h1, h2, h3, h4, h5, h6, h7, h12, h13, h14, h15, h16)
 
@@ -203,7 +203,7 @@ module _ (m : Core) (c : RawCall) (s l : List ℕ) (w : Words m) (bs : Fetched (
       R = Says m c s l (go_of (view_of m) c s l)
 
 -- AN ENTRY: where the fast way makes one, the patched record and bus, store, log, answer and events are those of the plain call
-pub entry_same : (m : Core) (c : RawCall) (s l : List ℕ) → Words m → Fetched (go_of (view_of m) c s l).patch → (go_of (view_of m) c s l).patch.fast ≡ true
+pub entry_same : (m : Core) (c : RawCall) (s l : List ℕ) → Words m → Fetched (go_of (view_of m) c s l).patch → is_entry (go_of (view_of m) c s l).patch.way ≡ true
     → outcome (world (patch_of m (go_of (view_of m) c s l).patch) (go_of (view_of m) c s l).store (go_of (view_of m) c s l).log) 0 (go_of (view_of m) c s l).patch.answer (go_of (view_of m) c s l).patch.events
     ≡ raw_call (world m s l) c
 entry_same m c s l w bs e =
@@ -232,7 +232,7 @@ module _ (m : Core) (c : RawCall) (s l : List ℕ) where
   unfolding still_patch view_of closed
   stilly n h = go (eqb m.bus.events 0) refl
     where
-      go : (b : Bool) → eqb m.bus.events 0 ≡ b → Quietly m c s l (pick b (quiet true false n 0 false) (calm_patch n m.cpu.flags.int_level m.cpu.flow.change_of_flow))
+      go : (b : Bool) → eqb m.bus.events 0 ≡ b → Quietly m c s l (pick b (quiet Idle n 0 false) (calm_patch n m.cpu.flags.int_level m.cpu.flow.change_of_flow))
       go true e = record { calm = λ f. false_true _ f; idle = λ f. ap (λ (k : Core). outcome (world k s l) 0 n 0) (same_idle (eqb-true m.bus.events 0 e)) ∙ h }
       go false e = calmly n m.cpu.flags.int_level m.cpu.flow.change_of_flow (ap (λ (k : Core). outcome (world k s l) 0 n 0) (same_calm n) ∙ h)
 
@@ -323,18 +323,18 @@ module _ (m : Core) (c : RawCall) (s l : List ℕ) (a : Accepted m (length s) (l
           omega (arith, p, q)
 
 -- NO ACCESS, AND AT MOST LEVEL, CHANGE OF FLOW AND THE NUMBER OF EVENTS CHANGE
-pub calm_same : (m : Core) (c : RawCall) (s l : List ℕ) → (go_of (view_of m) c s l).patch.calm ≡ true
+pub calm_same : (m : Core) (c : RawCall) (s l : List ℕ) → is_calm (go_of (view_of m) c s l).patch.way ≡ true
     → outcome (world (calm_of m (go_of (view_of m) c s l).patch) (go_of (view_of m) c s l).store (go_of (view_of m) c s l).log) 0 (go_of (view_of m) c s l).patch.answer (go_of (view_of m) c s l).patch.events
     ≡ raw_call (world m s l) c
 calm_same m c s l e =
-    let g : Silent (view_of m) c s l = silent_by (λ q. q.calm) none_calm entry_calm (view_of m) c s l e in
+    let g : Silent (view_of m) c s l = silent_by (λ q. is_calm q.way) none_calm entry_calm (view_of m) c s l e in
     let q : Quietly m c s l (quiet_of (view_of m) c) = quietly m c s l (accepted m (length s) (length l) g.accepts) g.silent in
-    rw g.same (q.calm (ap (λ (i : Ended). i.patch.calm) (sym g.same) ∙ e))
+    rw g.same (q.calm (ap (λ (i : Ended). is_calm i.patch.way) (sym g.same) ∙ e))
 
 -- NO ACCESS, AND NOTHING CHANGES
-pub idle_same : (m : Core) (c : RawCall) (s l : List ℕ) → (go_of (view_of m) c s l).patch.idle ≡ true
+pub idle_same : (m : Core) (c : RawCall) (s l : List ℕ) → is_idle (go_of (view_of m) c s l).patch.way ≡ true
     → outcome (world m (go_of (view_of m) c s l).store (go_of (view_of m) c s l).log) 0 (go_of (view_of m) c s l).patch.answer (go_of (view_of m) c s l).patch.events ≡ raw_call (world m s l) c
 idle_same m c s l e =
-    let g : Silent (view_of m) c s l = silent_by (λ q. q.idle) none_idle entry_idle (view_of m) c s l e in
+    let g : Silent (view_of m) c s l = silent_by (λ q. is_idle q.way) none_idle entry_idle (view_of m) c s l e in
     let q : Quietly m c s l (quiet_of (view_of m) c) = quietly m c s l (accepted m (length s) (length l) g.accepts) g.silent in
-    rw g.same (q.idle (ap (λ (i : Ended). i.patch.idle) (sym g.same) ∙ e))
+    rw g.same (q.idle (ap (λ (i : Ended). is_idle i.patch.way) (sym g.same) ∙ e))

@@ -17,7 +17,7 @@ use Rattle.memory.specs.World.{world}
 use Rattle.steps.specs.Steps.{stacked_address}
 use Rattle.formats.specs.Formats.{offset_word}
 use Rattle.exceptions.specs.Exceptions.{Entry, entry, take_exception, take_rewound}
-use Rattle.answers.specs.Answers.{cycles, of_entry}
+use Rattle.answers.specs.Answers.{of_entry}
 use Rattle.numbers.specs.declared.RawCall.{RawCall}
 use Rattle.boundary.specs.Calls.{of_performed, raw_call}
 use Rattle.unfaulted.specs.Closed.{closed, Piece, last_value, Entering, jumped, arrived, clocks_after, short_bytes, short_of}
@@ -36,12 +36,14 @@ use Rattle.fast_laws.specs.Supervised.{Plain}
 use Rattle.fast_laws.proofs.Supervised.{plain_patched}
 use Rattle.fast_laws.specs.Ways.{fetched_in, spot_for, landing_for, Entered, entered_by_lem, Says, said, clear_of_lem, entering_of, fitting_of}
 use Rattle.fast_laws.specs.Taken.{take_bytes, take_framed, take_last}
+use Rattle.fast_plans.specs.Quiet.{is_entry}
+use Rattle.fast_plans.specs.declared.plans.Maker.TheVariants.{Exception}
 
 -- ---- `take_exception`
 
 module _ (m : Core) (s l : List ℕ) (w : Words m) (a : Accepted m (length s) (length l)) where
   abbrev way1 : ℕ → Bool → Plan
-  way1 v b = entry_plan (view_of m) (row 1 v b)
+  way1 v b = entry_plan (view_of m) (row Exception v b)
 
   take_plain : (v : ℕ) (b : Bool) (e : ℕ) → Plain m.cpu (patch_by (view_of m) (way1 v b) (spot_for (view_of m) (way1 v b)) (landing_for (view_of m) (way1 v b) s) e)
   unfolding patch_by entry_plan view_of
@@ -49,7 +51,7 @@ module _ (m : Core) (s l : List ℕ) (w : Words m) (a : Accepted m (length s) (l
 
   take_cpu : (v : ℕ) (b : Bool) → v < 256 → (g : Entered (view_of m) (way1 v b) s l)
       → (let x : View = view_of m in let p : Plan = way1 v b in let j : Landing = landing_for x p s in
-      jumped (prefetch_enabled m.cpu) (set_wdata (set_a7 (set_clocks (enter_supervisor m.cpu) 0) (top_of x - p.bytes)) (last_value (short_of (kind_of m.cpu) (get_sr m.cpu) (address_of x (row 1 v b)) (offset_word v)))) v j.pc j.first j.second
+      jumped (prefetch_enabled m.cpu) (set_wdata (set_a7 (set_clocks (enter_supervisor m.cpu) 0) (top_of x - p.bytes)) (last_value (short_of (kind_of m.cpu) (get_sr m.cpu) (address_of x (row Exception v b)) (offset_word v)))) v j.pc j.first j.second
       ≡ patch_cpu m.cpu (patch_by x p (spot_for x p) j (jump_count (lay_count x p) (fetches_of x))))
   unfolding fetches_of view_of prefetch_enabled patch_by entry_plan
   take_cpu v b h g =
@@ -68,11 +70,11 @@ module _ (m : Core) (s l : List ℕ) (w : Words m) (a : Accepted m (length s) (l
       go false = omega arith
 
   -- the address that is stacked by a plain take
-  take_address : (v : ℕ) → address_of (view_of m) (row 1 v false) ≡ stacked_address m.cpu v
+  take_address : (v : ℕ) → address_of (view_of m) (row Exception v false) ≡ stacked_address m.cpu v
   unfolding address_of stacked_address view_of pc_of ppc_of
   take_address v = refl
 
-  rewound_address : (v : ℕ) → address_of (view_of m) (row 1 v true) ≡ ppc_of m.cpu
+  rewound_address : (v : ℕ) → address_of (view_of m) (row Exception v true) ≡ ppc_of m.cpu
   unfolding address_of view_of ppc_of
   rewound_address v = refl
 
@@ -83,20 +85,20 @@ module _ (m : Core) (s l : List ℕ) (w : Words m) (a : Accepted m (length s) (l
 
   short_same : (c : RawCall) (v : ℕ) (b : Bool) → v < 256 → go_of (view_of m) c s l ≡ enter_of (view_of m) (way1 v b) s l → Entered (view_of m) (way1 v b) s l
       → (let x : View = view_of m in let p : Plan = way1 v b in let j : Landing = landing_for x p s in
-      raw_call (world m s l) c ≡ of_performed (of_entry (entry (arrived m.bus (enter_supervisor m.cpu) (clocks_after m.cpu 4) 0 s l (top_of x - p.bytes) (short_of (kind_of m.cpu) (get_sr m.cpu) (address_of x (row 1 v b)) (offset_word v)) (prefetch_enabled m.cpu) v j.from j.pc j.pc j.first j.second) (exception_cycles v))))
+      raw_call (world m s l) c ≡ of_performed (of_entry (entry (arrived m.bus (enter_supervisor m.cpu) (clocks_after m.cpu 4) 0 s l (top_of x - p.bytes) (short_of (kind_of m.cpu) (get_sr m.cpu) (address_of x (row Exception v b)) (offset_word v)) (prefetch_enabled m.cpu) v j.from j.pc j.pc j.first j.second) (exception_cycles v))))
       → Says m c s l (go_of (view_of m) c s l)
   unfolding arrived entry_plan view_of waiting_of clocks_after fetches_of prefetch_enabled clocks_of
   short_same c v b h e g r =
       let x : View = view_of m in
       let p : Plan = way1 v b in
       let j : Landing = landing_for x p s in
-      let ps : List Piece = short_of (kind_of m.cpu) (get_sr m.cpu) (address_of x (row 1 v b)) (offset_word v) in
+      let ps : List Piece = short_of (kind_of m.cpu) (get_sr m.cpu) (address_of x (row Exception v b)) (offset_word v) in
       said m c s l p (go_of x c s l) ps
       (jumped (prefetch_enabled m.cpu) (set_wdata (set_a7 (set_clocks (enter_supervisor m.cpu) 0) (top_of x - p.bytes)) (last_value ps)) v j.pc j.first j.second) (exception_cycles v)
       (e ∙ g.same) (take_framed m (tape s l) v b w h) (take_cpu v b h g) refl r
 
   pub taken_same : (c : RawCall) (v : ℕ) → Fetched (go_of (view_of m) c s l).patch → v < 256 → in_exception m.cpu ≡ false → go_of (view_of m) c s l ≡ enter_of (view_of m) (way1 v false) s l
-      → (enter_of (view_of m) (way1 v false) s l).patch.fast ≡ true → raw_call (world m s l) c ≡ of_performed (of_entry (take_exception (closed m.bus m.cpu 0 s l) v)) → Says m c s l (go_of (view_of m) c s l)
+      → is_entry (enter_of (view_of m) (way1 v false) s l).patch.way ≡ true → raw_call (world m s l) c ≡ of_performed (of_entry (take_exception (closed m.bus m.cpu 0 s l) v)) → Says m c s l (go_of (view_of m) c s l)
   taken_same c v bs h i e f r =
       let x : View = view_of m in
       let p : Plan = way1 v false in
@@ -106,7 +108,7 @@ module _ (m : Core) (s l : List ℕ) (w : Words m) (a : Accepted m (length s) (l
       short_same c v false h e g (rw (take_address v) (r ∙ ap (λ (z : Entry). of_performed (of_entry z)) t))
 
   pub rewound_same : (c : RawCall) (v : ℕ) → Fetched (go_of (view_of m) c s l).patch → v < 256 → in_exception m.cpu ≡ false → go_of (view_of m) c s l ≡ enter_of (view_of m) (way1 v true) s l
-      → (enter_of (view_of m) (way1 v true) s l).patch.fast ≡ true → raw_call (world m s l) c ≡ of_performed (of_entry (take_rewound (closed m.bus m.cpu 0 s l) v)) → Says m c s l (go_of (view_of m) c s l)
+      → is_entry (enter_of (view_of m) (way1 v true) s l).patch.way ≡ true → raw_call (world m s l) c ≡ of_performed (of_entry (take_rewound (closed m.bus m.cpu 0 s l) v)) → Says m c s l (go_of (view_of m) c s l)
   rewound_same c v bs h i e f r =
       let x : View = view_of m in
       let p : Plan = way1 v true in

@@ -34,6 +34,7 @@ use Rattle.fast_laws.specs.Supervised.{Plain, note_clear, note_fitting, note_pat
 use Rattle.fast_laws.proofs.Supervised.{plain_patched}
 use Rattle.fast_laws.specs.Tapes.{Framed, framed_long}
 use Rattle.fast_laws.specs.Ways.{waiting_none, fetched_in, spot_for, landing_for, Entered, entered_by_lem, Says, said, clear_of_lem, entering_of, fitting_of}
+use Rattle.fast_plans.specs.Quiet.{is_entry}
 
 module _ (m : Core) (s l : List ℕ) (w : Words m) (a : Accepted m (length s) (length l)) (c : RawCall) (bs : Fetched (go_of (view_of m) c s l).patch) (ea : ℕ) where
   abbrev plan : Plan
@@ -88,7 +89,7 @@ module _ (m : Core) (s l : List ℕ) (w : Words m) (a : Accepted m (length s) (l
       (jumped (prefetch_enabled m.cpu) (set_wdata (set_a7 (set_clocks (enter_supervisor (note_fpiar m.cpu)) 0) (top_of x - plan.bytes)) (last_value pieces)) line1111 j.pc j.first j.second) (exception_cycles line1111)
       (e ∙ g.same) (plan_framed (spot_for x plan) (tape s l)) (rw (plan_last, ← plan_vector) u) plan_answer (rw plan_clocks r)
 
-  pub unimp_same : go_of (view_of m) c s l ≡ enter_of (view_of m) plan s l → (enter_of (view_of m) plan s l).patch.fast ≡ true
+  pub unimp_same : go_of (view_of m) c s l ≡ enter_of (view_of m) plan s l → is_entry (enter_of (view_of m) plan s l).patch.way ≡ true
       → raw_call (world m s l) c ≡ of_performed (of_entry (take_fp_unimp060 (closed m.bus m.cpu 0 s l) ea)) → Says m c s l (go_of (view_of m) c s l)
   unimp_same e f r =
       let x : View = view_of m in

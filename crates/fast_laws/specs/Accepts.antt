@@ -7,7 +7,7 @@ use borrow.Author.Tests.{ltb-false, eqb-true, eqb-false, not-true, not-false, le
 use Rattle.types.specs.Kinds.{pick, both, is060}
 use Rattle.cpu.specs.Fields.{kind_of, vbr_of, checks_alignment, has_fc_override}
 use Rattle.memory.specs.declared.Core.{Core}
-use Rattle.refusals.specs.declared.Matter.{Matter}
+use Rattle.refusals.specs.Matters.{Matter}
 use Rattle.answers.specs.Matters.{of_lent, of_floating}
 use Rattle.refusals.specs.Refusals.{bad_flags, odd_base, bad_cycles, bad_code, bad_store, any_past, bad_windows, short_log, bad_vector, bad_kind, tests_of, first_number, refusal_of}
 use Rattle.fast_plans.specs.Views.{view_of, span_of, is_other, accepts_of}

@@ -2,7 +2,7 @@
 use Prim.Native.Nat.{ℕ, ◌+◌, ◌-◌, ◌*◌, ◌/◌, ◌^◌, ◌<◌}
 use Rattle.std.specs.Prelude.{◌≡◌, Bool, not, length}
 use Rattle.std.proofs.Math.Path.{refl, sym}
-use Rattle.std.proofs.Common.{◌∙◌, arith, lit<}
+use Rattle.std.proofs.Common.{ap, ◌∙◌, arith}
 use Rattle.std.proofs.Math.Bool.{true, false}
 use mathlib.Core.List.{List}
 use Rattle.std.proofs.Math.Dec.{eqb}
@@ -26,6 +26,7 @@ use Rattle.fast_plans.specs.declared.Patch.{Patch}
 use Rattle.fast_plans.specs.declared.places.Spot.{Spot}
 use Rattle.fast.specs.declared.landings.Landing.{Landing}
 use Rattle.fast_plans.specs.declared.plans.Plan.{Plan}
+use Rattle.fast_plans.specs.declared.plans.Shape.TheVariants.{Three, Short, Long}
 use Rattle.fast_plans.specs.Views.{view_of}
 use Rattle.fast_plans.specs.Places.{fetches_of, top_of}
 use Rattle.fast.specs.Stacks.{Tape, tape, waiting_of, lay_count, jump_count}
@@ -35,10 +36,11 @@ use Rattle.fast_laws.specs.Patched.{patch_cpu, Words}
 use Rattle.fast_laws.specs.Accepts.{false_true, Accepted}
 use Rattle.fast_laws.specs.Tapes.{Framed, framed_short, framed_three, framed_long}
 use Rattle.fast_laws.specs.Ways.{spot_for, landing_for, Entered, Says, said, entering_of}
+use Rattle.fast_plans.specs.Plans.{shape_number}
 
 -- what the plan of a group 2 exception by vector v says
 pub record Group (m : Core) (p : Plan) (v : ℕ) : Type 0 where
-  pub shape : p.shape ≡ pick (eqb (kind_of m.cpu) 1) 1 (pick (not (is_pre68020 (kind_of m.cpu))) 3 2)
+  pub shape : p.shape ≡ pick (eqb (kind_of m.cpu) 1) Three (pick (not (is_pre68020 (kind_of m.cpu))) Long Short)
   pub bytes : p.bytes ≡ pick (eqb (kind_of m.cpu) 1) 6 (pick (not (is_pre68020 (kind_of m.cpu))) 12 8)
   pub sr : p.sr ≡ get_sr m.cpu
   pub pc : p.pc ≡ pc_of m.cpu
@@ -120,14 +122,14 @@ module _ (m : Core) (p : Plan) (v : ℕ) (h : v < 256) (g : Group m p v) where
 
       go : (i j : Bool) → eqb (kind_of m.cpu) 1 ≡ i → is_pre68020 (kind_of m.cpu) ≡ j
           → Framed (view_of m) s p t (pick j (pick i (three_pieces sr pc) (short_pieces sr pc (offset_word v))) (long_pieces sr pc (format_word 2 v) (ppc_of m.cpu)))
-      go true true e f = framed_as (view_of m) s p t _ _ (rw (g.sr, g.pc)) (framed_three (view_of m) s p t (g.shape ∙ rw e) fits small)
+      go true true e f = framed_as (view_of m) s p t _ _ (rw (g.sr, g.pc)) (framed_three (view_of m) s p t (ap shape_number (let z : p.shape ≡ Three = g.shape ∙ rw e in z)) fits small)
       go true false e f = false_true _ (sym f ∙ first_old (kind_of m.cpu) e)
       go false true e f =
           let o : p.format ≡ offset_word v = g.format ∙ rw f (offset_plain v h) in
-          framed_as (view_of m) s p t _ _ (rw (g.sr, g.pc, o)) (framed_short (view_of m) s p t (g.shape ∙ rw (e, f)) fits (rw o (offset_small v h)))
+          framed_as (view_of m) s p t _ _ (rw (g.sr, g.pc, o)) (framed_short (view_of m) s p t (ap shape_number (let z : p.shape ≡ Short = g.shape ∙ rw (e, f) in z)) fits (rw o (offset_small v h)))
       go false false e f =
           let o : p.format ≡ format_word 2 v = g.format ∙ rw f (format_plain v h) in
-          framed_as (view_of m) s p t _ _ (rw (g.sr, g.pc, o, g.extra)) (framed_long (view_of m) s p t (g.shape ∙ rw (e, f)) fits (rw o (format_small v h)))
+          framed_as (view_of m) s p t _ _ (rw (g.sr, g.pc, o, g.extra)) (framed_long (view_of m) s p t (ap shape_number (let z : p.shape ≡ Long = g.shape ∙ rw (e, f) in z)) fits (rw o (format_small v h)))
 
 some_bytes : (k : ℕ) → 0 < group2_bytes k
 unfolding group2_bytes short_bytes

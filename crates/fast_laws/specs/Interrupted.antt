@@ -1,7 +1,6 @@
 -- An interrupt that is taken: on every kind it says what the fast way says.
 use Prim.Native.Nat.{ℕ, ◌+◌}
 use Rattle.std.specs.Prelude.{◌≡◌}
-use Rattle.std.proofs.Common.{lit<}
 use mathlib.Core.List.{List}
 use Rattle.std.proofs.Math.ListN.{length}
 use Rattle.memory.specs.LogLaws.{Event}

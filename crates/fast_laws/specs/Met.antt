@@ -1,5 +1,5 @@
 -- A world and two calls that the fast way takes, so that the theorems of Matched speak of something.
-use Rattle.std.specs.Prelude.{ℕ, ◌<◌, ◌≡◌, refl, true, List, [], replicate}
+use Rattle.std.specs.Prelude.{ℕ, ◌≡◌, refl, true, List, [], replicate}
 use Rattle.std.proofs.Common.{lit<}
 use Rattle.types.specs.Kinds.{is_prefetch_kind}
 use Rattle.cpu.specs.Fields.{set_a7}
@@ -13,8 +13,8 @@ use Rattle.fast_plans.specs.Views.{view_of, span_of, is_other, accepts_of}
 use Rattle.fast_plans.specs.Places.{fetches_of, top_of, spot_of}
 use Rattle.fast.specs.Landings.{meets, queued_of, vector_at, landing_of}
 use Rattle.fast_plans.specs.Plans.{row_of, is_long, halts, entry_plan, entry_of, plan_of}
-use Rattle.fast_plans.specs.Quiet.{is_quiet, quiet_of, calm_patch}
-use Rattle.fast.specs.Patches.{patch_by, written_of, land_of, place_of, enter_of, go_of}
+use Rattle.fast_plans.specs.Quiet.{is_quiet, quiet_of, calm_patch, is_entry, is_calm}
+use Rattle.fast.specs.Patches.{patch_by, written_of, land_of, place_of, enter_of, enter_by, go_of}
 use Rattle.fast_laws.specs.Patched.{Words}
 
 -- a fresh 68000 with A7 at 128, 256 bytes from 0 on and no window
@@ -33,11 +33,11 @@ unfolding board fresh set_clocks set_a7 fresh_cpu fresh_flow fresh_regs fresh_qu
 board_words = record { registers = lit< tt; pointers = lit< tt; pc = lit< tt; ppc = lit< tt; clocks = lit< tt }
 
 -- `take_exception` with vector 8 is an entry by the fast way
-pub board_enters : (go_of (view_of board) (call 1) bytes (replicate 192 0)).patch.fast ≡ true
-unfolding board fresh set_clocks set_a7 fresh_cpu fresh_flow fresh_regs fresh_flags fresh_queue fresh_fault is_prefetch_kind put_long put_word get_long get_word view_of span_of is_other accepts_of fetches_of top_of spot_of meets queued_of vector_at landing_of row_of is_long halts entry_plan entry_of plan_of is_quiet patch_by written_of land_of place_of enter_of go_of
+pub board_enters : is_entry (go_of (view_of board) (call 1) bytes (replicate 192 0)).patch.way ≡ true
+unfolding board fresh set_clocks set_a7 fresh_cpu fresh_flow fresh_regs fresh_flags fresh_queue fresh_fault is_prefetch_kind put_long put_word get_long get_word view_of span_of is_other accepts_of fetches_of top_of spot_of meets queued_of vector_at landing_of row_of is_long halts entry_plan entry_of plan_of is_quiet patch_by written_of land_of place_of enter_of enter_by go_of
 board_enters = refl
 
 -- `set_irq` makes no access
-pub board_calm : (go_of (view_of board) (call 20) bytes (replicate 192 0)).patch.calm ≡ true
+pub board_calm : is_calm (go_of (view_of board) (call 20) bytes (replicate 192 0)).patch.way ≡ true
 unfolding board fresh set_clocks set_a7 fresh_cpu fresh_flow fresh_regs fresh_flags fresh_queue fresh_fault put_long put_word view_of span_of is_other accepts_of is_quiet quiet_of calm_patch go_of
 board_calm = refl

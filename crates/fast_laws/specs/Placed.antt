@@ -1,7 +1,8 @@
 -- What the places of a frame and a jump tell where the fast way takes them: an entry of crate unfaulted.
-use Rattle.std.specs.Prelude.{ℕ, ◌+◌, ◌-◌, ◌*◌, ◌%◌, ◌^◌, ◌<◌, ◌≤◌, ◌≡◌, refl, Bool, true, false, List, eqb, ltb, leb, length}
+use Rattle.std.specs.Prelude.{ℕ, ◌+◌, ◌-◌, ◌*◌, ◌%◌, ◌^◌, ◌<◌, ◌≤◌, ◌≡◌, refl, Bool, true, false, List, eqb, ltb, leb, length, Option, Some, None}
 use Rattle.std.proofs.Common.{sym, ap, ◌∙◌, inl, inr, arith, ltb-false, leb-true, leb-false, eqb-true}
 use Rattle.std.proofs.lemmas.Bool.{eqb-false}
+use Rattle.std.proofs.lemmas.Option.{same_Some}
 use Rattle.types.specs.Kinds.{pick, mask_address}
 use Rattle.cpu.specs.declared.Cpu.{Cpu}
 use Rattle.cpu.specs.Fields.{kind_of, vbr_of, is_faulted}
@@ -17,17 +18,14 @@ use Rattle.fast_plans.specs.declared.View.{View}
 use Rattle.fast_plans.specs.declared.places.Spot.{Spot}
 use Rattle.fast.specs.declared.landings.Landing.{Landing}
 use Rattle.fast_plans.specs.Views.{view_of, span_of}
-use Rattle.fast_plans.specs.Places.{fetches_of, top_of, no_spot, spot, spot_of}
-use Rattle.fast.specs.Landings.{no_landing, landed, meets, queued_of, vector_at, landing_of}
+use Rattle.fast_plans.specs.Places.{fetches_of, top_of, spot, spot_of}
+use Rattle.fast.specs.Landings.{landed, meets, queued_of, vector_at, landing_of}
+use Rattle.fast.specs.Laws.{found_step}
 use Rattle.fast_laws.specs.Patched.{Words}
 use Rattle.fast_laws.specs.Accepts.{false_true, Accepted}
 use Rattle.fast_laws.specs.Supervised.{top_at, Clear, supervised_a7}
 
 -- ---- the spot
-
-spot_step : (b : Bool) (y : Spot) → (pick b no_spot y).ok ≡ true → (b ≡ false) × (y.ok ≡ true) × (pick b no_spot y ≡ y)
-spot_step true y e = false_true _ e
-spot_step false y e = (refl, e, refl)
 
 not_odd : (a : ℕ) → eqb (a % 2) 1 ≡ false → a % 2 ≡ 0
 not_odd a e = let h : a % 2 ≡ 1 → ⊥ = eqb-false (a % 2) 1 e in go (a % 2) (omega arith) h
@@ -44,28 +42,32 @@ pub record Spotted (x : View) (stored n : ℕ) : Type 0 where
   pub low : x.base ≤ top_of x - n
   pub high : top_of x - n - x.base + n ≤ stored
   pub even : (top_of x - n) % 2 ≡ 0
-  pub same : spot_of x stored n ≡ spot (top_of x - n) (top_of x - n - x.base)
+  pub same : spot_of x stored n ≡ Some (spot (top_of x - n) (top_of x - n - x.base))
 
-pub spotted : (x : View) (stored n : ℕ) → (spot_of x stored n).ok ≡ true → Spotted x stored n
+pub spotted : (x : View) (stored n : ℕ) (y : Spot) → spot_of x stored n ≡ Some y → Spotted x stored n
 unfolding spot_of
-spotted x stored n e =
-    let t1 = spot_step (ltb (top_of x) n) _ e in
-    let t2 = spot_step (ltb (top_of x - n) x.base) _ t1.1 in
-    let t3 = spot_step (ltb stored (top_of x - n - x.base + n)) _ t2.1 in
-    let t4 = spot_step (eqb ((top_of x - n) % 2) 1) _ t3.1 in
+spotted x stored n y e =
+    let t1 = found_step (ltb (top_of x) n) _ y e in
+    let t2 = found_step (ltb (top_of x - n) x.base) _ y t1.1 in
+    let t3 = found_step (ltb stored (top_of x - n - x.base + n)) _ y t2.1 in
+    let t4 = found_step (eqb ((top_of x - n) % 2) 1) _ y t3.1 in
     record {
       fits = ltb-false (top_of x) n t1.0;
       low = ltb-false (top_of x - n) x.base t2.0;
       high = ltb-false stored (top_of x - n - x.base + n) t3.0;
       even = not_odd (top_of x - n) t4.0;
-      same = t1.2 ∙ t2.2 ∙ t3.2 ∙ t4.2;
+      same = e ∙ sym t4.1;
     }
 
 -- ---- the landing
 
-land_step : (b : Bool) (y : Landing) → (pick b no_landing y).ok ≡ true → (b ≡ false) × (y.ok ≡ true) × (pick b no_landing y ≡ y)
-land_step true y e = false_true _ e
-land_step false y e = (refl, e, refl)
+-- the landing that was found; where none was, nothing is said of it
+unfoldable pub landing_in : Option Landing → Landing
+landing_in None = landed 0 0 0 0
+landing_in (Some j) = j
+
+abbrev pub landing_at : View → List ℕ → ℕ → ℕ → ℕ → Landing
+landing_at x m v s n = landing_in (landing_of x m v s n)
 
 -- the queue's words
 pub record Queued (x : View) (m : List ℕ) (a to s n : ℕ) : Type 0 where
@@ -73,21 +75,21 @@ pub record Queued (x : View) (m : List ℕ) (a to s n : ℕ) : Type 0 where
   pub low : x.base ≤ to
   pub high : to - x.base + 4 ≤ length m
   pub apart : meets (to - x.base) s n ≡ false
-  pub same : queued_of x m a to s n ≡ landed a to (get_word m (to - x.base)) (get_word m (to - x.base + 2))
+  pub same : queued_of x m a to s n ≡ Some (landed a to (get_word m (to - x.base)) (get_word m (to - x.base + 2)))
 
-queued : (x : View) (m : List ℕ) (a to s n : ℕ) → (queued_of x m a to s n).ok ≡ true → Queued x m a to s n
+queued : (x : View) (m : List ℕ) (a to s n : ℕ) (j : Landing) → queued_of x m a to s n ≡ Some j → Queued x m a to s n
 unfolding queued_of
-queued x m a to s n e =
-    let t1 = land_step (eqb (to % 2) 1) _ e in
-    let t2 = land_step (ltb to x.base) _ t1.1 in
-    let t3 = land_step (ltb (length m) (to - x.base + 4)) _ t2.1 in
-    let t4 = land_step (meets (to - x.base) s n) _ t3.1 in
+queued x m a to s n j e =
+    let t1 = found_step (eqb (to % 2) 1) _ j e in
+    let t2 = found_step (ltb to x.base) _ j t1.1 in
+    let t3 = found_step (ltb (length m) (to - x.base + 4)) _ j t2.1 in
+    let t4 = found_step (meets (to - x.base) s n) _ j t3.1 in
     record {
       even = not_odd to t1.0;
       low = ltb-false to x.base t2.0;
       high = ltb-false (length m) (to - x.base + 4) t3.0;
       apart = t4.0;
-      same = t1.2 ∙ t2.2 ∙ t3.2 ∙ t4.2;
+      same = e ∙ sym t4.1;
     }
 
 -- the handler
@@ -98,17 +100,18 @@ pub record Landed (x : View) (m : List ℕ) (v s n : ℕ) : Type 0 where
   pub low : x.base ≤ vector_at x v
   pub high : vector_at x v - x.base + 4 ≤ length m
   pub apart : meets (vector_at x v - x.base) s n ≡ false
-  pub from : (landing_of x m v s n).from ≡ vector_at x v
-  pub pc : (landing_of x m v s n).pc ≡ handler_of x m v
+  pub from : (landing_at x m v s n).from ≡ vector_at x v
+  pub pc : (landing_at x m v s n).pc ≡ handler_of x m v
   pub queue : fetches_of x ≡ true → Queued x m (vector_at x v) (handler_of x m v) s n
-  pub first : fetches_of x ≡ true → (landing_of x m v s n).first ≡ get_word m (handler_of x m v - x.base)
-  pub second : fetches_of x ≡ true → (landing_of x m v s n).second ≡ get_word m (handler_of x m v - x.base + 2)
-  pub first_word : (landing_of x m v s n).first < 0x10000
-  pub second_word : (landing_of x m v s n).second < 0x10000
+  pub first : fetches_of x ≡ true → (landing_at x m v s n).first ≡ get_word m (handler_of x m v - x.base)
+  pub second : fetches_of x ≡ true → (landing_at x m v s n).second ≡ get_word m (handler_of x m v - x.base + 2)
+  pub same : landing_of x m v s n ≡ Some (landing_at x m v s n)
+  pub first_word : (landing_at x m v s n).first < 0x10000
+  pub second_word : (landing_at x m v s n).second < 0x10000
 
-pub landed_by : (x : View) (m : List ℕ) (v s n : ℕ) → ((landing_of x m v s n).first < 0x10000) × ((landing_of x m v s n).second < 0x10000) → (landing_of x m v s n).ok ≡ true → Landed x m v s n
-unfolding landing_of handler_of
-landed_by x m v s n w e = go (fetches_of x) refl t3.1
+pub landed_by : (x : View) (m : List ℕ) (v s n : ℕ) (j : Landing) → (j.first < 0x10000) × (j.second < 0x10000) → landing_of x m v s n ≡ Some j → Landed x m v s n
+unfolding landing_of handler_of landing_in
+landed_by x m v s n j w e = go (fetches_of x) refl t3.1
   where
     a : ℕ
     a = vector_at x v
@@ -116,25 +119,25 @@ landed_by x m v s n w e = go (fetches_of x) refl t3.1
     to : ℕ
     to = get_long m (vector_at x v - x.base)
 
-    after : Bool → Landing
-    after f = pick f (queued_of x m a to s n) (landed a to 0 0)
+    after : Bool → Option Landing
+    after f = pick f (queued_of x m a to s n) (Some (landed a to 0 0))
 
-    t1 : (ltb a x.base ≡ false) × ((pick (ltb (length m) (a - x.base + 4)) no_landing (pick (meets (a - x.base) s n) no_landing (after (fetches_of x)))).ok ≡ true) × (landing_of x m v s n ≡ pick (ltb (length m) (a - x.base + 4)) no_landing (pick (meets (a - x.base) s n) no_landing (after (fetches_of x))))
-    t1 = land_step (ltb a x.base) _ e
+    t1 : (ltb a x.base ≡ false) × (pick (ltb (length m) (a - x.base + 4)) None (pick (meets (a - x.base) s n) None (after (fetches_of x))) ≡ Some j)
+    t1 = found_step (ltb a x.base) _ j e
 
-    t2 : (ltb (length m) (a - x.base + 4) ≡ false) × ((pick (meets (a - x.base) s n) no_landing (after (fetches_of x))).ok ≡ true) × (pick (ltb (length m) (a - x.base + 4)) no_landing (pick (meets (a - x.base) s n) no_landing (after (fetches_of x))) ≡ pick (meets (a - x.base) s n) no_landing (after (fetches_of x)))
-    t2 = land_step (ltb (length m) (a - x.base + 4)) _ t1.1
+    t2 : (ltb (length m) (a - x.base + 4) ≡ false) × (pick (meets (a - x.base) s n) None (after (fetches_of x)) ≡ Some j)
+    t2 = found_step (ltb (length m) (a - x.base + 4)) _ j t1.1
 
-    t3 : (meets (a - x.base) s n ≡ false) × ((after (fetches_of x)).ok ≡ true) × (pick (meets (a - x.base) s n) no_landing (after (fetches_of x)) ≡ after (fetches_of x))
-    t3 = land_step (meets (a - x.base) s n) _ t2.1
+    t3 : (meets (a - x.base) s n ≡ false) × (after (fetches_of x) ≡ Some j)
+    t3 = found_step (meets (a - x.base) s n) _ j t2.1
 
-    whole : landing_of x m v s n ≡ after (fetches_of x)
-    whole = t1.2 ∙ t2.2 ∙ t3.2
+    by : (k : Landing) → j ≡ k → landing_at x m v s n ≡ k
+    by k z = ap landing_in e ∙ z
 
-    go : (f : Bool) → fetches_of x ≡ f → (after (fetches_of x)).ok ≡ true → Landed x m v s n
+    go : (f : Bool) → fetches_of x ≡ f → after (fetches_of x) ≡ Some j → Landed x m v s n
     go true q o =
-        let k : Queued x m a to s n = queued x m a to s n (rw q at o) in
-        let z : landing_of x m v s n ≡ landed a to (get_word m (to - x.base)) (get_word m (to - x.base + 2)) = whole ∙ ap after q ∙ k.same in
+        let k : Queued x m a to s n = queued x m a to s n j (rw q at o) in
+        let z : landing_at x m v s n ≡ landed a to (get_word m (to - x.base)) (get_word m (to - x.base + 2)) = by _ (same_Some _ _ (sym (rw q at o) ∙ k.same)) in
         record {
           low = ltb-false a x.base t1.0;
           high = ltb-false (length m) (a - x.base + 4) t2.0;
@@ -144,11 +147,12 @@ landed_by x m v s n w e = go (fetches_of x) refl t3.1
           queue = λ i. k;
           first = λ i. ap (λ (j : Landing). j.first) z;
           second = λ i. ap (λ (j : Landing). j.second) z;
-          first_word = w.0;
-          second_word = w.1;
+          same = e ∙ ap (λ (j : Landing). Some j) (sym (by j refl));
+          first_word = rw (by j refl) w.0;
+          second_word = rw (by j refl) w.1;
         }
     go false q o =
-        let z : landing_of x m v s n ≡ landed a to 0 0 = whole ∙ ap after q in
+        let z : landing_at x m v s n ≡ landed a to 0 0 = by _ (same_Some _ _ (sym (rw q at o))) in
         record {
           low = ltb-false a x.base t1.0;
           high = ltb-false (length m) (a - x.base + 4) t2.0;
@@ -158,8 +162,9 @@ landed_by x m v s n w e = go (fetches_of x) refl t3.1
           queue = λ i. false_true _ (sym q ∙ i);
           first = λ i. false_true _ (sym q ∙ i);
           second = λ i. false_true _ (sym q ∙ i);
-          first_word = w.0;
-          second_word = w.1;
+          same = e ∙ ap (λ (j : Landing). Some j) (sym (by j refl));
+          first_word = rw (by j refl) w.0;
+          second_word = rw (by j refl) w.1;
         }
 
 -- ---- an entry
@@ -212,7 +217,7 @@ mask_small a base len k l g t = go (ltb k 3) t
 pub enters : (m : Core) (s : List ℕ) (logged n v : ℕ) → Words m → Accepted m (length s) logged → v < 256 → 0 < n → (g : Spotted (view_of m) (length s) n)
     → (h : Landed (view_of m) s v (top_of (view_of m) - n - m.bus.base) n)
     → Entering m.bus (enter_supervisor m.cpu) s n v (top_of (view_of m) - n) (vector_at (view_of m) v) (handler_of (view_of m) s v) (handler_of (view_of m) s v)
-    (landing_of (view_of m) s v (top_of (view_of m) - n - m.bus.base) n).first (landing_of (view_of m) s v (top_of (view_of m) - n - m.bus.base) n).second
+    (landing_at (view_of m) s v (top_of (view_of m) - n - m.bus.base) n).first (landing_at (view_of m) s v (top_of (view_of m) - n - m.bus.base) n).second
 unfolding view_of handler_of vector_at kind_of vbr_of is_faulted
 enters m s logged n v w a u p g h =
     record {
@@ -250,7 +255,7 @@ enters m s logged n v w a u p g h =
     vector_even : (v * 4 + m.cpu.flow.vbr) % 2 ≡ 0
     vector_even = let z : m.cpu.flow.vbr % 2 ≡ 0 = not_odd m.cpu.flow.vbr a.base in omega arith
 
-    landing : Lands m.bus (kind_of c) (vbr_of c) (prefetch_enabled c) s v e to to (landing_of (view_of m) s v (top_of (view_of m) - n - m.bus.base) n).first (landing_of (view_of m) s v (top_of (view_of m) - n - m.bus.base) n).second
+    landing : Lands m.bus (kind_of c) (vbr_of c) (prefetch_enabled c) s v e to to (landing_at (view_of m) s v (top_of (view_of m) - n - m.bus.base) n).first (landing_at (view_of m) s v (top_of (view_of m) - n - m.bus.base) n).second
     landing =
         record {
           vector = vector_small v m.cpu.flow.vbr base (length s) (kind_of c) u h.low h.high a.span;

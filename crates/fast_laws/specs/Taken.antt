@@ -2,7 +2,6 @@
 use Prim.Native.Nat.{ℕ, ◌+◌, ◌*◌, ◌/◌, ◌^◌, ◌<◌}
 use Rattle.std.specs.Prelude.{◌≡◌, Bool, eqb}
 use Rattle.std.proofs.Math.Path.{refl}
-use Rattle.std.proofs.Common.{lit<}
 use Rattle.std.proofs.Math.Bool.{true, false}
 use native.Mathlib.Omega.{arith}
 use Rattle.types.specs.Kinds.{pick}
@@ -15,12 +14,13 @@ use Rattle.unfaulted.specs.Closed.{last_value, short_pieces, three_pieces, short
 use Rattle.fast_plans.specs.declared.View.{View}
 use Rattle.fast_plans.specs.declared.plans.Plan.{Plan}
 use Rattle.fast_plans.specs.Views.{view_of}
-use Rattle.fast_plans.specs.Plans.{row, is_long, address_of, entry_plan}
+use Rattle.fast_plans.specs.Plans.{row, is_long, address_of, entry_plan, shape_number}
 use Rattle.fast.specs.Stacks.{Tape}
 use Rattle.fast_plans.specs.Laws.{compose_fits}
 use Rattle.fast_laws.specs.Patched.{Words}
 use Rattle.fast_laws.specs.Tapes.{Framed, framed_short, framed_three}
 use Rattle.fast_laws.specs.Ways.{spot_for}
+use Rattle.fast_plans.specs.declared.plans.Maker.TheVariants.{Exception}
 
 -- ---- the frame of `take_exception`
 
@@ -31,10 +31,10 @@ offset_plain v h = omega arith
 -- way 1: its bytes, its pieces, and the data of its last write
 module _ (m : Core) (t : Tape) (v : ℕ) (b : Bool) (w : Words m) (h : v < 256) where
   abbrev taking : Plan
-  taking = entry_plan (view_of m) (row 1 v b)
+  taking = entry_plan (view_of m) (row Exception v b)
 
   abbrev taken_at : ℕ
-  taken_at = address_of (view_of m) (row 1 v b)
+  taken_at = address_of (view_of m) (row Exception v b)
 
   address_small : taken_at < 2 ^ 32
   unfolding address_of view_of
@@ -49,11 +49,11 @@ module _ (m : Core) (t : Tape) (v : ℕ) (b : Bool) (w : Words m) (h : v < 256) 
   unfolding entry_plan is_long short_bytes view_of kind_of
   take_bytes = refl
 
-  take_one : eqb m.cpu.flow.cpu_type 1 ≡ true → taking.shape ≡ 1
+  take_one : eqb m.cpu.flow.cpu_type 1 ≡ true → shape_number taking.shape ≡ 1
   unfolding entry_plan view_of is_long
   take_one q = rw q
 
-  take_two : eqb m.cpu.flow.cpu_type 1 ≡ false → taking.shape ≡ 2
+  take_two : eqb m.cpu.flow.cpu_type 1 ≡ false → shape_number taking.shape ≡ 2
   unfolding entry_plan view_of is_long
   take_two q = rw q
 

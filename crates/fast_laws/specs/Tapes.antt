@@ -14,6 +14,7 @@ use Rattle.fast.specs.declared.landings.Landing.{Landing}
 use Rattle.fast_plans.specs.declared.plans.Plan.{Plan}
 use Rattle.fast_plans.specs.Places.{fetches_of}
 use Rattle.fast.specs.Stacks.{Tape, tape, word_at, long_at, short_at, three_at, waiting_of, clocks_count, clocks_at, lay_at, lay_count, jump_at, jump_count}
+use Rattle.fast_plans.specs.Plans.{shape_number}
 
 -- ---- clocks and the jump
 
@@ -99,15 +100,15 @@ module _ (x : View) (s : Spot) (p : Plan) (t : Tape) where
         count = c;
       }
 
-  pub framed_short : p.shape ≡ 2 → p.sr < 0x10000 → p.format < 0x10000 → Framed x s p t (short_pieces p.sr p.pc p.format)
+  pub framed_short : shape_number p.shape ≡ 2 → p.sr < 0x10000 → p.format < 0x10000 → Framed x s p t (short_pieces p.sr p.pc p.format)
   unfolding lay_at lay_count short_pieces
   framed_short e f g = framed (short_pieces p.sr p.pc p.format) (short_at s (clocks_count 0 k) p after) (rw e) (rw e) (short_laid s (clocks_count 0 k) p after f g)
 
-  pub framed_three : p.shape ≡ 1 → p.sr < 0x10000 → p.pc < 2 ^ 32 → Framed x s p t (three_pieces p.sr p.pc)
+  pub framed_three : shape_number p.shape ≡ 1 → p.sr < 0x10000 → p.pc < 2 ^ 32 → Framed x s p t (three_pieces p.sr p.pc)
   unfolding lay_at lay_count three_pieces
   framed_three e f h = framed (three_pieces p.sr p.pc) (three_at s (clocks_count 0 k) p after) (rw e) (rw e) (three_laid s (clocks_count 0 k) p after f h)
 
-  pub framed_long : p.shape ≡ 3 → p.sr < 0x10000 → p.format < 0x10000 → Framed x s p t (long_pieces p.sr p.pc p.format p.extra)
+  pub framed_long : shape_number p.shape ≡ 3 → p.sr < 0x10000 → p.format < 0x10000 → Framed x s p t (long_pieces p.sr p.pc p.format p.extra)
   unfolding lay_at lay_count long_pieces short_pieces
   framed_long e f g =
       framed (long_pieces p.sr p.pc p.format p.extra) (short_at s (clocks_count 0 k + 1) p (long_at s 8 (clocks_count 0 k) p.extra after)) (rw e) (rw e)

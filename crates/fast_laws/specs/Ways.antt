@@ -1,6 +1,7 @@
 -- The plain call, entry by entry, where the fast way makes an entry.
-use Rattle.std.specs.Prelude.{ℕ, ◌+◌, ◌-◌, ◌%◌, ◌^◌, ◌<◌, ◌≡◌, refl, Bool, true, false, List, length}
+use Rattle.std.specs.Prelude.{ℕ, ◌+◌, ◌-◌, ◌%◌, ◌^◌, ◌<◌, ◌≡◌, refl, Bool, true, false, List, length, Option, Some, None}
 use Rattle.std.proofs.Common.{sym, ap, ◌∙◌, arith}
+use Rattle.std.proofs.lemmas.Option.{same_Some}
 use Rattle.types.specs.Kinds.{pick}
 use Rattle.cpu.specs.declared.Cpu.{Cpu}
 use Rattle.cpu.specs.Clocks.{clocks_of}
@@ -13,7 +14,7 @@ use Rattle.answers.specs.declared.Call.{Call}
 use Rattle.answers.specs.Answers.{cycles, of_entry, refused_by, value_of, count_of}
 use Rattle.calls.specs.Calls.{run, restarted, begun, refusal, perform}
 use Rattle.numbers.specs.declared.RawCall.{RawCall}
-use Rattle.boundary.specs.declared.Decoded.TheVariants.{Known}
+use Rattle.std.specs.Prelude.{Some}
 use Rattle.boundary.specs.Calls.{outcome, decode, of_performed, raw_of, raw_call}
 use Rattle.unfaulted.specs.Closed.{closed, told, Piece, laid, Entering, entry_events}
 use Rattle.fast_plans.specs.declared.View.{View}
@@ -25,17 +26,17 @@ use Rattle.fast_plans.specs.Views.{view_of}
 use Rattle.fast_plans.specs.Places.{fetches_of, top_of, user_of, spot, spot_of}
 use Rattle.fast.specs.Landings.{landing_of}
 use Rattle.fast.specs.Stacks.{Tape, tape, waiting_of, lay_at, lay_count, jump_at, jump_count}
-use Rattle.fast_plans.specs.Quiet.{no_patch}
+use Rattle.fast_plans.specs.Quiet.{is_entry, no_patch}
 use Rattle.fast.specs.Patches.{patch_by, Ended, ended, written_of, land_of, place_of, enter_of}
 use Rattle.fast_laws.specs.Patched.{patch_cpu, patch_of, Words, Fetched}
 use Rattle.fast_laws.specs.Accepts.{false_true, Accepted}
 use Rattle.fast_laws.specs.Supervised.{top_at, user_at, Clear, Fitting}
-use Rattle.fast_laws.specs.Placed.{Spotted, spotted, Landed, landed_by, enters}
+use Rattle.fast_laws.specs.Placed.{Spotted, spotted, Landed, landed_by, landing_at, enters}
 use Rattle.fast_laws.specs.Tapes.{Framed, entry_told, entry_counted}
 
 -- ---- where the fast way makes an entry, it writes it
 
-pub ended_step : (b : Bool) (y z : Ended) → z.patch.fast ≡ false → (pick b y z).patch.fast ≡ true → (b ≡ true) × (y.patch.fast ≡ true) × (pick b y z ≡ y)
+pub ended_step : (b : Bool) (y z : Ended) → is_entry z.patch.way ≡ false → is_entry (pick b y z).patch.way ≡ true → (b ≡ true) × (is_entry y.patch.way ≡ true) × (pick b y z ≡ y)
 ended_step true y z n e = (refl, e, refl)
 ended_step false y z n e = false_true _ (sym n ∙ e)
 
@@ -47,14 +48,14 @@ abbrev pub spot_for : View → Plan → Spot
 spot_for x p = spot (top_of x - p.bytes) (place_at x p)
 
 abbrev pub landing_for : View → Plan → List ℕ → Landing
-landing_for x p s = landing_of x s p.vector (place_at x p) p.bytes
+landing_for x p s = landing_at x s p.vector (place_at x p) p.bytes
 
 pub record Entered (x : View) (p : Plan) (s l : List ℕ) : Type 0 where
   pub spot : Spotted x (length s) p.bytes
   pub landing : Landed x s p.vector (place_at x p) p.bytes
   pub same : enter_of x p s l ≡ written_of x p (spot_for x p) (landing_for x p s) (tape s l)
 
-none_fast : (s l : List ℕ) → (ended no_patch s l).patch.fast ≡ false
+none_fast : (s l : List ℕ) → is_entry (ended no_patch s l).patch.way ≡ false
 unfolding no_patch
 none_fast s l = refl
 
@@ -66,17 +67,27 @@ written_fetched : (x : View) (p : Plan) (s : Spot) (j : Landing) (t : Tape) → 
 unfolding written_of patch_by
 written_fetched x p s j t h = h
 
-pub entered_by_lem : (x : View) (p : Plan) (s l : List ℕ) → Fetched (enter_of x p s l).patch → (enter_of x p s l).patch.fast ≡ true → Entered x p s l
-unfolding enter_of place_of land_of
-entered_by_lem x p s l w e =
-    let S : Spot = spot_of x (length s) p.bytes in
-    let t = tape s l in
-    let a = ended_step S.ok (land_of x p S (landing_of x s p.vector S.place p.bytes) t) (ended no_patch s l) (none_fast s l) e in
-    let g : Spotted x (length s) p.bytes = spotted x (length s) p.bytes a.0 in
-    let b = ended_step (landing_for x p s).ok (written_of x p (spot_for x p) (landing_for x p s) t) (ended no_patch s l) (none_fast s l) (rw g.same at a.1) in
-    let z : enter_of x p s l ≡ written_of x p (spot_for x p) (landing_for x p s) t = a.2 ∙ ap (λ (z : Spot). land_of x p z (landing_of x s p.vector z.place p.bytes) t) g.same ∙ b.2 in
-    let v : ((landing_for x p s).first < 0x10000) × ((landing_for x p s).second < 0x10000) = written_fetched x p (spot_for x p) (landing_for x p s) t (fetched_in (enter_of x p s l) (written_of x p (spot_for x p) (landing_for x p s) t) z w) in
-    record { spot = g; landing = landed_by x s p.vector (place_at x p) p.bytes v b.0; same = z }
+pub entered_by_lem : (x : View) (p : Plan) (s l : List ℕ) → Fetched (enter_of x p s l).patch → is_entry (enter_of x p s l).patch.way ≡ true → Entered x p s l
+unfolding enter_of place_of land_of no_patch
+entered_by_lem x p s l w e = go (spot_of x (length s) p.bytes) refl e
+  where
+    t : Tape
+    t = tape s l
+
+    made : (y : Spot) → spot_of x (length s) p.bytes ≡ Some y → (o : Option Landing) → landing_of x s p.vector y.place p.bytes ≡ o → is_entry (land_of x p y o t).patch.way ≡ true → Entered x p s l
+    made y f None k z = false_true _ z
+    made y f (Some j) k z =
+        let g : Spotted x (length s) p.bytes = spotted x (length s) p.bytes y f in
+        let i : y ≡ spot_for x p = same_Some _ _ (sym f ∙ g.same) in
+        let q : enter_of x p s l ≡ written_of x p y j t = rw (f, k) refl in
+        let v : (j.first < 0x10000) × (j.second < 0x10000) = written_fetched x p y j t (fetched_in (enter_of x p s l) (written_of x p y j t) q w) in
+        let h : Landed x s p.vector (place_at x p) p.bytes = landed_by x s p.vector (place_at x p) p.bytes j v (rw i at k) in
+        let u : j ≡ landing_for x p s = same_Some _ _ (sym (rw i at k) ∙ h.same) in
+        record { spot = g; landing = h; same = q ∙ rw (i, u) refl }
+
+    go : (o : Option Spot) → spot_of x (length s) p.bytes ≡ o → is_entry (place_of x p o t).patch.way ≡ true → Entered x p s l
+    go None f z = false_true _ z
+    go (Some y) f z = made y f (landing_of x s p.vector y.place p.bytes) refl z
 
 -- ---- the plain call
 
@@ -84,7 +95,7 @@ begun_closed : (m : Core) (s l : List ℕ) → begun (world m s l) ≡ closed m.
 unfolding begun restarted closed
 begun_closed m s l = refl
 
-pub raw_known : (m : Core) (s l : List ℕ) (c : RawCall) (call : Call) → decode c ≡ Known call → refusal (world m s l) call ≡ 0
+pub raw_known : (m : Core) (s l : List ℕ) (c : RawCall) (call : Call) → decode c ≡ Some call → refusal (world m s l) call ≡ 0
     → raw_call (world m s l) c ≡ of_performed (run (closed m.bus m.cpu 0 s l) call)
 unfolding raw_call raw_of perform
 raw_known m s l c call d h = rw (d, h) (ap (λ (w : World). of_performed (run w call)) (begun_closed m s l))

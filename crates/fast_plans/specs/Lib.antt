@@ -2,4 +2,5 @@ pub mod Views
 pub mod Places
 pub mod Plans
 pub mod Quiet
+pub mod Patched
 pub mod Laws

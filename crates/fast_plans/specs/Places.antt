@@ -1,5 +1,5 @@
--- Where the frame of an entry lies. A frame that the fast way does not take has `ok` false.
-use Rattle.std.specs.Prelude.{ℕ, ◌+◌, ◌-◌, ◌%◌, Bool, true, false, eqb, ltb}
+-- Where the frame of an entry lies; `None` is a frame that the fast way does not take.
+use Rattle.std.specs.Prelude.{ℕ, ◌+◌, ◌-◌, ◌%◌, Bool, false, eqb, ltb, Option, Some, None}
 use Rattle.types.specs.Kinds.{pick, is_prefetch_kind}
 use Rattle.fast_plans.specs.declared.View.{View}
 use Rattle.fast_plans.specs.declared.places.Spot.{Spot}
@@ -15,16 +15,13 @@ top_of x = pick (eqb x.flags.s_flag 0) x.interrupt x.a7
 unfoldable pub user_of : View → ℕ
 user_of x = pick (eqb x.flags.s_flag 0) x.a7 x.user
 
-abbrev pub no_spot : Spot
-no_spot = record { ok = false; a7 = 0; place = 0 }
-
 abbrev pub spot : ℕ → ℕ → Spot
-spot q p = record { ok = true; a7 = q; place = p }
+spot q p = record { a7 = q; place = p }
 
 -- n bytes below the supervisor's pointer, within the store, at an even address
-unfoldable pub spot_of : View → ℕ → ℕ → Spot
+unfoldable pub spot_of : View → ℕ → ℕ → Option Spot
 spot_of x stored n =
-    pick (ltb (top_of x) n) no_spot
-    (pick (ltb (top_of x - n) x.base) no_spot
-    (pick (ltb stored (top_of x - n - x.base + n)) no_spot
-    (pick (eqb ((top_of x - n) % 2) 1) no_spot (spot (top_of x - n) (top_of x - n - x.base)))))
+    pick (ltb (top_of x) n) None
+    (pick (ltb (top_of x - n) x.base) None
+    (pick (ltb stored (top_of x - n - x.base + n)) None
+    (pick (eqb ((top_of x - n) % 2) 1) None (Some (spot (top_of x - n) (top_of x - n - x.base))))))

@@ -5,18 +5,37 @@ use Rattle.numbers.specs.Numbers.{bit}
 use Rattle.numbers.specs.declared.RawCall.{RawCall}
 use Rattle.fast_plans.specs.declared.View.{View}
 use Rattle.fast_plans.specs.declared.Patch.{Patch}
+use Rattle.fast_plans.specs.declared.Way.{Way}
+use Rattle.fast_plans.specs.declared.Way.TheVariants.{Plain, Idle, Calm, Entry}
 use Rattle.fast_plans.specs.Plans.{takes}
+
+-- which way a call goes
+abbrev pub is_idle : Way → Bool
+is_idle Plain = false
+is_idle Idle = true
+is_idle Calm = false
+is_idle Entry = false
+
+abbrev pub is_calm : Way → Bool
+is_calm Plain = false
+is_calm Idle = false
+is_calm Calm = true
+is_calm Entry = false
+
+abbrev pub is_entry : Way → Bool
+is_entry Plain = false
+is_entry Idle = false
+is_entry Calm = false
+is_entry Entry = true
 
 unfoldable pub is_quiet : View → RawCall → Bool
 is_quiet x c = pick (eqb c.number 22) (pick (takes x) false x.room) (both (leb 19 c.number) (leb c.number 21))
 
 -- a patch of no entry
-abbrev pub quiet : Bool → Bool → ℕ → ℕ → Bool → Patch
-quiet idle calm answer level flow =
+abbrev pub quiet : Way → ℕ → ℕ → Bool → Patch
+quiet way answer level flow =
     record {
-      idle = idle;
-      calm = calm;
-      fast = false;
+      way = way;
       fetches = false;
       answer = answer;
       events = 0;
@@ -38,14 +57,14 @@ quiet idle calm answer level flow =
 
 -- the fast way does not take the call
 unfoldable pub no_patch : Patch
-no_patch = quiet false false 0 0 false
+no_patch = quiet Plain 0 0 false
 
 unfoldable pub calm_patch : ℕ → ℕ → Bool → Patch
-calm_patch answer level flow = quiet false true answer level flow
+calm_patch answer level flow = quiet Calm answer level flow
 
 -- nothing changes, but that the events of an earlier call are forgotten
 unfoldable pub still_patch : View → ℕ → Patch
-still_patch x answer = pick (eqb x.events 0) (quiet true false answer 0 false) (calm_patch answer x.flags.int_level x.change_of_flow)
+still_patch x answer = pick (eqb x.events 0) (quiet Idle answer 0 false) (calm_patch answer x.flags.int_level x.change_of_flow)
 
 -- whether a trace is asked for
 unfoldable pub asks : View → Bool

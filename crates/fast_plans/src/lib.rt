@@ -5,6 +5,7 @@
 
 use cpu::Flags;
 
+mod patches; // a patch laid into a record
 pub mod places; // where a frame lies
 pub mod plans; // a call as data
 pub mod quiet; // calls that make no access
@@ -13,7 +14,7 @@ ghost use Rattle.std.specs.Prelude.{◌≡◌, ◌+◌, ◌≤◌, ltb};
 ghost use Rattle.fast_plans.specs.Views.{span_of, is_other, accepts_of};
 ghost use Rattle.fast_plans.specs.Quiet.{quiet, no_patch};
 
-// What the fast way reads of a record and its bus.
+// What the fast way reads of a record and its bus; the kind is the record's byte, any number.
 #[derive(Clone, Copy)]
 pub struct View {
     pub kind: u8,
@@ -38,13 +39,20 @@ pub struct View {
     pub events: u32,
 }
 
-// What a call leaves of record and bus, and what it answers. `fast`: an entry was made. `calm`: no access is made, and at most the level and the
-// change of flow change. `idle`: nothing changes. None of them: the fast way does not take the call, and nothing was touched.
+// The way that a call goes.
+#[derive(Clone, Copy)]
+pub enum Way {
+    Plain, // the fast way does not take it, and nothing was touched
+    Idle, // nothing changes
+    Calm, // no access is made, and at most the level and the change of flow change
+    Entry, // an entry was made
+}
+
+// What a call leaves of record and bus, and what it answers. One struct for all ways: answer, events, level and flow are of more ways than one, and
+// an enum would list them in each. `first` and `second` count where `fetches`, which the view says too.
 #[derive(Clone, Copy)]
 pub struct Patch {
-    pub idle: bool,
-    pub calm: bool,
-    pub fast: bool,
+    pub way: Way,
     pub fetches: bool,
     pub answer: u32,
     pub events: u32,
@@ -65,16 +73,19 @@ pub struct Patch {
 }
 
 // The addresses of a kind: a store within them has no byte whose address is masked to another.
+#[tactic(auto, unfolding(crate::specs::Views::span_of))]
 fn span(kind: u8) -> usize
     ensures { result ≡ span_of kind }
 {
-    if kind < 3 {
-        return 0x1000000;
+    if kind < types::M68EC020 {
+        0x1000000
+    } else {
+        0x100000000
     }
-    0x100000000
 }
 
 // Whether so many bytes at a base end past the addresses of the kind.
+#[tactic(auto, unfolding(crate::specs::Views::span_of))]
 fn ends_past(kind: u8, base: u32, stored: usize) -> bool
     requires { stored ≤ 65536 }
     ensures { result ≡ ltb (span_of kind) (base + stored) }
@@ -84,59 +95,38 @@ fn ends_past(kind: u8, base: u32, stored: usize) -> bool
 
 // Whether the fast way takes such a record, store and log: none of the numbers 1, 2, 4 to 7 and 9 refuses the call, M is clear, no window counts,
 // and the record is not faulted.
+#[tactic(auto, unfolding(crate::specs::Views::accepts_of))]
 pub fn accepts(x: View, stored: usize, logged: usize) -> bool
     ensures { result ≡ accepts_of x stored logged }
 {
-    if is_other(x.flags.s_flag) {
-        return false;
-    }
-    if x.flags.m_flag != 0 {
-        return false;
-    }
-    if x.vbr % 2 == 1 {
-        return false;
-    }
-    if x.overridden {
-        return false;
-    }
-    if x.windows != 0 {
-        return false;
-    }
-    if 65536 < stored {
-        return false;
-    }
-    if ends_past(x.kind, x.base, stored) {
-        return false;
-    }
-    if logged < 192 {
-        return false;
-    }
-    if 11 < x.kind {
-        return false;
-    }
-    x.run_mode != 1
+    !is_other(x.flags.s_flag)
+        && x.flags.m_flag == 0
+        && x.vbr % 2 != 1
+        && !x.overridden
+        && x.windows == 0
+        && stored <= 65536
+        && !ends_past(x.kind, x.base, stored)
+        && 192 <= logged
+        && x.kind <= types::M68060
+        && x.run_mode != 1
 }
 
 // An S flag that is neither 0 nor 4.
+#[tactic(auto, unfolding(crate::specs::Views::is_other))]
 fn is_other(s: u32) -> bool
     ensures { result ≡ is_other s }
 {
-    if s == 0 {
-        return false;
-    }
-    s != 4
+    s != 0 && s != 4
 }
 
 // A patch of no entry.
-pub(crate) fn quiet_patch(idle: bool, calm: bool, answer: u32, level: u32, flow: bool) -> Patch
-    ensures { result ≡ quiet idle calm answer level flow }
+pub(crate) fn quiet_patch(way: Way, answer: u32, level: u32, flow: bool) -> Patch
+    ensures { result ≡ quiet way answer level flow }
 {
     Patch {
-        idle: idle,
-        calm: calm,
-        fast: false,
+        way,
         fetches: false,
-        answer: answer,
+        answer,
         events: 0,
         user: 0,
         top: 0,
@@ -148,16 +138,17 @@ pub(crate) fn quiet_patch(idle: bool, calm: bool, answer: u32, level: u32, flow:
         vector: 0,
         stopped: 0,
         mask: 0,
-        level: level,
+        level,
         serviced: false,
-        flow: flow,
+        flow,
         noted: false,
     }
 }
 
 // The fast way does not take the call.
+#[tactic(auto, unfolding(crate::specs::Quiet::no_patch))]
 pub fn none() -> Patch
     ensures { result ≡ no_patch }
 {
-    quiet_patch(false, false, 0, 0, false)
+    quiet_patch(Way::Plain, 0, 0, false)
 }

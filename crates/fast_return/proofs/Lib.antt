@@ -1,7 +1,4 @@
-pub mod QuickLaws
-pub mod RowWays
-pub mod FindWays
-pub mod PatchWays
-pub mod SeenWays
-pub mod StepWalks
-pub mod WalkWays
+pub mod Finds
+pub mod Sizes
+pub mod Patches
+pub mod Walks

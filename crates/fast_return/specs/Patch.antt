@@ -1,14 +1,24 @@
 -- A return that is tried, and the record after it.
-use Rattle.std.specs.Prelude.{true, false, ◌==◌}
+use Rattle.std.specs.Prelude.{Bool, true, false, ◌==◌}
 use Rattle.types.specs.Kinds.{pick}
 use Rattle.memory.specs.declared.Core.{Core}
 use Rattle.memory.specs.World.{put_cpu}
-use Rattle.unwind.specs.declared.frames.Frame.{Frame}
-use Rattle.unwind.specs.declared.Returned.{Returned}
-use Rattle.unwind.specs.Frames.{refused_frame}
+use Rattle.unwind.specs.declared.returns.Row.{Row}
+use Rattle.unwind.specs.Models.{Frame, Returned}
+use Rattle.unwind.specs.Frames.{refused_frame, read}
 use Rattle.unwind.specs.Returns.{row_of, take_frame}
-use Rattle.fast_return.specs.declared.quick.Found.{Found}
-use Rattle.fast_return.specs.declared.ReturnPatch.{ReturnPatch}
+use Rattle.fast_return.specs.declared.ReturnPatch.{ReturnPatch as Code}
+use Rattle.fast_return.specs.Quick.{Found}
+
+-- whether the return goes, its row and the frame that it takes
+pub record ReturnPatch : Type 0 where
+  pub ok : Bool
+  pub row : Row
+  pub frame : Frame
+
+-- the patch of the code, so read: it goes
+abbrev pub going : Code → ReturnPatch
+going q = record { ok = true; row = q.row; frame = read q.frame }
 
 unfoldable pub no_patch : ReturnPatch
 no_patch = record { ok = false; row = record { format = 0; status = 0; address = 0; offset = 0 }; frame = refused_frame 0 }

@@ -11,9 +11,8 @@ use Rattle.refusals.specs.Refusals.{bad_flags, odd_base, bad_cycles, bad_code, b
 use Rattle.unwind.specs.Frames.{sight, byte_address, head_of, refused_frame, frame_of}
 use Rattle.unwind.specs.Returns.{in_user, done_back, first_back, back}
 use Rattle.unwind.specs.Unwind.{refusal, returned, return_from}
-use Rattle.fast_return.specs.declared.quick.Found.{Found}
 use Rattle.fast_return.specs.Accepted.{plain_flags, plain_cpu, plain_bus, accepts}
-use Rattle.fast_return.specs.Quick.{lies, not_found, taken_at, format_at, size_of, rest_lies, found_sized, found_word, found_in, found_of}
+use Rattle.fast_return.specs.Quick.{Found, lies, not_found, taken_at, format_at, size_of, rest_lies, found_sized, found_word, found_in, found_of}
 use Rattle.fast_return.specs.FoundLaws.{found_frame}
 use Rattle.fast_return.specs.Patch.{no_patch, done_patch, found_patch, patch_back, patch_returned}
 

@@ -1,10 +1,16 @@
 -- A frame whose bytes lie in one run of a store without windows, read in place.
-use Rattle.std.specs.Prelude.{ℕ, ◌+◌, ◌-◌, ◌*◌, ◌/◌, ◌%◌, Bool, true, false, List, length, ◌==◌, nat_lt, slice_index}
+use Rattle.std.specs.Prelude.{ℕ, ◌+◌, ◌-◌, ◌*◌, ◌/◌, ◌%◌, Bool, true, false, List, length, ◌==◌, nat_lt, slice_index, Option, Some, None}
 use Rattle.types.specs.Kinds.{pick}
 use Rattle.types.specs.Tables.{frame_length}
-use Rattle.unwind.specs.Frames.{byte_address, head_of, refused_frame}
+use Rattle.unwind.specs.declared.frames.Frame.{Frame as Code}
+use Rattle.unwind.specs.Models.{Frame}
+use Rattle.unwind.specs.Frames.{byte_address, head_of, refused_frame, read}
 use Rattle.unwind.specs.Straight.{straight}
-use Rattle.fast_return.specs.declared.quick.Found.{Found}
+
+-- a frame that was found, or none
+pub record Found : Type 0 where
+  pub ok : Bool
+  pub frame : Frame
 
 -- the word and the long at a place of the store
 unfoldable pub word_at : List ℕ → ℕ → ℕ
@@ -53,3 +59,8 @@ found_in s base k a =
 -- the frame at p
 unfoldable pub found_of : List ℕ → ℕ → ℕ → ℕ → Found
 found_of s base k p = pick (p % 2 == 1) not_found (found_in s base k (byte_address k p 0))
+
+-- what the code finds, so read
+abbrev pub as_found : Option Code → Found
+as_found (Some f) = record { ok = true; frame = read f }
+as_found None = record { ok = false; frame = refused_frame 0 }

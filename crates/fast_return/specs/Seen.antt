@@ -5,7 +5,7 @@ use Rattle.cpu.specs.declared.Cpu.{Cpu}
 use Rattle.cpu.specs.declared.Regs.{Regs}
 use Rattle.cpu.specs.declared.Flags.{Flags}
 use Rattle.status.specs.Status.{decompose, s_of, m_of}
-use Rattle.unwind.specs.declared.frames.Frame.{Frame}
+use Rattle.unwind.specs.Models.{Frame}
 use Rattle.fast_return.specs.declared.seen.Seen.{Seen}
 
 unfoldable pub seen : Cpu → Seen

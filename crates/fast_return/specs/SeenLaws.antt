@@ -11,7 +11,7 @@ use Rattle.cpu.specs.Fields.{kind_of, a7_of, set_a7, set_pc}
 use Rattle.cpu.specs.Clocks.{clear_prefetch}
 use Rattle.status.specs.Status.{put_back_sr, decompose}
 use Rattle.status.specs.Banks.{sp_index, backup_sp, restore_sp}
-use Rattle.unwind.specs.declared.frames.Frame.{Frame}
+use Rattle.unwind.specs.Models.{Frame}
 use Rattle.unwind.specs.Returns.{raise_a7, swap_sr, take_frame}
 use Rattle.fast_return.specs.Seen.{seen, stack_of, bank_of, entered_seen, saved_seen, take_seen, banked_regs, back_flags}
 

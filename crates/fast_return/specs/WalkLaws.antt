@@ -10,15 +10,14 @@ use Rattle.status.specs.Status.{put_back_sr}
 use Rattle.status.specs.Banks.{backup_sp, restore_sp}
 use Rattle.memory.specs.declared.Bus.{Bus}
 use Rattle.memory.specs.Served.{served_of, in_store, windows_in_use, clear_of, place_of}
-use Rattle.unwind.specs.declared.frames.Frame.{Frame}
-use Rattle.unwind.specs.declared.returns.Back.{Back}
+use Rattle.unwind.specs.Models.{Frame, Back}
 use Rattle.unwind.specs.Frames.{Sight, sight, byte_served, byte_of, byte_address, all_served, word_of, long_of, head_of, taken_frame, sized_frame, format_frame, frame_of}
 use Rattle.unwind.specs.Returns.{raise_a7, swap_sr, take_frame, refused_back, done_back, second_back, first_back, in_user, back, trail_of, laid, walk_of}
 use Rattle.fast_return.specs.declared.seen.Seen.{Seen}
-use Rattle.fast_return.specs.declared.rows.Step.{Step}
+use Rattle.unwind.specs.Steps.{Step, refused_step, done_step, second_step, first_step, step_of, steps_of}
 use Rattle.fast_return.specs.Seen.{seen, seen_in_user, take_seen}
 use Rattle.fast_return.specs.SeenLaws.{seen_take}
-use Rattle.fast_return.specs.Rows.{bare_bus, refused_step, done_step, second_step, first_step, step, trail_seen, walk_seen}
+use Rattle.fast_return.specs.Rows.{bare_bus, on_seen, step, trail_seen, walk_seen}
 
 -- ---- the record of a walk: its kind, and its registers in number
 
@@ -32,22 +31,22 @@ unfolding take_frame clear_prefetch set_pc swap_sr restore_sp backup_sp raise_a7
 kept_take k c f h = record { kind_is_lem = h.kind_is_lem; registers = rw (length-set, length-set) h.registers; banks = rw length-set h.banks }
 
 -- what is kept of a record after a return, with its row or number
-abbrev seen_back : Back → Step
-seen_back x = record { seen = seen x.cpu; refused = x.refused; row = x.row }
+abbrev seen_back : Back → Step Seen
+seen_back x = record { after = seen x.cpu; refused = x.refused; row = x.row }
 
 refused_seen : (c : Cpu) (n : ℕ) → seen_back (refused_back c n) ≡ refused_step (seen c) n
 unfolding refused_back refused_step
 refused_seen c n = refl
 
-done_seen : (k : ℕ) (c : Cpu) (format : ℕ) (f : Frame) → Kept k c → seen_back (done_back c format f) ≡ done_step k (seen c) format f
+done_seen : (k : ℕ) (c : Cpu) (format : ℕ) (f : Frame) → Kept k c → seen_back (done_back c format f) ≡ done_step on_seen k (seen c) format f
 unfolding done_back done_step
 done_seen k c format f h = rw (seen_take c f h.registers h.banks, h.kind_is_lem)
 
-second_seen : (k : ℕ) (c d : Cpu) (f : Frame) → Kept k d → seen_back (second_back c d f) ≡ second_step k (seen c) (seen d) f
+second_seen : (k : ℕ) (c d : Cpu) (f : Frame) → Kept k d → seen_back (second_back c d f) ≡ second_step on_seen k (seen c) (seen d) f
 unfolding second_back second_step
 second_seen k c d f h = go (f.refused == 0) (f.format == 1)
   where
-    go : (t u : Bool) → seen_back (pick t (pick u (refused_back c 13) (done_back d 1 f)) (refused_back c f.refused)) ≡ pick t (pick u (refused_step (seen c) 13) (done_step k (seen d) 1 f)) (refused_step (seen c) f.refused)
+    go : (t u : Bool) → seen_back (pick t (pick u (refused_back c 13) (done_back d 1 f)) (refused_back c f.refused)) ≡ pick t (pick u (refused_step (seen c) 13) (done_step on_seen k (seen d) 1 f)) (refused_step (seen c) f.refused)
     go true true = refused_seen c 13
     go true false = done_seen k d 1 f h
     go false u = refused_seen c f.refused
@@ -60,34 +59,34 @@ user_seen : (c : Cpu) → in_user c ≡ seen_in_user (seen c)
 unfolding in_user seen_in_user seen
 user_seen c = refl
 
-first_seen : (v : Sight) (c : Cpu) (f : Frame) → Kept v.kind c → seen_back (first_back v c f) ≡ first_step v (seen c) f
+first_seen : (v : Sight) (c : Cpu) (f : Frame) → Kept v.kind c → seen_back (first_back v c f) ≡ first_step on_seen v (seen c) f
 unfolding first_back first_step
 first_seen v c f h = go (f.refused == 0) (f.format == 1)
   where
     e : seen (take_frame c f) ≡ take_seen v.kind (seen c) f
     e = seen_take c f h.registers h.banks ∙ ap (λ (k : ℕ). take_seen k (seen c) f) h.kind_is_lem
 
-    under : seen_back (second_back c (take_frame c f) (frame_of v (a7_of (take_frame c f)))) ≡ second_step v.kind (seen c) (take_seen v.kind (seen c) f) (frame_of v (take_seen v.kind (seen c) f).a7)
+    under : seen_back (second_back c (take_frame c f) (frame_of v (a7_of (take_frame c f)))) ≡ second_step on_seen v.kind (seen c) (take_seen v.kind (seen c) f) (frame_of v (take_seen v.kind (seen c) f).a7)
     under =
         second_seen v.kind c (take_frame c f) (frame_of v (a7_of (take_frame c f))) (kept_take v.kind c f h)
-        ∙ ap (λ (p : ℕ). second_step v.kind (seen c) (seen (take_frame c f)) (frame_of v p)) (a7_seen (take_frame c f))
-        ∙ ap (λ (y : Seen). second_step v.kind (seen c) y (frame_of v y.a7)) e
+        ∙ ap (λ (p : ℕ). second_step on_seen v.kind (seen c) (seen (take_frame c f)) (frame_of v p)) (a7_seen (take_frame c f))
+        ∙ ap (λ (y : Seen). second_step on_seen v.kind (seen c) y (frame_of v y.a7)) e
 
     go : (t u : Bool)
         → seen_back (pick t (pick u (second_back c (take_frame c f) (frame_of v (a7_of (take_frame c f)))) (done_back c f.format f)) (refused_back c f.refused))
-        ≡ pick t (pick u (second_step v.kind (seen c) (take_seen v.kind (seen c) f) (frame_of v (take_seen v.kind (seen c) f).a7)) (done_step v.kind (seen c) f.format f)) (refused_step (seen c) f.refused)
+        ≡ pick t (pick u (second_step on_seen v.kind (seen c) (take_seen v.kind (seen c) f) (frame_of v (take_seen v.kind (seen c) f).a7)) (done_step on_seen v.kind (seen c) f.format f)) (refused_step (seen c) f.refused)
     go true true = under
     go true false = done_seen v.kind c f.format f h
     go false u = refused_seen c f.refused
 
 -- one return
 step_seen : (v : Sight) (c : Cpu) → Kept v.kind c → seen_back (back v c) ≡ step v (seen c)
-unfolding back step
+unfolding back step_of
 step_seen v c h = go (in_user c) (user_seen c)
   where
-    go : (t : Bool) → t ≡ seen_in_user (seen c) → seen_back (pick t (refused_back c 11) (first_back v c (frame_of v (a7_of c)))) ≡ pick (seen_in_user (seen c)) (refused_step (seen c) 11) (first_step v (seen c) (frame_of v (seen c).a7))
+    go : (t : Bool) → t ≡ seen_in_user (seen c) → seen_back (pick t (refused_back c 11) (first_back v c (frame_of v (a7_of c)))) ≡ pick (seen_in_user (seen c)) (refused_step (seen c) 11) (first_step on_seen v (seen c) (frame_of v (seen c).a7))
     go true e = rw (sym e) (refused_seen c 11)
-    go false e = rw (sym e) (first_seen v c (frame_of v (a7_of c)) h ∙ ap (λ (p : ℕ). first_step v (seen c) (frame_of v p)) (a7_seen c))
+    go false e = rw (sym e) (first_seen v c (frame_of v (a7_of c)) h ∙ ap (λ (p : ℕ). first_step on_seen v (seen c) (frame_of v p)) (a7_seen c))
 
 by_pick : {A : Type 0} (P : A → Type 0) (b : Bool) (x y : A) → P x → P y → P (pick b x y)
 by_pick P true x y p q = p
@@ -110,7 +109,7 @@ kept_back v c h =
 
 -- n returns
 trail_seen_lem : (n : ℕ) (v : Sight) (c : Cpu) → Kept v.kind c → trail_of n v c ≡ trail_seen n v (seen c)
-unfolding trail_of trail_seen
+unfolding trail_of steps_of
 trail_seen_lem zero v c h = refl
 trail_seen_lem (suc n) v c h =
     rw (sym (step_seen v c h), trail_seen_lem n v (back v c).cpu (kept_back v c h))

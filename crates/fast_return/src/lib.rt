@@ -1,119 +1,83 @@
 // Return and walk for the usual case: no windows, and a frame that lies in one run of the store. What is not usual goes the plain way of
 // `unwind`, and both are proved equal to it. A return is tried on a record that is only read, and says what changes in a few numbers, so
-// that the record stays where it is; a walk goes over the six numbers that tell where the next frame lies. It uses `unwind`, `memory`,
-// `cpu` and `types`, and the definitions of `refusals` and `status`; `attempts`, `fast_calls` and `sessions` use it.
+// that the record stays where it is; a walk goes over the six numbers that tell where the next frame lies. It uses `unwind`, `refusals`,
+// `memory`, `cpu` and `types`, and the definitions of `status`; `attempts`, `fast_calls` and `sessions` use it.
 #![tactic(auto)]
 
 use cpu::{Cpu, Flags, Regs};
 use memory::Core;
-use quick::Found;
+use quick::Run;
 use seen::Seen;
 use unwind::frames::Frame;
-use unwind::returns::{Row, Walked};
+use unwind::returns::{Row, Stack, Walked};
 
 pub mod accepted; // whether a call without windows is accepted
 pub mod quick; // a frame in one run of the store
 pub mod seen; // what a walk keeps of the record
-pub mod rows; // a walk over that
 
-ghost use Rattle.std.specs.Prelude.{◌≡◌, true};
-ghost use Rattle.unwind.specs.Returns.{walk, row_of, take_frame};
+ghost use Rattle.std.specs.Prelude.{◌≡◌, IfSome};
+ghost use Rattle.cpu.specs.Fields.{kind_of};
+ghost use Rattle.unwind.specs.Frames.{read};
+ghost use Rattle.unwind.specs.Returns.{walk, take_frame};
 ghost use Rattle.unwind.specs.Unwind.{return_from, walk_from};
 ghost use Rattle.fast_return.specs.Seen.{banked_regs, back_flags};
-ghost use Rattle.fast_return.specs.Patch.{no_patch, done_patch, found_patch, patch_back, patch_returned};
+ghost use Rattle.fast_return.specs.Patch.{going, patch_back, patch_returned};
 
-// Whether the return goes, its row and the frame that it takes; where `ok` is false the plain return is to be called.
-#[derive(Clone, Copy)]
+// A return that goes: its row and the frame that it takes.
+#[derive(Clone, Copy, PartialEq, Eq, Debug)]
 pub struct ReturnPatch {
-    pub ok: bool,
     pub row: Row,
     pub frame: Frame,
 }
 
-fn no_patch() -> ReturnPatch
-    ensures { result ≡ no_patch }
+fn run_of<'a>(m: Core, store: &'a [u8]) -> Run<'a>
+    ensures { (result.store ≡ store.entry) × (result.base ≡ m.bus.base) × (result.kind ≡ kind_of m.cpu) }
 {
-    let f = quick::no_frame();
-    let w = Row {
-        format: 0,
-        status: 0,
-        address: 0,
-        offset: 0,
-    };
-    ReturnPatch {
-        ok: false,
-        row: w,
-        frame: f,
+    Run {
+        store,
+        base: m.bus.base,
+        kind: cpu::fields::kind(m.cpu),
     }
 }
 
-fn row_of(format: u32, f: Frame) -> Row
-    ensures { result ≡ row_of format f }
+// The return, tried on a record that is only read; where it gives none the plain return is to be called. A frame of format 1 has another
+// one under it, and goes the plain way.
+#[tactic(auto, using(crate::proofs::Walks::try_goes_by))]
+pub fn try_return(m: Core, store: &[u8]) -> Option<ReturnPatch>
+    ensures { IfSome result (λ q. return_from m store.now ≡ patch_returned m (going q)) }
 {
-    Row {
-        format,
-        status: f.status as u32,
-        address: f.address,
-        offset: f.offset,
+    if !accepted::accepted(m, store.len()) {
+        return None;
     }
-}
-
-fn done_patch(f: Frame) -> ReturnPatch
-    ensures { result ≡ done_patch f }
-{
-    let w = row_of(f.format, f);
-    ReturnPatch {
-        ok: true,
-        row: w,
-        frame: f,
+    let frame = run_of(m, store).find(cpu::fields::a7(m.cpu))?;
+    if frame.format == 1 {
+        return None;
     }
-}
-
-// The return by a frame that was found. A frame of format 1 has another one under it, and goes the plain way.
-fn patch_of(q: Found) -> ReturnPatch
-    ensures { result ≡ found_patch q }
-{
-    if q.ok {
-        let f = q.frame;
-        if seen::is_one(f.format) {
-            return no_patch();
-        }
-        return done_patch(f);
-    }
-    no_patch()
-}
-
-// The return, tried on a record that is only read.
-pub fn try_return(m: Core, store: &[u8]) -> ReturnPatch
-    ensures { result.ok ≡ true → return_from m store.now ≡ patch_returned m result }
-{
-    if accepted::accepted(m, store.len()) {
-        let c = m.cpu;
-        let k = cpu::fields::kind(c);
-        let p = cpu::fields::a7(c);
-        let q = quick::find_once(store, m.bus.base, k, p);
-        return patch_of(q);
-    }
-    no_patch()
+    Some(ReturnPatch {
+        row: Row::of(frame.format, frame),
+        frame,
+    })
 }
 
 // A7 and the saved pointers, by indexes that are written out, so that the registers stay where they are.
-fn banked_regs(regs: Regs, y: Seen) -> Regs
+#[tactic(auto, unfolding(crate::specs::Seen::banked_regs))]
+fn banked_regs(mut regs: Regs, y: Seen) -> Regs
     ensures { result ≡ banked_regs regs y }
 {
-    let mut r = regs;
-    r.sp[0] = y.user;
-    r.sp[4] = y.interrupt;
-    r.sp[6] = y.master;
-    r.dar[15] = y.a7;
-    r
+    regs.sp[0] = y.user;
+    regs.sp[4] = y.interrupt;
+    regs.sp[6] = y.master;
+    regs.dar[15] = y.a7;
+    regs
 }
 
-// The flags of a status that a return puts back, under the kind's mask and with M as stacked: `put_back_sr` on the flags alone.
+// The flags of a status that a return puts back, under the kind's mask and with M as stacked: `put_back_sr` on the flags alone, for
+// a record that went through it would be copied (docs/DECISIONS.md, 57).
+#[tactic(auto, unfolding(crate::specs::Seen::back_flags, status::specs::Status::decompose))]
 fn back_flags(kind: u8, f: Flags, status: u16) -> Flags
     ensures { result ≡ back_flags kind f status }
 {
-    let n = types::mask_status(kind, status) as u32;
+    let n = u32::from(types::mask_status(kind, status));
     Flags {
         t1_flag: n / 0x8000 % 2 * 32768,
         t0_flag: n / 0x4000 % 2 * 16384,
@@ -125,51 +89,39 @@ fn back_flags(kind: u8, f: Flags, status: u16) -> Flags
         v_flag: n / 2 % 2 * 128,
         c_flag: n % 2 * 256,
         int_mask: n / 256 % 8 * 256,
-        int_level: f.int_level,
-        sr_save: f.sr_save,
+        ..f
     }
 }
 
 // Numbers first, then the record: a test while the record is copied would keep the copy.
 fn patched_cpu(c: Cpu, f: Frame) -> Cpu
-    ensures { result ≡ take_frame c f }
+    ensures { result ≡ take_frame c (read f) }
 {
-    let k = cpu::fields::kind(c);
-    let x = seen::seen_of(c);
-    let y = seen::take(k, x, f);
-    let flags = back_flags(k, c.flags, f.status);
+    let kind = cpu::fields::kind(c);
+    let y = Seen::of(c).taken(kind, f);
+    let flags = back_flags(kind, c.flags, f.status);
     let regs = banked_regs(c.regs, y);
-    let at = cpu::fields::set_pc(c, f.address);
-    let mut d = cpu::clocks::clear_prefetch(at);
+    let mut d = cpu::clocks::clear_prefetch(cpu::fields::set_pc(c, f.address));
     d.regs = regs;
     d.flags = flags;
     d
 }
 
 // The record after a return that was tried and goes.
+#[tactic(auto, unfolding(crate::specs::Patch::patch_back))]
 pub fn patched(m: Core, q: ReturnPatch) -> Core
-    ensures { result ≡ patch_back m q }
+    ensures { result ≡ patch_back m (going q) }
 {
-    let f = q.frame;
-    let c = patched_cpu(m.cpu, f);
-    memory::with_cpu(m, c)
+    memory::with_cpu(m, patched_cpu(m.cpu, q.frame))
 }
 
 // The walk of n on a copy, into the lent rows: `unwind::walk`.
+#[tactic(auto, using(crate::proofs::Walks::walk_accepted))]
 pub fn walk(m: Core, store: &[u8], n: u32, rows: &mut [u32]) -> Walked
     ensures { walk result.refused result.count rows.new ≡ walk_from m store.now n rows.old }
 {
-    if accepted::accepted(m, store.len()) {
-        if rows::short_rows(n, rows.len()) {
-            return Walked {
-                refused: 10,
-                count: 0,
-            };
-        }
-        let c = m.cpu;
-        let x = seen::seen_of(c);
-        let k = cpu::fields::kind(c);
-        return rows::rows_of(store, m.bus.base, k, x, n, rows);
+    if !accepted::accepted(m, store.len()) {
+        return unwind::walk(m, store, n, rows);
     }
-    unwind::walk(m, store, n, rows)
+    unwind::returns::rows_of(&run_of(m, store), Seen::of(m.cpu), n, rows)
 }

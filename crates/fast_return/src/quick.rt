@@ -1,329 +1,196 @@
 // A frame whose bytes lie in one run of a store without windows, read in place. Where they may not, or the pointer is odd, or the kind takes
-// no such frame, `ok` is false.
-ghost use Rattle.std.specs.Prelude.{◌≡◌, ◌+◌, ◌-◌, ◌%◌, ◌<◌, ◌≤◌, length, ◌==◌, nat_le};
-ghost use Rattle.types.specs.Kinds.{either, both};
+// no such frame, there is none here, and it is read as `unwind` reads it. Words and longs are read here as in `fast`, of places that are known to
+// be there, which no public function may ask.
+ghost use Rattle.std.specs.Prelude.{◌≡◌, ◌+◌, ◌<◌, ◌≤◌, length};
 ghost use Rattle.types.specs.Tables.{takes_format, format_length, frame_length};
-ghost use Rattle.unwind.specs.Frames.{refused_frame, head_of};
-ghost use Rattle.fast_return.specs.Quick.{word_at, long_at, lies, not_found, taken_at, format_at, size_of, rest_lies, found_of};
+ghost use Rattle.unwind.specs.Frames.{read, head_of};
+ghost use Rattle.fast_return.specs.Rows.{bare_bus};
+ghost use Rattle.fast_return.specs.Quick.{word_at, long_at, lies, taken_at, format_at, size_of, found_of, as_found};
 
+use memory::Bus;
+use refusals::Refusal;
 use unwind::frames::Frame;
+use unwind::returns::Frames;
+use unwind::view::View;
 
+// A store without windows; the kind is the record's byte, any number.
 #[derive(Clone, Copy)]
-pub struct Found {
-    pub ok: bool,
-    pub frame: Frame,
+pub struct Run<'a> {
+    pub store: &'a [u8],
+    pub base: u32,
+    pub kind: u8,
 }
 
-pub(crate) fn no_frame() -> Frame
-    ensures { result ≡ refused_frame 0 }
+// A bus of no window and no event.
+#[tactic(auto, unfolding(crate::specs::Rows::bare_bus))]
+fn bare(base: u32) -> Bus
+    ensures { result ≡ bare_bus base }
 {
-    Frame {
-        refused: 0,
-        format: 0,
-        status: 0,
-        address: 0,
-        offset: 0,
-        size: 0,
-    }
-}
-
-fn not_found() -> Found
-    ensures { result ≡ not_found }
-{
-    let f = no_frame();
-    Found {
-        ok: false,
-        frame: f,
+    Bus {
+        base,
+        windows: 0,
+        starts: [0; 8],
+        lengths: [0; 8],
+        responses: [0; 8],
+        events: 0,
     }
 }
 
-fn wide(x: u8) -> u32
-    ensures { (result ≡ x) × (result < 256) }
+// Whether a kind takes frames of a format: the rule of `types::frame_length`, whose table is copied to the stack to look into it. By it a
+// return of format 2 was 394 instructions for 343, a walk of 64 such frames 11,776 for 6,661.
+#[tactic(auto, unfolding(types::specs::Tables::takes_format))]
+fn takes(kind: u8, format: u32) -> bool
+    ensures { result ≡ takes_format kind format }
 {
-    x as u32
+    if kind == types::M68010 || kind == types::SCC68070 {
+        format == 0 || format == 8
+    } else if types::M68EC020 <= kind && kind <= types::M68030 {
+        format <= 2 || format == 11
+    } else if types::is_040(kind) {
+        format <= 2 || format == 7
+    } else if types::is_060(kind) {
+        format == 0 || format == 2 || format == 4
+    } else {
+        kind == types::INVALID && (format == 0 || format == 2 || format == 11)
+    }
 }
 
-fn word_at(store: &[u8], at: usize) -> u32
-    requires { at + 1 < length store.now }
-    ensures { (result ≡ word_at store.now at) × (result < 0x10000) }
+#[tactic(auto, unfolding(types::specs::Tables::format_length))]
+fn format_length(format: u32) -> u32
+    ensures { result ≡ format_length format }
 {
-    wide(store[at]) * 256 + wide(store[at + 1])
-}
-
-fn long_at(store: &[u8], at: usize) -> u32
-    requires { at + 3 < length store.now }
-    ensures { result ≡ long_at store.now at }
-{
-    let high = word_at(store, at);
-    let low = word_at(store, at + 2);
-    high * 0x10000 + low
-}
-
-fn wide_long(x: u32) -> u64
-    ensures { (result ≡ x) × (result < 0x100000000) }
-{
-    x as u64
-}
-
-// Whether n bytes from a on lie in a store of len bytes at base, below the top of the kind's addresses.
-fn lies_in(base: u32, len: usize, kind: u8, a: u32, n: u32) -> bool
-    ensures { result ≡ lies base len kind a n }
-{
-    if a < base {
-        return false;
+    match format {
+        0 | 1 => 8,
+        2 => 12,
+        4 => 16,
+        7 => 60,
+        8 => 58,
+        11 => 92,
+        _ => 0,
     }
-    if len < (a - base) as usize + n as usize {
-        return false;
-    }
-    let end = wide_long(a) + wide_long(n);
-    if kind < 3 {
-        return end <= 0x1000000;
-    }
-    end <= 0x100000000
-}
-
-fn is_short(kind: u8) -> bool
-    ensures { result ≡ (kind == 1) }
-{
-    kind == 1
-}
-
-fn head(kind: u8) -> u32
-    ensures { result ≡ head_of kind }
-{
-    if is_short(kind) {
-        return 6;
-    }
-    8
-}
-
-// The frame of n bytes at a place, w its format word, 0 on kind 1.
-fn taken_at(store: &[u8], at: usize, w: u32, n: u32) -> Found
-    requires { at + 5 < length store.now }
-    ensures { result ≡ taken_at store.now at w n }
-{
-    let s = word_at(store, at);
-    let a = long_at(store, at + 2);
-    let f = Frame {
-        refused: 0,
-        format: w / 4096,
-        status: s as u16,
-        address: a,
-        offset: w % 4096,
-        size: n,
-    };
-    Found { ok: true, frame: f }
-}
-
-// The format word of a frame at a place, 0 on kind 1.
-fn format_at(store: &[u8], at: usize, kind: u8) -> u32
-    requires { at + head_of kind ≤ length store.now }
-    ensures { (result ≡ format_at store.now at kind) × (result < 0x10000) }
-{
-    if kind == 1 {
-        return 0;
-    }
-    word_at(store, at + 6)
-}
-
-fn is_either(n: u32, a: u32, b: u32) -> bool
-    ensures { result ≡ either (n == a) (n == b) }
-{
-    if n == a {
-        return true;
-    }
-    n == b
-}
-
-fn is_low_or(n: u32, a: u32) -> bool
-    ensures { result ≡ either (nat_le n 2) (n == a) }
-{
-    if n <= 2 {
-        return true;
-    }
-    n == a
-}
-
-fn is_of_three(n: u32, a: u32, b: u32, c: u32) -> bool
-    ensures { result ≡ either (n == a) (either (n == b) (n == c)) }
-{
-    if n == a {
-        return true;
-    }
-    is_either(n, b, c)
-}
-
-fn is_010(kind: u8) -> bool
-    ensures { result ≡ either (kind == 2) (kind == 10) }
-{
-    if kind == 2 {
-        return true;
-    }
-    kind == 10
-}
-
-fn is_020(kind: u8) -> bool
-    ensures { result ≡ both (nat_le 3 kind) (nat_le kind 6) }
-{
-    if 3 <= kind {
-        return kind <= 6;
-    }
-    false
-}
-
-fn is_none(kind: u8) -> bool
-    ensures { result ≡ (kind == 0) }
-{
-    kind == 0
-}
-
-// The rule of the table of frame lengths: a table would be copied to the stack to look into it.
-fn takes(kind: u8, f: u32) -> bool
-    ensures { result ≡ takes_format kind f }
-{
-    if is_010(kind) {
-        return is_either(f, 0, 8);
-    }
-    if is_020(kind) {
-        return is_low_or(f, 11);
-    }
-    if types::is_040(kind) {
-        return is_low_or(f, 7);
-    }
-    if types::is_060(kind) {
-        return is_of_three(f, 0, 2, 4);
-    }
-    if is_none(kind) {
-        return is_of_three(f, 0, 2, 11);
-    }
-    false
-}
-
-fn format_length(f: u32) -> u32
-    ensures { result ≡ format_length f }
-{
-    if is_either(f, 0, 1) {
-        return 8;
-    }
-    if f == 2 {
-        return 12;
-    }
-    if f == 4 {
-        return 16;
-    }
-    if f == 7 {
-        return 60;
-    }
-    if f == 8 {
-        return 58;
-    }
-    if f == 11 {
-        return 92;
-    }
-    0
-}
-
-fn length_of(kind: u8, f: u32) -> u32
-    ensures { result ≡ frame_length kind f }
-{
-    if takes(kind, f) {
-        return format_length(f);
-    }
-    0
 }
 
 // The length of a frame whose format word is w: 6 on kind 1; every other kind takes format 0.
+#[inline(always)]
+#[tactic(auto, using(crate::proofs::Sizes::size_eight, crate::proofs::Sizes::size_none), unfolding(crate::specs::Quick::size_of, types::specs::Tables::frame_length))]
 fn size_of(kind: u8, w: u32) -> u32
     ensures { result ≡ size_of kind w }
 {
-    if kind == 1 {
-        return 6;
+    if kind == types::M68000 {
+        6
+    } else if w < 0x1000 {
+        if kind <= types::M68060 { 8 } else { 0 }
+    } else if takes(kind, w / 0x1000) {
+        format_length(w / 0x1000)
+    } else {
+        0
     }
-    if w < 0x1000 {
-        if kind < 12 {
-            return 8;
+}
+
+impl<'a> Run<'a> {
+    #[tactic(auto, unfolding(crate::specs::Quick::word_at))]
+    fn word_at(&self, at: usize) -> u32
+        requires { at + 1 < length self.now.store.now }
+        ensures { (result ≡ word_at self.now.store.now at) × (result < 0x10000) }
+    {
+        u32::from(self.store[at]) * 0x100 + u32::from(self.store[at + 1])
+    }
+
+    #[tactic(auto, unfolding(crate::specs::Quick::long_at))]
+    fn long_at(&self, at: usize) -> u32
+        requires { at + 3 < length self.now.store.now }
+        ensures { result ≡ long_at self.now.store.now at }
+    {
+        self.word_at(at) * 0x10000 + self.word_at(at + 2)
+    }
+
+    // Whether n bytes from a on lie in the store, below the top of the kind's addresses.
+    #[tactic(auto, unfolding(crate::specs::Quick::lies))]
+    fn lies_in(&self, a: u32, n: u32) -> bool
+        ensures { result ≡ lies self.now.base (length self.now.store.now) self.now.kind a n }
+    {
+        if a < self.base || self.store.len() < (a - self.base) as usize + n as usize {
+            return false;
         }
-        return 0;
+        unwind::view::is_straight(self.kind, a, n)
     }
-    length_of(kind, w / 0x1000)
-}
 
-fn is_zero(n: u32) -> bool
-    ensures { result ≡ (n == 0) }
-{
-    n == 0
-}
-
-fn is_odd(p: u32) -> bool
-    ensures { result ≡ (p % 2 == 1) }
-{
-    p % 2 == 1
-}
-
-// Whether a frame of n bytes lies in the store, of which the first h do.
-fn rest_lies(base: u32, len: usize, kind: u8, a: u32, n: u32, h: u32) -> bool
-    ensures { result ≡ rest_lies base len kind a n h }
-{
-    if n == h {
-        return true;
-    }
-    lies_in(base, len, kind, a, n)
-}
-
-// The place of an address in a store at base.
-fn place_at(base: u32, a: u32) -> usize
-    requires { base ≤ a }
-    ensures { result ≡ a - base }
-{
-    (a - base) as usize
-}
-
-// The frame at p, of a store at base.
-pub fn find(store: &[u8], base: u32, kind: u8, p: u32) -> Found
-    ensures { result ≡ found_of store.now base kind p }
-{
-    if is_odd(p) {
-        return not_found();
-    }
-    let q = std::num::wrapping_add_u32(p, 0);
-    let a = types::mask_address(kind, q);
-    let h = head(kind);
-    if lies_in(base, store.len(), kind, a, h) {
-        let at = place_at(base, a);
-        let w = format_at(store, at, kind);
-        let n = size_of(kind, w);
-        if is_zero(n) {
-            return not_found();
+    // The frame of n bytes at a place, w its format word, 0 on kind 1.
+    #[tactic(auto, unfolding(crate::specs::Quick::taken_at))]
+    fn taken_at(&self, at: usize, w: u32, n: u32) -> Frame
+        requires { at + 5 < length self.now.store.now }
+        ensures { read result ≡ (taken_at self.now.store.now at w n).frame }
+    {
+        Frame {
+            format: w / 0x1000,
+            status: self.word_at(at) as u16,
+            address: self.long_at(at + 2),
+            offset: w % 0x1000,
+            size: n,
         }
-        if rest_lies(base, store.len(), kind, a, n, h) {
-            return taken_at(store, at, w, n);
-        }
-        return not_found();
     }
-    not_found()
+
+    // The format word of a frame at a place, 0 on kind 1.
+    #[tactic(auto, unfolding(crate::specs::Quick::format_at, unwind::specs::Frames::head_of))]
+    fn format_at(&self, at: usize) -> u32
+        requires { at + head_of self.now.kind ≤ length self.now.store.now }
+        ensures { (result ≡ format_at self.now.store.now at self.now.kind) × (result < 0x10000) }
+    {
+        if self.kind == types::M68000 {
+            0
+        } else {
+            self.word_at(at + 6)
+        }
+    }
+
+    // The frame at p. It is compiled into its callers: a call of it would move the frame.
+    #[inline(always)]
+    #[tactic(auto, using(crate::proofs::Finds::lies_fit), unfolding(crate::specs::Quick::found_of, crate::specs::Quick::found_in, crate::specs::Quick::found_word, crate::specs::Quick::found_sized, crate::specs::Quick::not_found, crate::specs::Quick::rest_lies, crate::specs::Quick::taken_at, unwind::specs::Frames::byte_address))]
+    pub fn find(&self, p: u32) -> Option<Frame>
+        ensures { as_found result ≡ found_of self.now.store.now self.now.base self.now.kind p }
+    {
+        if p % 2 == 1 {
+            return None;
+        }
+        let a = types::mask_address(self.kind, p);
+        let head = unwind::frames::head(self.kind);
+        if !self.lies_in(a, head) {
+            return None;
+        }
+        let at = (a - self.base) as usize;
+        let w = self.format_at(at);
+        let n = size_of(self.kind, w);
+        if n != 0 && (n == head || self.lies_in(a, n)) {
+            Some(self.taken_at(at, w, n))
+        } else {
+            None
+        }
+    }
 }
 
-// The same for the return: a function that is called from one place is compiled into its caller.
-pub(crate) fn find_once(store: &[u8], base: u32, kind: u8, p: u32) -> Found
-    ensures { result ≡ found_of store.now base kind p }
-{
-    if is_odd(p) {
-        return not_found();
+impl<'a> Frames for Run<'a> {
+    ghost use Rattle.unwind.specs.Frames.{sight};
+    ghost use Rattle.fast_return.specs.Rows.{bare_bus};
+
+    ghost sight = { λ r. sight r.kind (bare_bus r.base) r.store.now };
+
+    fn kind(&self) -> u8 {
+        self.kind
     }
-    let q = std::num::wrapping_add_u32(p, 0);
-    let a = types::mask_address(kind, q);
-    let h = head(kind);
-    if lies_in(base, store.len(), kind, a, h) {
-        let at = place_at(base, a);
-        let w = format_at(store, at, kind);
-        let n = size_of(kind, w);
-        if is_zero(n) {
-            return not_found();
+
+    fn frame(&self, p: u32) -> Result<Frame, Refusal> {
+        match self.find(p) {
+            Some(frame) => Ok(frame),
+            None => self.frame_under(p),
         }
-        if rest_lies(base, store.len(), kind, a, n, h) {
-            return taken_at(store, at, w, n);
-        }
-        return not_found();
     }
-    not_found()
+
+    fn frame_under(&self, p: u32) -> Result<Frame, Refusal> {
+        let view = View {
+            store: self.store,
+            bus: bare(self.base),
+            kind: self.kind,
+        };
+        view.frame_at(p)
+    }
 }

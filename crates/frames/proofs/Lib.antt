@@ -1,1 +1,2 @@
-pub mod FrameWays
+pub mod Filled
+pub mod Sizes

@@ -5,33 +5,53 @@ use Rattle.cpu.specs.declared.Cpu.{Cpu}
 use Rattle.cpu.specs.Fields.{kind_of, ppc_of, ir_of, wdata_of}
 use Rattle.status.specs.Status.{get_sr}
 use Rattle.frames.specs.declared.Field.{Field}
+use Rattle.frames.specs.declared.Mode.{Mode}
+use Rattle.frames.specs.declared.Mode.TheVariants.{Guarded, Raw, Counted}
 use Rattle.frames.specs.declared.Frame.{Frame}
 use Rattle.frames.specs.Codes.{state_code, fault_code, fault_word, ssw020, ssw040, wb3s, fslw060}
 
--- a field is pushed by a guarded access (mode 0), by a raw one (1), or only counted (2)
+-- a field is pushed by a guarded access, by a raw one, or only counted
 abbrev pub word : ℕ → Field
-word v = record { mode = 0; long = false; value = v }
+word v = record { mode = Guarded; long = false; value = v }
 
 abbrev pub long : ℕ → Field
-long v = record { mode = 0; long = true; value = v }
+long v = record { mode = Guarded; long = true; value = v }
 
 abbrev pub raw_word : ℕ → Field
-raw_word v = record { mode = 1; long = false; value = v }
+raw_word v = record { mode = Raw; long = false; value = v }
 
 abbrev pub raw_long : ℕ → Field
-raw_long v = record { mode = 1; long = true; value = v }
+raw_long v = record { mode = Raw; long = true; value = v }
 
 abbrev pub gap_word : Field
-gap_word = record { mode = 2; long = false; value = 0 }
+gap_word = record { mode = Counted; long = false; value = 0 }
 
 abbrev pub gap_long : Field
-gap_long = record { mode = 2; long = true; value = 0 }
+gap_long = record { mode = Counted; long = true; value = 0 }
+
+abbrev pub counts : Mode → Bool
+counts Guarded = false
+counts Raw = false
+counts Counted = true
+
+abbrev pub goes_raw : Mode → Bool
+goes_raw Guarded = false
+goes_raw Raw = true
+goes_raw Counted = false
+
+abbrev pub guards : Mode → Bool
+guards Guarded = true
+guards Raw = false
+guards Counted = false
+
+abbrev pub is_guarded : Field → Bool
+is_guarded f = guards f.mode
 
 unfoldable pub is_counted : Field → Bool
-is_counted f = eqb f.mode 2
+is_counted f = counts f.mode
 
 unfoldable pub is_raw : Field → Bool
-is_raw f = eqb f.mode 1
+is_raw f = goes_raw f.mode
 
 -- a frame holds up to 28 fields; the rest of its array is unused
 abbrev pub framed : List Field → Frame

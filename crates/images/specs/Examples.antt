@@ -1,5 +1,5 @@
 -- Cores that meet the premises, two of them with frames that reach past the top of 24 address bits.
-use Rattle.std.specs.Prelude.{ℕ, ◌+◌, ◌<◌, ◌^◌, ◌≡◌, refl, true, false, [], eqb, ltb, replicate}
+use Rattle.std.specs.Prelude.{ℕ, ◌+◌, ◌<◌, ◌^◌, ◌≡◌, refl, true, false, [], ltb, replicate}
 use Rattle.std.proofs.Common.{arith, lt-ltb, le-ltb}
 use Rattle.types.specs.Kinds.{pick, is_pre68020, mask_address, address_bits}
 use Rattle.types.specs.Every.{at}
@@ -38,7 +38,7 @@ unfolding field_at frame8 is_counted
 counted_8 sr ppc v j l =
     let e : ltb (11 + j) 28 ≡ true = lt-ltb (11 + j) 28 (omega arith) in
     let n : ltb (11 + j) 11 ≡ false = le-ltb (11 + j) 11 (omega arith) in
-    rw e (rw n at (at (word 0) (λ i g. pick (ltb i 11) true (eqb g.mode 2)) (frame8 sr ppc v).fields refl (11 + j) (omega arith)))
+    rw e (rw n at (at (word 0) (λ i g. pick (ltb i 11) true (is_counted g)) (frame8 sr ppc v).fields refl (11 + j) (omega arith)))
 
 -- kind 2, 256 bytes from 0xFFFF00 up to the top, A7 at 0x1000020
 abbrev pub past : World

@@ -1,7 +1,8 @@
 -- Paper 01's instances, by their numbers there, on `perform`, the definition that the public call's contract cites. Numbers that
 -- the paper has in hexadecimal stand in decimal, with the paper's form beside them.
+use Rattle.std.specs.Prelude.{Some, None}
 use Rattle.std.specs.Prelude.{ℕ, ◌≡◌, Bool, true, false, List, [], ◌∷◌, length, get_or, take}
-use Rattle.types.specs.declared.FaultCause.TheVariants.{Absent, PageFault}
+use Rattle.types.specs.declared.FaultCause.TheVariants.{PageFault}
 use Rattle.cpu.specs.declared.Cpu.{Cpu}
 use Rattle.cpu.specs.Fields.{a7_of, pc_of, set_a7}
 use Rattle.cpu.specs.Clocks.{clocks_of, set_clocks, internal_cycles}
@@ -11,8 +12,8 @@ use Rattle.frames.specs.Codes.{function_code, ssw020, ssw040, wb3s, fslw060}
 use Rattle.steps.specs.Steps.{iack_vector}
 use Rattle.answers.specs.declared.Call.{Call}
 use Rattle.answers.specs.declared.Call.TheVariants.{TakeException, Trap, ExceptionChk, ExceptionZeroDivide, ExceptionBusError, CheckAndServiceInterrupts}
-use Rattle.answers.specs.declared.Answer.{Answer}
-use Rattle.answers.specs.declared.Answer.TheVariants.{Cycles, Flag, Refused}
+use Rattle.answers.specs.Answer.{Answer}
+use Rattle.answers.specs.Answer.{Cycles, Flag, Refused}
 use Rattle.answers.specs.Answers.{Performed, answered, value_of}
 use Rattle.calls.specs.Calls.{perform}
 use Rattle.instances.specs.Start.{set_vbr, set_saved, start, start_at, pending, auto, holding, zeros, lent, fresh, laid, EveryKind}
@@ -83,8 +84,8 @@ Leaves c call a long v = (s : List ℕ) → length s ≡ 0x10000 → read_value 
 -- above the new A7 of 0x7FA4 after a bus error entry at address 0x1234
 abbrev pub P6 : Type 0
 P6 =
-    (ssw020 (function_code true true) false true 2 ≡ 0x5006) × Leaves (start 4) (ExceptionBusError 0x1234 false true 2 Absent) 0x7FAE false 0x5006
-    × (ssw020 (function_code true false) false false 4 ≡ 325) × Leaves (start 4) (ExceptionBusError 0x1234 false false 4 Absent) 0x7FAE false 325
+    (ssw020 (function_code true true) false true 2 ≡ 0x5006) × Leaves (start 4) (ExceptionBusError 0x1234 false true 2 None) 0x7FAE false 0x5006
+    × (ssw020 (function_code true false) false false 4 ≡ 325) × Leaves (start 4) (ExceptionBusError 0x1234 false false 4 None) 0x7FAE false 325
 
 -- in user state: status 0x0700, and the pointer of the interrupt stack is 0x8000 too
 abbrev pub user : ℕ → Cpu
@@ -94,12 +95,12 @@ user kind = set_saved (start_at kind 0x700) 4 0x8000
 -- new A7 of 0x7FC4
 abbrev pub P7 : Type 0
 P7 =
-    (ssw040 (function_code false false) true 2 0 ≡ 65) × Leaves (user 9) (ExceptionBusError 0x1234 true false 2 Absent) 0x7FD0 false 65
-    × (wb3s (function_code false false) true 2 ≡ 193) × Leaves (user 9) (ExceptionBusError 0x1234 true false 2 Absent) 0x7FD2 false 193
+    (ssw040 (function_code false false) true 2 0 ≡ 65) × Leaves (user 9) (ExceptionBusError 0x1234 true false 2 None) 0x7FD0 false 65
+    × (wb3s (function_code false false) true 2 ≡ 193) × Leaves (user 9) (ExceptionBusError 0x1234 true false 2 None) 0x7FD2 false 193
 
 -- kind 11, supervisor byte read, page fault: 0x01250200. By its definition, and as the last long of the frame
 abbrev pub P8 : Type 0
-P8 = (fslw060 false false 1 (function_code true false) 4 ≡ 0x1250200) × Leaves (start 11) (ExceptionBusError 0x1234 false false 1 PageFault) 0x7FFC true 0x1250200
+P8 = (fslw060 false false 1 (function_code true false) 4 ≡ 0x1250200) × Leaves (start 11) (ExceptionBusError 0x1234 false false 1 (Some PageFault)) 0x7FFC true 0x1250200
 
 -- pending 0xFFFFFFFF plus 4 clocks: 3. An entry on kind 2 adds 4, and its first event is their sync
 abbrev pub P9 : Type 0

@@ -1,4 +1,5 @@
 -- What a bus error entry leaves on a store of 65,536 bytes, whatever they are: a field of its frame, by the theorems of `images`.
+use Rattle.std.specs.Prelude.{Option}
 use Rattle.std.specs.Prelude.{ℕ, suc, ◌+◌, ◌%◌, ◌^◌, ◌<◌, ◌≡◌, Bool, true, false, List, length}
 use Rattle.std.proofs.Math.Path.{refl}
 use Rattle.std.proofs.Common.{arith}
@@ -26,7 +27,7 @@ use Rattle.instances.specs.Start.{holding, auto}
 no : {A : Type 0} → false ≡ true → A
 no e = let z : ◌≡◌ {A = ℕ} 0 1 = cc in absurd (omega arith)
 
-module _ (s : List ℕ) (h : length s ≡ 0x10000) (c : Cpu) (write instruction : Bool) (z : ℕ) (cause : FaultCause) where
+module _ (s : List ℕ) (h : length s ≡ 0x10000) (c : Cpu) (write instruction : Bool) (z : ℕ) (cause : Option FaultCause) where
   -- the world of the call, a bus error at address 0x1234; where its frame is stacked; and the frame
   abbrev called : World
   called = holding s auto 192 c

@@ -15,24 +15,29 @@ pub struct Stacked {
     pub vector: u32,
 }
 
-// A core after the interrupt call, and whether an interrupt was taken.
+// A core after the interrupt call, and whether an interrupt was taken: the core means something in either case.
 #[derive(Clone, Copy)]
 pub struct Serviced {
     pub core: Core,
     pub taken: bool,
 }
 
+// PC, status and level of the interrupt are the Rust's parameters, and go where each frame needs them.
+
 // The acknowledge cycle and its vector.
+#[tactic(auto, unfolding(crate::specs::Interrupts::acknowledge_level, crate::specs::Interrupts::vector_from))]
 fn acknowledge_level(m: Core, store: &mut [u8], log: &mut [u32], level: u8) -> Stacked
     ensures { reply (world result.core store.new log.new) true result.vector ≡ acknowledge_level (world m store.old log.old) level }
 {
     let a = memory::acknowledge(m, store, log, level);
-    let d = a.core;
-    let v = steps::iack_vector(a.response, level);
-    Stacked { core: d, vector: v }
+    Stacked {
+        core: a.core,
+        vector: steps::iack_vector(a.response, level),
+    }
 }
 
 // Clocks, their sync, and the acknowledge.
+#[tactic(auto, unfolding(crate::specs::Interrupts::synced_acknowledge))]
 fn synced_acknowledge(m: Core, store: &mut [u8], log: &mut [u32], clocks: u32, level: u8) -> Stacked
     ensures { reply (world result.core store.new log.new) true result.vector ≡ synced_acknowledge (world m store.old log.old) clocks level }
 {
@@ -42,6 +47,7 @@ fn synced_acknowledge(m: Core, store: &mut [u8], log: &mut [u32], clocks: u32, l
 }
 
 // 68000: PC low, the acknowledge, the status, PC high.
+#[tactic(auto, unfolding(crate::specs::Interrupts::from68000, crate::specs::Interrupts::rest68000))]
 fn from_68000(
     m: Core,
     store: &mut [u8],
@@ -53,23 +59,20 @@ fn from_68000(
 ) -> Stacked
     ensures { reply (world result.core store.new log.new) true result.vector ≡ from68000 (world m store.old log.old) sp pc sr level }
 {
-    let p4 = steps::plus(sp, 4);
-    let low = steps::low_word(pc);
-    let a = access::write_16(m, store, log, p4, low);
+    let a = access::write_16(m, store, log, sp.wrapping_add(4), steps::low_word(pc));
     let x = synced_acknowledge(a, store, log, 4, level);
     let b = x.core;
     let d = memory::with_cpu(b, cpu::clocks::internal_cycles(b.cpu, 4));
     let e = access::write_16(d, store, log, sp, sr);
-    let p2 = steps::plus(sp, 2);
-    let high = steps::high_word(pc);
-    let g = access::write_16(e, store, log, p2, high);
+    let core = access::write_16(e, store, log, sp.wrapping_add(2), steps::high_word(pc));
     Stacked {
-        core: g,
+        core,
         vector: x.vector,
     }
 }
 
 // 68000: 6 clocks, and A7 lowered once.
+#[tactic(auto, unfolding(crate::specs::Interrupts::push_interrupt68000))]
 fn push_interrupt_68000(
     m: Core,
     store: &mut [u8],
@@ -87,6 +90,7 @@ fn push_interrupt_68000(
 }
 
 // 68010: PC low, the status, PC high, the format word.
+#[tactic(auto, unfolding(crate::specs::Interrupts::writes68010))]
 fn writes_68010(
     m: Core,
     store: &mut [u8],
@@ -98,18 +102,14 @@ fn writes_68010(
 ) -> Core
     ensures { world result store.new log.new ≡ writes68010 (world m store.old log.old) sp pc sr format }
 {
-    let p4 = steps::plus(sp, 4);
-    let low = steps::low_word(pc);
-    let a = access::write_16(m, store, log, p4, low);
+    let a = access::write_16(m, store, log, sp.wrapping_add(4), steps::low_word(pc));
     let b = access::write_16(a, store, log, sp, sr);
-    let p2 = steps::plus(sp, 2);
-    let high = steps::high_word(pc);
-    let d = access::write_16(b, store, log, p2, high);
-    let p6 = steps::plus(sp, 6);
-    access::write_16(d, store, log, p6, format)
+    let d = access::write_16(b, store, log, sp.wrapping_add(2), steps::high_word(pc));
+    access::write_16(d, store, log, sp.wrapping_add(6), format)
 }
 
 // 68010: 12 clocks, the acknowledge, and A7 lowered once.
+#[tactic(auto, unfolding(crate::specs::Interrupts::push_interrupt68010, crate::specs::Interrupts::rest68010))]
 fn push_interrupt_68010(
     m: Core,
     store: &mut [u8],
@@ -134,6 +134,7 @@ fn push_interrupt_68010(
 }
 
 // Other kinds: the acknowledge, then format 0.
+#[tactic(auto, unfolding(crate::specs::Interrupts::push_interrupt_other, crate::specs::Interrupts::rest_other))]
 fn push_interrupt_other(
     m: Core,
     store: &mut [u8],
@@ -147,7 +148,7 @@ fn push_interrupt_other(
     let x = acknowledge_level(m, store, log, level);
     let a = x.core;
     let format = formats::offset_word(x.vector);
-    let f = formats::short_frame(sr as u32, pc, format as u32);
+    let f = formats::short_frame(u32::from(sr), pc, u32::from(format));
     let b = access::push_frame(a, store, log, f);
     Stacked {
         core: b,
@@ -156,20 +157,19 @@ fn push_interrupt_other(
 }
 
 // The first frame.
+#[tactic(auto, unfolding(crate::specs::Interrupts::first_frame, cpu::specs::Fields::kind_of))]
 fn first_frame(m: Core, store: &mut [u8], log: &mut [u32], pc: u32, sr: u16, level: u8) -> Stacked
     ensures { reply (world result.core store.new log.new) true result.vector ≡ first_frame (world m store.old log.old) pc sr level }
 {
-    let k = m.cpu.flow.cpu_type;
-    if k == types::M68000 {
-        return push_interrupt_68000(m, store, log, pc, sr, level);
+    match m.cpu.flow.cpu_type {
+        types::M68000 => push_interrupt_68000(m, store, log, pc, sr, level),
+        types::M68010 => push_interrupt_68010(m, store, log, pc, sr, level),
+        _ => push_interrupt_other(m, store, log, pc, sr, level),
     }
-    if k == types::M68010 {
-        return push_interrupt_68010(m, store, log, pc, sr, level);
-    }
-    push_interrupt_other(m, store, log, pc, sr, level)
 }
 
 // The format 1 frame on the interrupt stack.
+#[tactic(auto, unfolding(crate::specs::Interrupts::throwaway))]
 fn throwaway_frame(
     m: Core,
     store: &mut [u8],
@@ -188,23 +188,25 @@ fn throwaway_frame(
 }
 
 // What follows the first frame where M is set.
+#[tactic(auto, unfolding(crate::specs::Interrupts::second_frame, cpu::specs::Fields::kind_of, status::specs::Status::m_is_set))]
 fn second_frame(m: Core, store: &mut [u8], log: &mut [u32], pc: u32, sr: u16, vector: u32) -> Core
     ensures { world result store.new log.new ≡ second_frame (world m store.old log.old) pc sr vector }
 {
-    if status::m_is_set(m.cpu) {
-        let k = m.cpu.flow.cpu_type;
-        if types::is_ec020_plus(k) {
-            return throwaway_frame(m, store, log, pc, sr, vector);
-        }
-        if types::is_060(k) {
-            return memory::with_cpu(m, status::clear_m(m.cpu));
-        }
+    if !status::m_is_set(m.cpu) {
         return m;
     }
-    m
+    let k = m.cpu.flow.cpu_type;
+    if types::is_ec020_plus(k) {
+        throwaway_frame(m, store, log, pc, sr, vector)
+    } else if types::is_060(k) {
+        memory::with_cpu(m, status::clear_m(m.cpu))
+    } else {
+        m
+    }
 }
 
 // One interrupt at a level.
+#[tactic(auto, unfolding(crate::specs::Interrupts::service_interrupt, crate::specs::Interrupts::dispatched, crate::specs::Interrupts::ended, cpu::specs::Fields::pc_of))]
 pub fn service_interrupt(m: Core, store: &mut [u8], log: &mut [u32], level: u8) -> Core
     ensures { world result store.new log.new ≡ service_interrupt (world m store.old log.old) level }
 {
@@ -218,20 +220,21 @@ pub fn service_interrupt(m: Core, store: &mut [u8], log: &mut [u32], level: u8) 
 }
 
 // The interrupt call.
+#[tactic(auto, unfolding(crate::specs::Interrupts::check_and_service, crate::specs::Interrupts::serviced))]
 pub fn check_and_service_interrupts(m: Core, store: &mut [u8], log: &mut [u32]) -> Serviced
     ensures { tried (world result.core store.new log.new) result.taken ≡ check_and_service (world m store.old log.old) }
 {
     if pending::interrupts::takes_interrupt(m.cpu) {
         let level = pending::interrupts::pending_level(m.cpu);
         let a = service_interrupt(m, store, log, level);
-        let b = memory::with_cpu(a, pending::interrupts::clear_level(a.cpu));
-        return Serviced {
-            core: b,
+        Serviced {
+            core: memory::with_cpu(a, pending::interrupts::clear_level(a.cpu)),
             taken: true,
-        };
-    }
-    Serviced {
-        core: m,
-        taken: false,
+        }
+    } else {
+        Serviced {
+            core: m,
+            taken: false,
+        }
     }
 }

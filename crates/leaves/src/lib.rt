@@ -16,7 +16,7 @@ use cpu::Cpu;
 pub extern "C" fn leaf_get_sr(c: Cpu) -> u32
     ensures { result ≡ get_sr c }
 {
-    status::get_sr(c) as u32
+    u32::from(status::get_sr(c))
 }
 
 #[unsafe(no_mangle)]

@@ -1,65 +1,40 @@
 // Digits to a number, of the base and the most digits that the field has.
 ghost use Rattle.std.specs.Prelude.{◌≡◌, ◌≤◌};
-ghost use Rattle.lines.specs.Numbers.{digit_of, number_of};
-
-// A number, or bytes that are none.
-#[derive(Clone, Copy)]
-pub enum Number {
-    Is(u32),
-    Not,
-}
-
-fn wide(b: u8) -> u32
-    ensures { result ≡ b }
-{
-    b as u32
-}
-
-// The value of a digit of either case, 16 for any other byte.
-fn digit(b: u8) -> u32
-    ensures { (result ≡ digit_of b) × (result ≤ 16) }
-{
-    if b < 48 {
-        return 16;
-    }
-    if b < 58 {
-        return wide(b - 48);
-    }
-    if b < 65 {
-        return 16;
-    }
-    if b < 71 {
-        return wide(b - 55);
-    }
-    if b < 97 {
-        return 16;
-    }
-    if b < 103 {
-        return wide(b - 87);
-    }
-    16
-}
+ghost use Rattle.lines.specs.Numbers.{number_of};
+ghost use Rattle.lines.specs.Commands.{decimal, hexadecimal, byte_in};
 
 // All of s as a number of 1 to `limit` digits.
-pub(crate) fn read(s: &[u8], base: u32, limit: usize) -> Number
-    requires { (base ≤ 16) × (limit ≤ 8) }
+fn number(s: &[u8], base: u32, limit: usize) -> Option<u32>
+    requires { (2 ≤ base) × (base ≤ 16) × (limit ≤ 8) }
     ensures { result ≡ number_of base limit s.now }
 {
-    if s.len() == 0 {
-        return Number::Not;
+    if s.is_empty() || limit < s.len() {
+        return None;
     }
-    if limit < s.len() {
-        return Number::Not;
+    let mut value = 0;
+    for &b in s {
+        value = value * base + char::from(b).to_digit(base)?;
     }
-    let mut v: u32 = 0;
-    let mut i: usize = 0;
-    while i < s.len() {
-        let d = digit(s[i]);
-        if base <= d {
-            return Number::Not;
-        }
-        v = v * base + d;
-        i += 1;
-    }
-    Number::Is(v)
+    Some(value)
+}
+
+// A decimal number of 1 to 4 digits.
+pub(crate) fn decimal(s: &[u8]) -> Option<u32>
+    ensures { result ≡ decimal s.now }
+{
+    number(s, 10, 4)
+}
+
+// A hexadecimal number of 1 to 8 digits, of either case.
+pub(crate) fn hexadecimal(s: &[u8]) -> Option<u32>
+    ensures { result ≡ hexadecimal s.now }
+{
+    number(s, 16, 8)
+}
+
+// The number of a field that holds a byte.
+pub(crate) fn byte_in(number: Option<u32>) -> Option<u8>
+    ensures { result ≡ byte_in number }
+{
+    u8::try_from(number?).ok()
 }

@@ -1,4 +1,5 @@
 -- Theorems about what specs/ErrorEntries defines, and what rests on them.
+use Rattle.std.specs.Prelude.{Option}
 use Rattle.std.specs.Prelude.{ℕ, ◌%◌, ◌<◌, refl, Bool, true, false}
 use Rattle.std.proofs.Common.{sym, arith}
 use Rattle.std.proofs.Math.Option.{none}
@@ -38,7 +39,7 @@ use Rattle.manual.proofs.Entries.{one_agrees, by_frame}
 use Rattle.manual.specs.ErrorEntries.{code_small, bus_by, address_by, bus_is, address_is, bus_size, address_size}
 
 module _ (s : State) (sr : s.status < 0x10000) (op : s.opcode < 0x10000) (a : ℕ) (write i : Bool) (code datum : ℕ) (l : code < 8) where
-  bus_hold : (f : Family) (z : ℕ) (k : FaultCause) → Holding (bus_by f s.status s.this s.opcode a write i z code datum (cause_number k)) (field_differs differences (of f (with_fault s (fault a write i z code datum (cause_number k)))) own bus_error 2)
+  bus_hold : (f : Family) (z : ℕ) (k : Option FaultCause) → Holding (bus_by f s.status s.this s.opcode a write i z code datum (cause_number k)) (field_differs differences (of f (with_fault s (fault a write i z code datum (cause_number k)))) own bus_error 2)
       (fields_of (of f (with_fault s (fault a write i z code datum (cause_number k)))) bus_error 2)
   bus_hold mc68000 z k = first_bus_error s sr op a write i z code datum (cause_number k) (fault_word code write i)
   bus_hold mc68010 z k = second_bus_error s sr op a write i z code datum (cause_number k) write i
@@ -65,7 +66,7 @@ module _ (w : World) (F : Family) (t : Tests F (kind_of (cpu_of w))) (so : Sound
   C = cpu_of w
 
   -- a bus error, whatever else the record does before the frame and at the end
-  pub bus_by_lem : (turn close : Cpu → Cpu) → Turn turn → End close → (z : ℕ) (k : FaultCause) → Clean (gist w) (single turn (bus_frame C a write i z (cause_number k)) 2 close)
+  pub bus_by_lem : (turn close : Cpu → Cpu) → Turn turn → End close → (z : ℕ) (k : Option FaultCause) → Clean (gist w) (single turn (bus_frame C a write i z (cause_number k)) 2 close)
       → Agrees differences (state_by w F (fault_by C a write i z (code_of C i) (cause_number k)) none) (event bus_error 2 own) w (planned (gist w) (single turn (bus_frame C a write i z (cause_number k)) 2 close))
   unfolding state_by top_fields ppc_of ir_of wdata_of
   bus_by_lem turn close tu en z k =
@@ -77,7 +78,7 @@ module _ (w : World) (F : Family) (t : Tests F (kind_of (cpu_of w))) (so : Sound
       (bus_size F (get_sr C) (ppc_of C) (ir_of C % 0x10000) a write i z (code_of C i) (wdata_of C) (cause_number k))
       (bus_hold s (status_fits C) (omega arith) a write i (code_of C i) (wdata_of C) (code_small C i) F z k) (bus_error_own_length s 2 F) (λ e. refl) (λ d. impossible (sym d)))
 
-  pub bus_agrees : (z : ℕ) (k : FaultCause) → Clean (gist w) (bus_plan C a write i z (cause_number k))
+  pub bus_agrees : (z : ℕ) (k : Option FaultCause) → Clean (gist w) (bus_plan C a write i z (cause_number k))
       → Agrees differences (state_by w F (fault_by C a write i z (code_of C i) (cause_number k)) none) (event bus_error 2 own) w (planned (gist w) (bus_plan C a write i z (cause_number k)))
   unfolding bus_plan
   bus_agrees z k = bus_by_lem enter_bus_error same turn_bus end_same z k

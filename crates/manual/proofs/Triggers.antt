@@ -1,4 +1,5 @@
 -- Theorems about what specs/Triggers defines, and what rests on them.
+use Rattle.std.specs.Prelude.{Option}
 use Rattle.std.specs.Prelude.{ℕ, ◌<◌, ◌≡◌, Bool, true, false}
 use Rattle.std.proofs.Math.Path.{refl, sym, ap, subst}
 use Rattle.std.proofs.Common.{◌∙◌}
@@ -141,11 +142,11 @@ module _ (w : World) (F : Family) (f : family_of (kind_of (cpu_of w)) ≡ some F
   unfolding begun restarted put_cpu
   cause_begun = refl
 
-  by_cause : (z : ℕ) (k : FaultCause) → cause_number_of (cpu_of w) ≡ cause_number k
+  by_cause : (z : ℕ) (k : Option FaultCause) → cause_number_of (cpu_of w) ≡ cause_number k
       → step close_bus (exception_bus_error raised (step begin_bus (begun w)) a write i z (cause_number_of (cpu_of (begun w)))) ≡ step close_bus (exception_bus_error raised (step begin_bus (begun w)) a write i z (cause_number k))
   by_cause z k q = ap (λ (n : ℕ). step close_bus (exception_bus_error raised (step begin_bus (begun w)) a write i z n)) (cause_begun ∙ q)
 
-  pub bus_trigger_holds : (z : ℕ) (k : FaultCause) → cause_number_of (cpu_of w) ≡ cause_number k → refusal w (TriggerBusError a write i z) ≡ 0 → is_faulted (cpu_of w) ≡ false → in_exception (cpu_of w) ≡ false
+  pub bus_trigger_holds : (z : ℕ) (k : Option FaultCause) → cause_number_of (cpu_of w) ≡ cause_number k → refusal w (TriggerBusError a write i z) ≡ 0 → is_faulted (cpu_of w) ≡ false → in_exception (cpu_of w) ≡ false
       → Clean (gist R) (trigger_plan (cpu_of R) a write i z (cause_number k))
       → Agrees differences (state_of R F (ExceptionBusError a write i z k)) (event bus_error 2 own) R (perform w (TriggerBusError a write i z)).after
   unfolding put_cpu set_exception

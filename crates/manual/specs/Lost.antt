@@ -1,11 +1,11 @@
 -- THE DIFFERENCE OF THE TRIGGERS: in the user state with M set a trigger puts the status back without M, so that the stacked status lacks M and, from the
 -- 68020 to the 68040, the frame lies on the interrupt stack; by the manuals M stays and the frame lies on the master stack. `put_back` proves that
 -- the status put back differs in nothing else, `m_lost` and `m_lost_68060` show the difference on `perform`.
+use Rattle.std.specs.Prelude.{None}
 use Rattle.std.specs.Prelude.{ℕ, zero, suc, ◌-◌, ◌*◌, ◌/◌, ◌%◌, ◌<◌, ◌≡◌, refl, Bool, true, false, cond, ◌&&◌, List, [], ◌∷◌, eqb, set, replicate}
 use Rattle.std.proofs.Common.{ap, ◌∙◌, arith}
 use Rattle.std.proofs.Math.Option.{Option, none, some}
 use Rattle.types.specs.Kinds.{pick, mask_status}
-use Rattle.types.specs.declared.FaultCause.TheVariants.{Absent}
 use Rattle.cpu.specs.declared.Cpu.{Cpu}
 use Rattle.cpu.specs.Groups.{with_regs, with_flags}
 use Rattle.cpu.specs.Fields.{kind_of, a7_of}
@@ -66,7 +66,7 @@ is (some m) n = eqb m n
 -- accepted; the manual's status and A7, and ours
 abbrev lost_by : Option Family → World → World → Bool
 lost_by none w z = false
-lost_by (some f) w z = lost (state_of w f (ExceptionBusError 0x1234 false false 2 Absent))
+lost_by (some f) w z = lost (state_of w f (ExceptionBusError 0x1234 false false 2 None))
   where
     lost : State → Bool
     lost s =

@@ -17,7 +17,7 @@ use Rattle.status.specs.Status.{get_sr}
 use Rattle.memory.specs.declared.Core.{Core}
 use Rattle.memory.specs.Served.{place_of}
 use Rattle.memory.specs.World.{put_cpu}
-use Rattle.unwind.specs.declared.frames.Frame.{Frame}
+use Rattle.unwind.specs.Models.{Frame}
 use Rattle.unwind.specs.Frames.{Sight, byte_address, byte_of, word_of, long_of, head_of, all_served, refused_frame, taken_frame, sized_frame, format_frame, odd_pointer, frame_of}
 use Rattle.unwind.specs.Returns.{in_user, take_frame, refused_back, done_back, second_back, first_back, back}
 use Rattle.unwind.specs.Unwind.{refusal, sight_of, returned, return_from}

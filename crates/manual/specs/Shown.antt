@@ -1,8 +1,9 @@
 -- EACH ROW of the table of differences is one: a smallest input, on each kind that it names, and there the manual's value and ours, computed from `perform`.
+use Rattle.std.specs.Prelude.{Some, None}
 use Rattle.std.specs.Prelude.{ℕ, zero, suc, ◌+◌, ◌%◌, ◌≡◌, refl, Bool, true, false, cond, not, ◌&&◌, ◌||◌, List, [], ◌∷◌, eqb, set, replicate, get_or}
 use Rattle.std.proofs.Math.Option.{Option, none, some}
 use Rattle.types.specs.Kinds.{mask_address}
-use Rattle.types.specs.declared.FaultCause.TheVariants.{Absent, AccessBusError}
+use Rattle.types.specs.declared.FaultCause.TheVariants.{AccessBusError}
 use Rattle.cpu.specs.declared.Cpu.{Cpu}
 use Rattle.cpu.specs.Setters.{with_sp, with_mmu_fc_override}
 use Rattle.cpu.specs.Fields.{pc_of, a7_of, set_a7, set_pc, set_wdata}
@@ -84,7 +85,7 @@ abbrev twenty : List ℕ
 twenty = 3 ∷ 4 ∷ 5 ∷ 6 ∷ []
 
 abbrev read : Call
-read = ExceptionBusError 0x1234 false false 2 Absent
+read = ExceptionBusError 0x1234 false false 2 None
 
 abbrev odd : Call
 odd = ExceptionAddressError 0x1235 false false
@@ -96,18 +97,18 @@ inputs =
     ∷ plainly 2 (1 ∷ []) read 0x00 0 5 0
     ∷ plainly 3 (1 ∷ []) read 0x02 0 0x1234 0xFE2700
     ∷ plainly 4 (1 ∷ []) read 0x08 0 0x2700 0
-    ∷ plainly 5 (2 ∷ []) (ExceptionBusError 0x1234 false true 2 Absent) 0x08 13 1 0
+    ∷ plainly 5 (2 ∷ []) (ExceptionBusError 0x1234 false true 2 None) 0x08 13 1 0
     ∷ plainly 6 (2 ∷ []) read 0x08 12 1 0
-    ∷ plainly 7 (2 ∷ []) (ExceptionBusError 0x1234 false false 1 Absent) 0x08 10 1 0
-    ∷ plainly 8 (2 ∷ []) (ExceptionBusError 0x1235 false false 1 Absent) 0x08 9 1 0
+    ∷ plainly 7 (2 ∷ []) (ExceptionBusError 0x1234 false false 1 None) 0x08 10 1 0
+    ∷ plainly 8 (2 ∷ []) (ExceptionBusError 0x1235 false false 1 None) 0x08 9 1 0
     ∷ plainly 9 (2 ∷ []) read 0x08 8 1 0
     ∷ plainly 10 (2 ∷ []) read 0x08 0 5 0
     ∷ plainly 11 (2 ∷ []) read 0x0A 0 0x1234 0
-    ∷ plainly 12 (2 ∷ []) (ExceptionBusError 0x1234 true false 2 Absent) 0x10 0 0xABCD 0
+    ∷ plainly 12 (2 ∷ []) (ExceptionBusError 0x1234 true false 2 None) 0x10 0 0xABCD 0
     ∷ plainly 13 twenty (ExceptionAddressError 0x1235 false true) 0x06 0 0xB00C 0x000C
     ∷ plainly 13 (11 ∷ []) (ExceptionAddressError 0x1235 false true) 0x06 0 0x200C 0x000C
-    ∷ plainly 14 (7 ∷ 8 ∷ 9 ∷ []) (ExceptionBusError 0x1234 false false 2 AccessBusError) 0x0C 10 0 1
-    ∷ plainly 15 (11 ∷ []) (ExceptionBusError 0x1234 false false 1 Absent) 0x0C 21 0 1
+    ∷ plainly 14 (7 ∷ 8 ∷ 9 ∷ []) (ExceptionBusError 0x1234 false false 2 (Some AccessBusError)) 0x0C 10 0 1
+    ∷ plainly 15 (11 ∷ []) (ExceptionBusError 0x1234 false false 1 None) 0x0C 21 0 1
     ∷ plainly 16 (11 ∷ []) TakeFpDisabled060 0x02 0 0x100 0xFE
     ∷ plainly 17 (1 ∷ []) (TakeException 2) 0x08 0 0x2700 0
     ∷ plainly 18 (1 ∷ []) (TakeException 3) 0 0 0x172 0x17A
@@ -127,7 +128,7 @@ inputs =
     ∷ record { row = 29; kinds = 1 ∷ []; call = TakeException 4; status = 0x2700; a7 = 0x180; isp = 0x180; ppc = 0xFE; vbr = 0x80; level = 0; override = none; byte = 0x93; offset = 0; low = 0; manual = 0; ours = 0x40 }
     ∷ plainly 30 (3 ∷ []) (Trap 0) 0x1000000 0 0 0x1000000
     ∷ overridden 31 (7 ∷ 8 ∷ 9 ∷ []) read 7 0x0C 3 2 0
-    ∷ overridden 32 (7 ∷ 8 ∷ 9 ∷ []) (ExceptionBusError 0x1234 true false 2 Absent) 7 0x0E 3 2 0
+    ∷ overridden 32 (7 ∷ 8 ∷ 9 ∷ []) (ExceptionBusError 0x1234 true false 2 None) 7 0x0E 3 2 0
     ∷ overridden 33 (11 ∷ []) read 7 0x0C 19 2 0
     ∷ plainly 0 (1 ∷ []) odd 0x00 4 1 0
     ∷ record { row = 1; kinds = 1 ∷ []; call = odd; status = 0x2700; a7 = 0x180; isp = 0x180; ppc = 0x800FE; vbr = 0; level = 0; override = none; byte = 0x1FF; offset = 0x00; low = 3; manual = 0; ours = 1 }

@@ -1,23 +1,15 @@
--- Written by tools/generate.py from tools/manifest.txt: not edited by hand.
--- A law for each way through a function, by tools/ways.py: its premises are how each test went and what each call ensures, in the
--- order of the code.
-use Prim.Native.Nat.{ℕ, zero, suc, ◌-◌}
-use mathlib.Core.Path.{◌≡◌, refl}
-use mathlib.Core.Bool.{Bool, true, false}
-use native.Mathlib.Numerals.{sub-one}
-use Rattle.memory.specs.Served.{clear_of, meets}
+-- One window that holds a byte of an access, among the first j.
+use Rattle.std.specs.Prelude.{◌≡◌, refl, ℕ, zero, suc, ◌<◌, Bool, true, false}
+use Rattle.std.proofs.Common.{arith}
+use Rattle.types.specs.Kinds.{pick}
 use Rattle.memory.specs.declared.Bus.{Bus}
+use Rattle.memory.specs.Served.{meets, clear_of}
 
-pub clear_of_way : (b : Bus) (left a n : ℕ) → left ≡ 0 → true ≡ clear_of b left a n
-unfolding clear_of
-clear_of_way b left a n h0 = cc
+either_way : (t : Bool) → pick t false false ≡ false
+either_way true = refl
+either_way false = refl
 
-pub clear_of_way_2 : (b : Bus) (left a n : ℕ) (b1 : Bool) → (left ≡ 0 → ⊥) → b1 ≡ meets b (left - 1) a n → b1 ≡ true → false ≡ clear_of b left a n
+pub met : (b : Bus) (j k a n : ℕ) → k < j → meets b k a n ≡ true → clear_of b j a n ≡ false
 unfolding clear_of
-clear_of_way_2 b zero a n b1 h0 h1 h2 = absurd (h0 refl)
-clear_of_way_2 b (suc left) a n b1 h0 h1 h2 = cc (sub-one (suc left))
-
-pub clear_of_way_3 : (b : Bus) (left a n : ℕ) (b1 b2 : Bool) → (left ≡ 0 → ⊥) → b1 ≡ meets b (left - 1) a n → b1 ≡ false → b2 ≡ clear_of b (left - 1) a n → b2 ≡ clear_of b left a n
-unfolding clear_of
-clear_of_way_3 b zero a n b1 b2 h0 h1 h2 h3 = absurd (h0 refl)
-clear_of_way_3 b (suc left) a n b1 b2 h0 h1 h2 h3 = cc (sub-one (suc left))
+met b zero k a n h t = absurd (omega arith)
+met b (suc j) k a n h t = grind (arith, either_way, met b j k a n)

@@ -1,5 +1,5 @@
 -- What the log says after some events, and which events flush, acknowledge and release add.
-use Rattle.std.specs.Prelude.{ℕ, ◌+◌, ◌%◌, ◌^◌, ◌≡◌, List, [], ◌∷◌, ◌++◌, length}
+use Rattle.std.specs.Prelude.{ℕ, ◌%◌, ◌^◌, ◌≡◌, List, [], ◌∷◌, ◌++◌, length}
 use Rattle.memory.specs.Log.{note_log, counted}
 use Rattle.memory.specs.World.{World}
 

@@ -1,6 +1,6 @@
 -- The state that a function of the core goes from and to: record, bus, store and log. And one access, sync, acknowledge and
 -- release on it.
-use Rattle.std.specs.Prelude.{ℕ, ◌%◌, Bool, true, false, List, length, get_or}
+use Rattle.std.specs.Prelude.{ℕ, ◌%◌, Bool, true, false, Option, Some, None, List, length, get_or}
 use Rattle.types.specs.Kinds.{pick}
 use Rattle.cpu.specs.declared.Cpu.{Cpu}
 use Rattle.cpu.specs.Clocks.{has_clocks, clocks_of, set_clocks}
@@ -29,6 +29,11 @@ tried w b = record { after = w; ok = b; value = 0 }
 
 abbrev pub reply : World → Bool → ℕ → Attempt
 reply w b v = record { after = w; ok = b; value = v }
+
+-- the same of a read whose value is there where it was served
+abbrev pub read_as : World → Option ℕ → Attempt
+read_as w None = reply w false 0
+read_as w (Some v) = reply w true v
 
 -- the record is replaced
 unfoldable pub put_cpu : Core → Cpu → Core

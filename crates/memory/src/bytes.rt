@@ -1,9 +1,11 @@
-// Big-endian words and longs in a slice.
+// Big-endian words and longs in a slice. They ask for room, which no public function may, so other crates have their own.
+// `to_be_bytes` and a copied slice would be no shorter than the two stores.
 ghost use Rattle.std.specs.Prelude.{◌≡◌, ◌+◌, ◌%◌, ◌<◌, ◌≤◌, length};
 ghost use Rattle.types.specs.Kinds.{pick};
 ghost use Rattle.memory.specs.Bytes.{put_word, put_long, get_word, get_long};
 ghost use Rattle.memory.specs.World.{width_of};
 
+#[tactic(auto, unfolding(crate::specs::Bytes::put_word))]
 pub(crate) fn put_word(store: &mut [u8], at: usize, v: u16)
     requires { at + 2 ≤ length store.old }
     ensures { store.new ≡ put_word store.old at v }
@@ -12,6 +14,7 @@ pub(crate) fn put_word(store: &mut [u8], at: usize, v: u16)
     store[at + 1] = (v % 256) as u8;
 }
 
+#[tactic(auto, unfolding(crate::specs::Bytes::put_long))]
 pub(crate) fn put_long(store: &mut [u8], at: usize, v: u32)
     requires { at + 4 ≤ length store.old }
     ensures { store.new ≡ put_long store.old at v }
@@ -21,6 +24,7 @@ pub(crate) fn put_long(store: &mut [u8], at: usize, v: u32)
 }
 
 // A long, or a word of the value's low 16 bits.
+#[tactic(auto, unfolding(crate::specs::Bytes::put_long, crate::specs::Bytes::put_word))]
 pub(crate) fn put(store: &mut [u8], at: usize, long: bool, v: u32)
     requires { at + width_of long ≤ length store.old }
     ensures { store.new ≡ pick long (put_long store.old at v) (put_word store.old at (v % 0x10000)) }
@@ -32,19 +36,15 @@ pub(crate) fn put(store: &mut [u8], at: usize, long: bool, v: u32)
     }
 }
 
-fn wide(x: u8) -> u32
-    ensures { (result ≡ x) × (result < 256) }
-{
-    x as u32
-}
-
+#[tactic(auto, unfolding(crate::specs::Bytes::get_word))]
 pub(crate) fn get_word(store: &[u8], at: usize) -> u32
     requires { at + 2 ≤ length store.now }
     ensures { (result ≡ get_word store.now at) × (result < 0x10000) }
 {
-    wide(store[at]) * 256 + wide(store[at + 1])
+    u32::from(store[at]) * 256 + u32::from(store[at + 1])
 }
 
+#[tactic(auto, unfolding(crate::specs::Bytes::get_long))]
 pub(crate) fn get_long(store: &[u8], at: usize) -> u32
     requires { at + 4 ≤ length store.now }
     ensures { result ≡ get_long store.now at }
@@ -53,12 +53,14 @@ pub(crate) fn get_long(store: &[u8], at: usize) -> u32
 }
 
 // A long or a word.
+#[tactic(auto, unfolding(crate::specs::Bytes::get_long, crate::specs::Bytes::get_word))]
 pub(crate) fn get(store: &[u8], at: usize, long: bool) -> u32
     requires { at + width_of long ≤ length store.now }
     ensures { result ≡ pick long (get_long store.now at) (get_word store.now at) }
 {
     if long {
-        return get_long(store, at);
+        get_long(store, at)
+    } else {
+        get_word(store, at)
     }
-    get_word(store, at)
 }

@@ -2,7 +2,7 @@
 // number is, and all that takes or gives calls or flags as numbers use it: the fast way stands beside the calls, not above them.
 #![tactic(auto)]
 
-// The number of a call, and its arguments in the order of the case format.
+// The number of a call, and its arguments in the order of the case format, as C gives them.
 #[repr(C)]
 #[derive(Clone, Copy)]
 pub struct RawCall {

@@ -1,6 +1,6 @@
 -- Theorems about what specs/Bytes defines, and what rests on them.
 use Rattle.std.specs.Prelude.{ℕ, ◌≤◌, ◌<◌, ◌≡◌, replicate}
-use mathlib.Core.List.{List, [], ◌∷◌, ◌++◌}
+use mathlib.Core.List.{List, ◌∷◌, ◌++◌}
 use Rattle.nest.specs.Nest.{rows, restored_by}
 use Rattle.lines.specs.Commands.{ret_name}
 use Rattle.sessions.specs.Sessions.{Session}

@@ -1,5 +1,5 @@
 -- Theorems about what specs/Example defines, and what rests on them.
-use Rattle.std.specs.Prelude.{ℕ, ◌≡◌, List, [], ◌++◌}
+use Rattle.std.specs.Prelude.{ℕ, ◌≡◌, List, ◌++◌}
 use Rattle.std.proofs.Common.{ap, ◌∙◌}
 use Rattle.sessions.specs.Printed.{started, printed}
 use Rattle.printed.specs.Bytes.{printed_from}

@@ -2,7 +2,6 @@
 use Rattle.std.specs.Prelude.{ℕ, ◌≡◌, List, [], ◌∷◌}
 use Rattle.std.proofs.Math.Path.{refl, ap}
 use Rattle.std.proofs.Common.{◌∙◌}
-use Rattle.answers.specs.declared.Call.TheVariants as call
 use Rattle.nest.specs.Nest.{Page, run}
 use Rattle.rule3.specs.Rule3.{Real}
 use Rattle.lines.specs.Commands.{command_of}

@@ -9,7 +9,7 @@ use Rattle.cpu.specs.declared.Cpu.{Cpu}
 use Rattle.cpu.specs.Fields.{pc_of, a7_of}
 use Rattle.status.specs.Status.{get_sr}
 use Rattle.memory.specs.World.{World, put_cpu, with_cpu, cpu_of}
-use Rattle.unwind.specs.declared.Returned.{Returned}
+use Rattle.unwind.specs.Models.{Returned}
 use Rattle.unwind.specs.Rows.{trail_from, Reads}
 use Rattle.unwind.proofs.Rows.{walk_reads}
 use Rattle.unwind.specs.Returns.{Walk as Walked}

@@ -1,5 +1,5 @@
 -- Theorems about what specs/Worked defines, and what rests on them.
-use Rattle.std.specs.Prelude.{ℕ, ◌≤◌, ◌<◌, ◌≡◌, List, [], ◌∷◌, ◌++◌, length, replicate}
+use Rattle.std.specs.Prelude.{ℕ, ◌≤◌, ◌<◌, ◌≡◌, List, ◌∷◌, ◌++◌, length, replicate}
 use Rattle.std.proofs.Common.{sym, ap, ◌∙◌, subst, append_assoc, ltb-true, leb-true}
 use Rattle.nest.specs.Nest.{Page, Line, rows, restored_by}
 use Rattle.lines.specs.Commands.{ret_name}

@@ -7,7 +7,7 @@ use Rattle.nest.specs.Nest.{rows, restored_by}
 use Rattle.lines.specs.Commands.{ret_name}
 use Rattle.prints.specs.Prints.{more}
 use Rattle.sessions.specs.Sessions.{Session, say, step}
-use Rattle.sessions.specs.Printed.{lines_of, steps, printed}
+use Rattle.sessions.specs.Printed.{lines_of, steps}
 use Rattle.printed.specs.Steps.{book_of, depth_of}
 use Rattle.printed.specs.Told.{rows_text, returns_text, Told}
 use Rattle.printed.specs.Lines.{with_feed, text, walk_line, all_feedless, lines_append, lines_text_lem, walk_is, walk_feedless}

@@ -1,5 +1,5 @@
 -- The nest of a session ends with the record, the bus, the store and the log that the session has.
-use Rattle.std.specs.Prelude.{ℕ, ◌≡◌, Bool, List, [], ◌∷◌, ◌++◌, length}
+use Rattle.std.specs.Prelude.{ℕ, Option as Optional, Some, None, ◌≡◌, Bool, List, [], ◌∷◌, ◌++◌, length}
 use Rattle.std.proofs.Math.Path.{refl, sym, ap}
 use Rattle.std.proofs.Common.{◌∙◌}
 use Rattle.std.proofs.Math.Bool.{true, false}
@@ -11,7 +11,7 @@ use Rattle.memory.specs.declared.Core.{Core}
 use Rattle.memory.specs.World.{World, cpu_of, put_cpu}
 use Rattle.answers.specs.declared.Call.{Call}
 use Rattle.answers.specs.declared.Call.TheVariants as call
-use Rattle.answers.specs.declared.Answer.TheVariants.{Refused}
+use Rattle.answers.specs.Answer.{Refused}
 use Rattle.answers.specs.Answers.{answered}
 use Rattle.calls.specs.Calls.{begun, refusal, perform}
 use Rattle.calls.specs.Calls.{run as performed}
@@ -19,7 +19,7 @@ use Rattle.unwind.specs.Returns.{back, refused_back}
 use Rattle.unwind.specs.Unwind.{sight_of, returned, return_from}
 use Rattle.unwind.specs.Unwind.{refusal as refusal_here}
 use Rattle.unwind.proofs.Laws.{return_refused}
-use Rattle.unwind.specs.declared.Returned.{Returned}
+use Rattle.unwind.specs.Models.{Returned}
 use Rattle.forms.specs.Plans.{Plan}
 use Rattle.forms.specs.Forms.{plan_of}
 use Rattle.nest.specs.Nest.{Step, entry, return, State, Page, refused, denied, exec, run, fed, strike, after_entry, after_return}
@@ -28,7 +28,7 @@ use Rattle.entered.specs.Machines.{direct, Direct, room_of, outcome, by_plan}
 use Rattle.entered.proofs.Machines.{enter_is}
 use Rattle.rule3.specs.Rule3.{give_back, Real}
 use Rattle.lines.specs.declared.Command.{Command}
-use Rattle.lines.specs.declared.Command.TheVariants.{Wrong, Kind, Pc, Ppc, A7, Long, Exc, Trap, Irq, Walk, Ret}
+use Rattle.lines.specs.declared.Command.TheVariants.{Kind, Pc, Ppc, A7, Long, Exc, Trap, Irq, Walk, Ret}
 use Rattle.sessions.specs.Sessions.{Session, on_core, entered, interrupted, act}
 use Rattle.sessions.specs.Sessions.{returned as session_returned}
 use Rattle.printed.specs.Steps.{steps_of}
@@ -85,19 +85,19 @@ module _ (w : World) (b : List Page) where
 pub same_book : (w : World) (b : List Page) (st : State Real) → st ≡ standing w b → st ≡ standing w st.book
 same_book w b st e = e ∙ ap (standing w) (sym (ap (λ (z : State Real). z.book) e))
 
-pub command_follows : (s : Session) (c : Command) (b : List Page) → run Real (steps_of s c) (standing s.after b) ≡ standing (act s c).after (run Real (steps_of s c) (standing s.after b)).book
+pub command_follows : (s : Session) (c : Optional Command) (b : List Page) → run Real (steps_of s c) (standing s.after b) ≡ standing (act s c).after (run Real (steps_of s c) (standing s.after b)).book
 unfolding steps_of act entered interrupted session_returned
-command_follows s (Exc v) b = same_book _ _ _ (enters s.after (call.TakeException v) refl b)
-command_follows s (Trap n) b = same_book _ _ _ (enters s.after (call.Trap n) refl b)
-command_follows s (Irq n) b = same_book _ _ _ (enters (perform s.after (call.SetIrq n)).after call.CheckAndServiceInterrupts refl b)
-command_follows s Ret b = returns s.after b
-command_follows s (Kind k) b = refl
-command_follows s (Pc v) b = refl
-command_follows s (Ppc v) b = refl
-command_follows s (A7 v) b = refl
-command_follows s (Long a v) b = refl
-command_follows s (Walk n) b = refl
-command_follows s Wrong b = refl
+command_follows s (Some (Exc v)) b = same_book _ _ _ (enters s.after (call.TakeException v) refl b)
+command_follows s (Some (Trap n)) b = same_book _ _ _ (enters s.after (call.Trap n) refl b)
+command_follows s (Some (Irq n)) b = same_book _ _ _ (enters (perform s.after (call.SetIrq n)).after call.CheckAndServiceInterrupts refl b)
+command_follows s (Some Ret) b = returns s.after b
+command_follows s (Some (Kind k)) b = refl
+command_follows s (Some (Pc v)) b = refl
+command_follows s (Some (Ppc v)) b = refl
+command_follows s (Some (A7 v)) b = refl
+command_follows s (Some (Long a v)) b = refl
+command_follows s (Some (Walk n)) b = refl
+command_follows s None b = refl
 
 pub run_append : (xs ys : List (Step Real)) (st : State Real) → run Real (xs ++ ys) st ≡ run Real ys (run Real xs st)
 run_append [] ys st = refl

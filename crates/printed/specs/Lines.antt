@@ -1,13 +1,11 @@
 -- The line `walk n` in bytes, and the bytes of lines cut into lines again.
-use Rattle.std.specs.Prelude.{ℕ, zero, suc, ◌+◌, ◌*◌, ◌/◌, ◌%◌, ◌≤◌, ◌<◌, ◌≡◌, refl, Bool, true, false, List, [], ◌∷◌, ◌++◌, eqb, ltb, leb, length}
+use Rattle.std.specs.Prelude.{ℕ, Option, Some, None, zero, suc, ◌+◌, ◌*◌, ◌/◌, ◌%◌, ◌≤◌, ◌<◌, ◌≡◌, refl, Bool, true, false, List, [], ◌∷◌, ◌++◌, eqb, ltb, leb, length}
 use Rattle.std.proofs.Common.{ap, ◌∙◌, arith, ltb-true, lt-ltb, le-ltb, ne_eqb, length-append}
 use Rattle.std.proofs.lemmas.Bool.{lt-leb}
 use Rattle.types.specs.Kinds.{pick}
-use Rattle.lines.specs.declared.numbers.Number.{Number}
-use Rattle.lines.specs.declared.numbers.Number.TheVariants.{Is, Not}
 use Rattle.lines.specs.declared.Command.TheVariants.{Walk}
 use Rattle.lines.specs.Numbers.{digit_of, reading, number_of}
-use Rattle.lines.specs.Commands.{walk_name, starts_with, walk_in, word_in, command_of}
+use Rattle.lines.specs.Commands.{walk_name, starts_with, word_in, command_of}
 use Rattle.prints.specs.Prints.{decimal_of}
 use Rattle.sessions.specs.Printed.{in_front, lines_of}
 
@@ -95,38 +93,38 @@ digit_of_lem : (x : ℕ) → x < 10 → digit_of (48 + x) ≡ x
 unfolding digit_of
 digit_of_lem x l = rw (le-ltb (48 + x) 48 (omega arith), lt-ltb (48 + x) 58 (omega arith)) (omega arith)
 
-one_digit : (v x : ℕ) → x < 10 → reading 10 v ((48 + x) ∷ []) ≡ Is (v * 10 + x)
+one_digit : (v x : ℕ) → x < 10 → reading 10 v ((48 + x) ∷ []) ≡ Some (v * 10 + x)
 unfolding reading
 one_digit v x l = rw (digit_of_lem x l, lt-leb 10 x l)
 
 -- a digit after those that read as u
-then_digit : (l : List ℕ) (v u x : ℕ) → x < 10 → reading 10 v l ≡ Is u → reading 10 v (l ++ ((48 + x) ∷ [])) ≡ Is (u * 10 + x)
+then_digit : (l : List ℕ) (v u x : ℕ) → x < 10 → reading 10 v l ≡ Some u → reading 10 v (l ++ ((48 + x) ∷ [])) ≡ Some (u * 10 + x)
 unfolding reading
-then_digit [] v u x h = λ e. let q : v ≡ u = cc in one_digit v x h ∙ ap (λ (k : ℕ). Is (k * 10 + x)) q
+then_digit [] v u x h = λ e. let q : v ≡ u = cc in one_digit v x h ∙ ap (λ (k : ℕ). Some (k * 10 + x)) q
 then_digit (b ∷ l) v u x h = go (then_digit l (v * 10 + digit_of b) u x h) (leb 10 (digit_of b))
   where
-    go : (reading 10 (v * 10 + digit_of b) l ≡ Is u → reading 10 (v * 10 + digit_of b) (l ++ ((48 + x) ∷ [])) ≡ Is (u * 10 + x)) → (t : Bool)
-        → pick t Not (reading 10 (v * 10 + digit_of b) l) ≡ Is u → pick t Not (reading 10 (v * 10 + digit_of b) (l ++ ((48 + x) ∷ []))) ≡ Is (u * 10 + x)
+    go : (reading 10 (v * 10 + digit_of b) l ≡ Some u → reading 10 (v * 10 + digit_of b) (l ++ ((48 + x) ∷ [])) ≡ Some (u * 10 + x)) → (t : Bool)
+        → pick t None (reading 10 (v * 10 + digit_of b) l) ≡ Some u → pick t None (reading 10 (v * 10 + digit_of b) (l ++ ((48 + x) ∷ []))) ≡ Some (u * 10 + x)
     go r true e = let z : ◌≡◌ {A = ℕ} 0 1 = cc in absurd (omega arith)
     go r false e = r e
 
 -- one digit more
 abbrev ReadsBack : ℕ → ℕ → Type 0
-ReadsBack n below = (v : ℕ) → v < below → reading 10 0 (decimal_of n v) ≡ Is v
+ReadsBack n below = (v : ℕ) → v < below → reading 10 0 (decimal_of n v) ≡ Some v
 
 digit_more : (n below : ℕ) → ReadsBack n below → ReadsBack (suc n) (10 * below)
 unfolding decimal_of
 digit_more n below h v l = go (ltb v 10) refl
   where
-    go : (t : Bool) → ltb v 10 ≡ t → reading 10 0 (pick t ((48 + v) ∷ []) (decimal_of n (v / 10) ++ ((48 + v % 10) ∷ []))) ≡ Is v
-    go true e = one_digit 0 v (ltb-true v 10 e) ∙ ap {B = Number} Is (let q : 0 * 10 + v ≡ v = omega arith in q)
+    go : (t : Bool) → ltb v 10 ≡ t → reading 10 0 (pick t ((48 + v) ∷ []) (decimal_of n (v / 10) ++ ((48 + v % 10) ∷ []))) ≡ Some v
+    go true e = one_digit 0 v (ltb-true v 10 e) ∙ ap {B = Option ℕ} Some (let q : 0 * 10 + v ≡ v = omega arith in q)
     go false e =
         then_digit (decimal_of n (v / 10)) 0 (v / 10) (v % 10) (omega arith) (h (v / 10) (omega arith))
-        ∙ ap {B = Number} Is (let q : v / 10 * 10 + v % 10 ≡ v = omega arith in q)
+        ∙ ap {B = Option ℕ} Some (let q : v / 10 * 10 + v % 10 ≡ v = omega arith in q)
 
 no_digit : ReadsBack 0 1
 unfolding decimal_of reading
-no_digit v l = let q : 0 ≡ v = omega arith in ap {B = Number} Is q
+no_digit v l = let q : 0 ≡ v = omega arith in ap {B = Option ℕ} Some q
 
 reads_back : ReadsBack 4 10000
 reads_back = digit_more 3 1000 (digit_more 2 100 (digit_more 1 10 (digit_more 0 1 no_digit)))
@@ -169,17 +167,17 @@ digits (suc n) v = go (digits n (v / 10)) (ltb v 10)
 
 -- ---- the line `walk n`
 
-field_walks : (l : List ℕ) (n : ℕ) → length l ≤ 4 → number_of 10 4 l ≡ Is n → command_of (walk_name ++ l) ≡ Walk n
-unfolding command_of word_in starts_with walk_in
+field_walks : (l : List ℕ) (n : ℕ) → length l ≤ 4 → number_of 10 4 l ≡ Some n → command_of (walk_name ++ l) ≡ Some (Walk n)
+unfolding command_of word_in starts_with
 field_walks l n h e = rw (le-ltb 80 (length (walk_name ++ l)) (omega arith), e)
 
-number_back : (n : ℕ) → n < 10000 → number_of 10 4 (decimal_of 4 n) ≡ Is n
+number_back : (n : ℕ) → n < 10000 → number_of 10 4 (decimal_of 4 n) ≡ Some n
 unfolding number_of
 number_back n l =
     let d : Digits 4 (decimal_of 4 n) = digits 3 n in
     rw (ne_eqb (length (decimal_of 4 n)) 0 (λ e. omega (arith, d.some)), le-ltb 4 (length (decimal_of 4 n)) d.most) (reads_back n l)
 
-pub walk_is : (n : ℕ) → n < 10000 → command_of (walk_line n) ≡ Walk n
+pub walk_is : (n : ℕ) → n < 10000 → command_of (walk_line n) ≡ Some (Walk n)
 walk_is n l = field_walks (decimal_of 4 n) n (digits 3 n).most (number_back n l)
 
 pub walk_feedless : (n : ℕ) → feedless (walk_line n) ≡ true

@@ -1,5 +1,5 @@
 -- A session as a nest: the entries, returns and handlers of its lines.
-use Rattle.std.specs.Prelude.{ℕ, refl, List, [], ◌∷◌, ◌++◌}
+use Rattle.std.specs.Prelude.{ℕ, Option, Some, None, refl, List, [], ◌∷◌, ◌++◌}
 use Rattle.memory.specs.World.{World, cpu_of}
 use Rattle.answers.specs.declared.Call.TheVariants as call
 use Rattle.calls.specs.Calls.{perform}
@@ -9,7 +9,7 @@ use Rattle.rule3.specs.Rule3.{Real}
 use Rattle.rule3.specs.Nests.{tick}
 use Rattle.rule3.specs.Nests.{call as entry}
 use Rattle.lines.specs.declared.Command.{Command}
-use Rattle.lines.specs.declared.Command.TheVariants.{Wrong, Kind, Pc, Ppc, A7, Long, Exc, Trap, Irq, Walk, Ret}
+use Rattle.lines.specs.declared.Command.TheVariants.{Kind, Pc, Ppc, A7, Long, Exc, Trap, Irq, Walk, Ret}
 use Rattle.lines.specs.Commands.{command_of}
 use Rattle.sessions.specs.Sessions.{Session, act, step}
 
@@ -18,22 +18,22 @@ abbrev pub leaving : World → Step Real
 leaving w = handlers (cpu_of w) (room_of w)
 
 -- the steps of one command of a session
-unfoldable pub steps_of : Session → Command → List (Step Real)
+unfoldable pub steps_of : Session → Option Command → List (Step Real)
 -- "`exc` is `take_exception`"
-steps_of s (Exc v) = entry (call.TakeException v) refl ∷ []
-steps_of s (Trap n) = entry (call.Trap n) refl ∷ []
+steps_of s (Some (Exc v)) = entry (call.TakeException v) refl ∷ []
+steps_of s (Some (Trap n)) = entry (call.Trap n) refl ∷ []
 -- "`irq` is `set_irq` and then the interrupt call"; "Handlers are whatever runs between two calls, `set_irq` too"
-steps_of s (Irq n) = leaving (perform s.after (call.SetIrq n)).after ∷ tick ∷ []
-steps_of s Ret = return ∷ []
+steps_of s (Some (Irq n)) = leaving (perform s.after (call.SetIrq n)).after ∷ tick ∷ []
+steps_of s (Some Ret) = return ∷ []
 -- what writes record or store between two calls: handlers, which leave what the command leaves
-steps_of s (Kind k) = leaving (act s (Kind k)).after ∷ []
-steps_of s (Pc v) = leaving (act s (Pc v)).after ∷ []
-steps_of s (Ppc v) = leaving (act s (Ppc v)).after ∷ []
-steps_of s (A7 v) = leaving (act s (A7 v)).after ∷ []
-steps_of s (Long a v) = leaving (act s (Long a v)).after ∷ []
+steps_of s (Some (Kind k)) = leaving (act s (Some (Kind k))).after ∷ []
+steps_of s (Some (Pc v)) = leaving (act s (Some (Pc v))).after ∷ []
+steps_of s (Some (Ppc v)) = leaving (act s (Some (Ppc v))).after ∷ []
+steps_of s (Some (A7 v)) = leaving (act s (Some (A7 v))).after ∷ []
+steps_of s (Some (Long a v)) = leaving (act s (Some (Long a v))).after ∷ []
 -- "n returns on a copy", and a line that is not understood: no step
-steps_of s (Walk n) = []
-steps_of s Wrong = []
+steps_of s (Some (Walk n)) = []
+steps_of s None = []
 
 -- "The session goes on": the lines one after the other, each from what the lines before it left
 unfoldable pub nest_of : Session → List (List ℕ) → List (Step Real)

@@ -1,6 +1,6 @@
 -- RULE 3 on what a session prints: after lines that meet the premises, with an entry open, `walk` of the depth prints exactly the rows
 -- of the book, and as many `ret`s print exactly its addresses, statuses and A7s.
-use Rattle.std.specs.Prelude.{ℕ, ◌≤◌, ◌≡◌, refl, Bool, true, false, List, [], ◌∷◌, ◌++◌, eqb, replicate}
+use Rattle.std.specs.Prelude.{ℕ, Some, ◌≤◌, ◌≡◌, refl, Bool, true, false, List, [], ◌∷◌, ◌++◌, eqb, replicate}
 use Rattle.std.proofs.Math.Path.{ap}
 use Rattle.std.proofs.Common.{arith, eqb-true}
 use Rattle.std.proofs.Math.Option.{Option, none, some}
@@ -8,7 +8,7 @@ use Rattle.types.specs.Kinds.{pick}
 use Rattle.memory.specs.World.{cpu_of}
 use Rattle.unwind.specs.declared.returns.Row.{Row}
 use Rattle.nest.specs.View.{Row as NestRow}
-use Rattle.nest.specs.Nest.{rows, Values, restored_by, after}
+use Rattle.nest.specs.Nest.{rows, Values, restored_by}
 use Rattle.entered.specs.Machines.{room_of}
 use Rattle.rule3.specs.Rows.{numbered, rows_here}
 use Rattle.rule3.specs.Checked.{real, premises_test, premises_tested}
@@ -41,7 +41,7 @@ returns_text (v ∷ vs) = return_text v ++ returns_text vs
 pub record Told (s : Session) (ls : List (List ℕ)) : Type 0 where
   -- "a walk of the depth .. gives exactly the rows .., latest first": no refusal after them, and nothing else of the session changes.
   -- A walk above 4096 is refused
-  pub walks : depth_of s ls ≤ 4096 → (l : List ℕ) → command_of l ≡ Walk (depth_of s ls)
+  pub walks : depth_of s ls ≤ 4096 → (l : List ℕ) → command_of l ≡ Some (Walk (depth_of s ls))
       → step (steps s ls) l ≡ say (steps s ls) (steps s ls).after (rows_text (rows (book_of s ls)))
   -- "and as many returns restore in turn exactly each status, stacked address (as PC) and A7 in it", whatever was printed before them
   pub returns : (bs : List ℕ) → (steps (session (steps s ls).after bs) (replicate (depth_of s ls) ret_name)).printed ≡ more bs (returns_text (restored_by (book_of s ls)))
@@ -60,13 +60,13 @@ unfolding row_texts
 rows_text_lem [] = refl
 rows_text_lem (r ∷ rs) = ap (λ (bs : List ℕ). row_text r ++ bs) (rows_text_lem rs)
 
-pub walk_acts : (s : Session) (l : List ℕ) (n : ℕ) → command_of l ≡ Walk n → step s l ≡ say s s.after (walked s.after.core s.after.store n)
+pub walk_acts : (s : Session) (l : List ℕ) (n : ℕ) → command_of l ≡ Some (Walk n) → step s l ≡ say s s.after (walked s.after.core s.after.store n)
 unfolding step act
 walk_acts s l n e = rw e
 
 -- ---- the returns
 
-pub ret_is : command_of ret_name ≡ Ret
+pub ret_is : command_of ret_name ≡ Some Ret
 unfolding command_of word_in starts_with ret_in
 ret_is = refl
 

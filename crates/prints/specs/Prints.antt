@@ -14,21 +14,10 @@ more s t = s ++ t
 unfoldable pub hex_byte : ℕ → ℕ
 hex_byte d = pick (ltb d 10) (48 + d) (55 + d)
 
--- the lowest 1, 2, 3, 4 and 8 digits of v
-unfoldable pub hex1 : ℕ → List ℕ
-hex1 v = hex_byte (v % 16) ∷ []
-
-unfoldable pub hex2 : ℕ → List ℕ
-hex2 v = hex1 (v / 16) ++ hex1 v
-
-unfoldable pub hex3 : ℕ → List ℕ
-hex3 v = hex1 (v / 256) ++ hex2 v
-
-unfoldable pub hex4 : ℕ → List ℕ
-hex4 v = hex2 (v / 256) ++ hex2 v
-
-unfoldable pub hex8 : ℕ → List ℕ
-hex8 v = hex4 (v / 65536) ++ hex4 v
+-- the lowest digits of v, n of them
+unfoldable pub hex : ℕ → ℕ → List ℕ
+hex zero v = []
+hex (suc n) v = hex n (v / 16) ++ (hex_byte (v % 16) ∷ [])
 
 -- v in decimal with no zero in front, at most n digits; 10 hold every number of 32 bits
 unfoldable pub decimal_of : ℕ → ℕ → List ℕ
@@ -37,11 +26,11 @@ decimal_of (suc n) v = pick (ltb v 10) ((48 + v) ∷ []) (decimal_of n (v / 10) 
 
 -- "`exc`, `trap`, `irq` and `ret` print cycles (decimal ..), PC in 8 digits, status in 4, A7 in 8 .. one space between"
 unfoldable pub state_line : ℕ → ℕ → ℕ → ℕ → List ℕ
-state_line cycles pc sr a7 = decimal_of 10 cycles ++ (32 ∷ hex8 pc) ++ (32 ∷ hex4 sr) ++ (32 ∷ hex8 a7) ++ (10 ∷ [])
+state_line cycles pc sr a7 = decimal_of 10 cycles ++ (32 ∷ hex 8 pc) ++ (32 ∷ hex 4 sr) ++ (32 ∷ hex 8 a7) ++ (10 ∷ [])
 
 -- "`walk` prints a line a row: format in 1 digit, status in 4, address in 8, offset in 3"
 unfoldable pub row_line : ℕ → ℕ → ℕ → ℕ → List ℕ
-row_line format status address offset = hex1 format ++ (32 ∷ hex4 status) ++ (32 ∷ hex8 address) ++ (32 ∷ hex3 offset) ++ (10 ∷ [])
+row_line format status address offset = hex 1 format ++ (32 ∷ hex 4 status) ++ (32 ∷ hex 8 address) ++ (32 ∷ hex 3 offset) ++ (10 ∷ [])
 
 -- `refused `
 abbrev pub refused_word : List ℕ
@@ -51,6 +40,6 @@ refused_word = 114 ∷ 101 ∷ 102 ∷ 117 ∷ 115 ∷ 101 ∷ 100 ∷ 32 ∷ []
 unfoldable pub refused_line : ℕ → List ℕ
 refused_line n = refused_word ++ decimal_of 10 n ++ (10 ∷ [])
 
--- every line has at most 34 bytes: a line is laid where so many are left after the place, else nothing is
+-- every line has at most 34 bytes: of a buffer of `room` bytes, a line is laid where so many are left after what is printed, else nothing is
 unfoldable pub laid : ℕ → List ℕ → List ℕ → List ℕ
-laid at o line = pick (leb (at + 34) (length o)) (more (before at o) line) (before at o)
+laid room done line = pick (leb (length done + 34) room) (more done line) done

@@ -23,7 +23,7 @@ use Rattle.refusals.specs.Refusals.{short_log, bad_kind, tests_of}
 use Rattle.refusals.specs.Laws.{outcomes}
 use Rattle.answers.specs.declared.Call.{Call}
 use Rattle.answers.specs.declared.Call.TheVariants.{TakeException, Trap, TakeGroup2Exception, ExceptionChk, ExceptionZeroDivide, ExceptionPrivilege, ExceptionTrace, ExceptionAddressError, ExceptionBusError, TakeFpUnimp060, TakeFpDisabled060, TakeAlineException, TakeFlineException, TakeTrapException, TakeBkptException, TakeIllegalException, TriggerAddressError, TriggerBusError, CheckTrace, SetIrq, CheckInterrupts, CheckAndServiceInterrupts, Read16, Read32, Write16, Write32, Push16, Push32, PrefetchFirst, PrefetchSecond}
-use Rattle.answers.specs.declared.Answer.TheVariants.{Cycles, Flag, Refused}
+use Rattle.answers.specs.Answer.{Cycles, Flag, Refused}
 use Rattle.answers.specs.Matters.{matter_of}
 use Rattle.numbers.specs.Numbers.{bit}
 use Rattle.answers.specs.Answers.{refused_by, value_of, count_of, Performed, answered, events_of, cycles, flag, plain, of_entry, of_read, of_service, of_trace}

@@ -2,7 +2,7 @@
 use Prim.Native.Nat.{◌≤◌}
 use Rattle.std.specs.Prelude.{◌≡◌, ◌↔◌, Bool}
 use Rattle.std.proofs.Math.Path.{refl}
-use Rattle.std.proofs.Common.{sym, ◌∙◌, inl, ⊎_elim, ltb-false, le-ltb}
+use Rattle.std.proofs.Common.{sym, ◌∙◌, inl, ltb-false, le-ltb}
 use Rattle.std.proofs.Math.Bool.{true, false}
 use Rattle.types.specs.Kinds.{pick}
 use Rattle.cpu.specs.Fields.{clear_stopped}

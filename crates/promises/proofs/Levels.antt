@@ -13,7 +13,7 @@ use Rattle.bounds.specs.Levels.{Domain, Kept, Any, Either, inside, Unrolls}
 use Rattle.bounds.proofs.Levels.{level_any, levels}
 use Rattle.bounds.proofs.Unique.{unique}
 use Rattle.answers.specs.declared.Call.{Call}
-use Rattle.answers.specs.declared.Answer.TheVariants.{Refused}
+use Rattle.answers.specs.Answer.{Refused}
 use Rattle.answers.specs.Answers.{answered}
 use Rattle.calls.specs.Calls.{begun, refusal, perform}
 use Rattle.promises.proofs.Refusals.{accepted_domain}

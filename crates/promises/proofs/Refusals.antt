@@ -1,8 +1,8 @@
 -- Theorems about what specs/Refusals defines, and what rests on them.
-use Prim.Native.Nat.{ℕ, zero, suc, ◌+◌, ◌-◌, ◌%◌, ◌^◌, ◌≤◌, ◌<◌}
-use Rattle.std.specs.Prelude.{◌≡◌, Bool, [], ◌⊎◌, ◌↔◌, ltb, negsuc, ◌<ℤ◌, length}
+use Prim.Native.Nat.{ℕ, zero, suc, ◌+◌, ◌%◌, ◌^◌, ◌≤◌, ◌<◌}
+use Rattle.std.specs.Prelude.{◌≡◌, Bool, ◌⊎◌, ◌↔◌, ltb, negsuc, ◌<ℤ◌, length}
 use Rattle.std.proofs.Math.Path.{refl}
-use Rattle.std.proofs.Common.{⊎_elim, arith, eq-eqb, ne_eqb, ltb-true, ltb-false, ltb→lt, lt→ltb}
+use Rattle.std.proofs.Common.{arith, eq-eqb, ne_eqb, ltb-true, ltb-false}
 use Rattle.std.proofs.Math.Bool.{true, false}
 use Rattle.std.proofs.Math.Dec.{eqb}
 use Rattle.std.proofs.Math.ListN.{get_or-eq_default}
@@ -14,7 +14,7 @@ use Rattle.bounds.specs.Levels.{Domain, clash}
 use Rattle.refusals.specs.Refusals.{bad_flags, odd_base, bad_cycles, bad_code, bad_store, bad_windows, short_log, bad_vector, bad_kind, tests_of}
 use Rattle.refusals.specs.Laws.{outcomes}
 use Rattle.answers.specs.declared.Call.{Call}
-use Rattle.answers.specs.declared.Answer.TheVariants.{Refused}
+use Rattle.answers.specs.Answer.{Refused}
 use Rattle.answers.specs.Matters.{matter_of}
 use Rattle.answers.specs.Answers.{answered}
 use Rattle.calls.specs.Calls.{restarted, begun, run, refusal, perform}

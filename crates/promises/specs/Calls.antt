@@ -1,6 +1,6 @@
 -- THE PUBLIC CALL: how many events an accepted call makes and what the log says then, the cycles that it answers, and the
 -- interrupt call.
-use Rattle.std.specs.Prelude.{ℕ, ◌+◌, ◌*◌, ◌≤◌, ◌≡◌, Bool, List, ◌++◌, drop}
+use Rattle.std.specs.Prelude.{ℕ, ◌*◌, ◌≤◌, ◌≡◌, Bool, List, ◌++◌, drop}
 use Rattle.std.proofs.Math.Path.{refl, ap}
 use Rattle.std.proofs.Common.{arith}
 use Rattle.std.proofs.Math.Bool.{true, false}
@@ -16,7 +16,7 @@ use Rattle.bounds.specs.Levels.{clash}
 use Rattle.bounds.specs.Events.{guard_cost}
 use Rattle.answers.specs.declared.Call.{Call}
 use Rattle.answers.specs.declared.Call.TheVariants.{TakeException, Trap, TakeGroup2Exception, ExceptionChk, ExceptionZeroDivide, ExceptionPrivilege, ExceptionTrace, ExceptionAddressError, ExceptionBusError, TakeFpUnimp060, TakeFpDisabled060, TakeAlineException, TakeFlineException, TakeTrapException, TakeBkptException, TakeIllegalException, TriggerAddressError, TriggerBusError, CheckTrace, SetIrq, CheckInterrupts, CheckAndServiceInterrupts, Read16, Read32, Write16, Write32, Push16, Push32, PrefetchFirst, PrefetchSecond}
-use Rattle.answers.specs.declared.Answer.TheVariants.{Cycles}
+use Rattle.answers.specs.Answer.{Cycles}
 use Rattle.answers.specs.Matters.{matter_of}
 use Rattle.answers.specs.Answers.{refused_by, count_of, Performed, events_of, cycles, flag, plain, of_entry, of_read, of_service, of_trace}
 use Rattle.calls.specs.Calls.{run}

@@ -22,7 +22,7 @@ use Rattle.exceptions.specs.Exceptions.{entry, supervised, finished}
 use Rattle.interrupts.specs.Interrupts.{vector_from, acknowledge_level, serviced}
 use Rattle.bounds.specs.Skeleton.{Raises, pick_if, clocks_ways, guard_read_good, guard_write_good, pushed_good, stacked_good, push_short_good, jump_good, prefetch_first_good, prefetch_second_good}
 use Rattle.bounds.specs.Levels.{Domain, Safe, Kept, Any, Either, steps, vector_safe, super_kept, entry_address_good, entry_bus_good, Unrolls, unrolled_halts, level_halts, level_unrolls}
-use Rattle.bounds.proofs.Levels.{levels, raises_in, raises_bus, raises_any}
+use Rattle.bounds.proofs.Levels.{raises_in, raises_bus, raises_any}
 use Rattle.answers.specs.declared.Call.{Call}
 use Rattle.answers.specs.declared.Call.TheVariants.{TakeException, Trap, TakeGroup2Exception, ExceptionChk, ExceptionZeroDivide, ExceptionPrivilege, ExceptionTrace, ExceptionAddressError, ExceptionBusError, TakeFpUnimp060, TakeFpDisabled060, TakeAlineException, TakeFlineException, TakeTrapException, TakeBkptException, TakeIllegalException, TriggerAddressError, TriggerBusError, CheckTrace, SetIrq, CheckInterrupts, CheckAndServiceInterrupts, Read16, Read32, Write16, Write32, Push16, Push32, PrefetchFirst, PrefetchSecond}
 use Rattle.answers.specs.Answers.{cycles, plain, of_entry, of_read, of_service}

@@ -21,7 +21,7 @@ use Rattle.exceptions.specs.Exceptions.{Entry, entry, supervised, finished, stac
 use Rattle.interrupts.specs.Interrupts.{acknowledge_level, synced_acknowledge, ended, serviced, rest68000, from68000, writes68010, rest68010, rest_other, throwaway, push_interrupt68000, push_interrupt68010, push_interrupt_other, first_frame, second_frame, dispatched, service_interrupt, check_and_service}
 use Rattle.answers.specs.declared.Call.{Call}
 use Rattle.answers.specs.declared.Call.TheVariants.{TakeException, Trap, TakeGroup2Exception, ExceptionChk, ExceptionZeroDivide, ExceptionPrivilege, ExceptionTrace, ExceptionAddressError, ExceptionBusError, TakeFpUnimp060, TakeFpDisabled060, TakeAlineException, TakeFlineException, TakeTrapException, TakeBkptException, TakeIllegalException, TriggerAddressError, TriggerBusError, CheckTrace, SetIrq, CheckInterrupts, CheckAndServiceInterrupts, Read16, Read32, Write16, Write32, Push16, Push32, PrefetchFirst, PrefetchSecond}
-use Rattle.answers.specs.declared.Answer.TheVariants.{Refused}
+use Rattle.answers.specs.Answer.{Refused}
 use Rattle.answers.specs.Answers.{Performed, answered, cycles, flag, plain, of_entry, of_read, of_service, of_trace}
 use Rattle.calls.specs.Calls.{run, begun, refusal, perform}
 

@@ -17,7 +17,6 @@ use Rattle.formats.specs.Formats.{format_word, offset_word, short_frame}
 use Rattle.interrupts.specs.Interrupts.{acknowledge_level, synced_acknowledge, ended}
 use Rattle.bounds.specs.Skeleton.{Steps, Raises, pick_if, guard_write_good, stacked_good, jump_good}
 use Rattle.bounds.specs.Levels.{Any}
-use Rattle.bounds.proofs.Levels.{levels}
 use Rattle.promises.specs.Over.{rest68000_by, from68000_by, push_interrupt68000_by, writes68010_by, rest68010_by, push_interrupt68010_by, rest_other_by, push_interrupt_other_by, first_frame_by, throwaway_by, second_frame_by, dispatched_by, service_interrupt_by}
 
 -- P is kept up to the jump, and Q holds once the interrupt is closed

@@ -1,7 +1,7 @@
 -- Worlds at which the bounds of `most_events` are met: an accepted call makes just so many events there; and one where one level of faults
 -- is not enough.
+use Rattle.std.specs.Prelude.{None}
 use Rattle.std.specs.Prelude.{ℕ, ◌≡◌, refl, true, false, pos, set, replicate}
-use Rattle.types.specs.declared.FaultCause.TheVariants.{Absent}
 use Rattle.cpu.specs.declared.Cpu.{Cpu}
 use Rattle.types.specs.Kinds.{is040, is060, is_pre68020, is_ec020_plus, is_prefetch_kind, mask_address, has_t0, has_m, mask_status}
 use Rattle.status.specs.Banks.{sp_index, backup_sp, restore_sp, put_s, set_sm_flag_nosp, set_sflag, set_sm_flag, enter_supervisor}
@@ -44,7 +44,7 @@ Met w c = count_of (perform w c).answer ≡ most_events c
 
 -- MET: a window over the vector, the stack or the word to fetch; the interrupt is of level 7 with M set;
 -- `take_exception` is at an odd A7 on kind 2
-pub met : Met (at (cpu 0 0 0 200 0 0) 16 4) (TakeGroup2Exception 4) × Met (at (cpu 0 0 0 200 0 0) 12 4) (ExceptionAddressError 1 false false) × Met (at (cpu 0 0 0 200 0 0) 8 4) (ExceptionBusError 0 false false 4 Absent) × Met (at (cpu 11 0 0 200 0 0) 44 4) (TakeFpUnimp060 0) × Met (at (cpu 11 0 0 200 0 0) 44 4) TakeFpDisabled060 × Met (at (cpu 0 0 0 200 0 0) 12 4) (TriggerAddressError 1 false false) × Met (at (cpu 0 0 0 200 0 0) 8 4) (TriggerBusError 0 false false 4) × Met (at (cpu 3 2 7 200 0 0) 0 4) CheckAndServiceInterrupts × Met (at (cpu 0 0 0 200 0 0) 4 8) (Read32 4) × Met (at (cpu 0 0 0 200 0 0) 4 8) (Write32 4 0) × Met (at (cpu 0 0 0 100 0 0) 96 2) (Push32 0) × Met (at (cpu 2 0 0 200 100 0) 100 2) PrefetchFirst × Met (at (cpu 2 0 0 200 100 1) 102 2) PrefetchSecond × Met (at (cpu 2 0 0 199 0 0) 0 0) (TakeException 4)
+pub met : Met (at (cpu 0 0 0 200 0 0) 16 4) (TakeGroup2Exception 4) × Met (at (cpu 0 0 0 200 0 0) 12 4) (ExceptionAddressError 1 false false) × Met (at (cpu 0 0 0 200 0 0) 8 4) (ExceptionBusError 0 false false 4 None) × Met (at (cpu 11 0 0 200 0 0) 44 4) (TakeFpUnimp060 0) × Met (at (cpu 11 0 0 200 0 0) 44 4) TakeFpDisabled060 × Met (at (cpu 0 0 0 200 0 0) 12 4) (TriggerAddressError 1 false false) × Met (at (cpu 0 0 0 200 0 0) 8 4) (TriggerBusError 0 false false 4) × Met (at (cpu 3 2 7 200 0 0) 0 4) CheckAndServiceInterrupts × Met (at (cpu 0 0 0 200 0 0) 4 8) (Read32 4) × Met (at (cpu 0 0 0 200 0 0) 4 8) (Write32 4 0) × Met (at (cpu 0 0 0 100 0 0) 96 2) (Push32 0) × Met (at (cpu 2 0 0 200 100 0) 100 2) PrefetchFirst × Met (at (cpu 2 0 0 200 100 1) 102 2) PrefetchSecond × Met (at (cpu 2 0 0 199 0 0) 0 0) (TakeException 4)
 unfolding is040 is060 is_pre68020 is_ec020_plus is_prefetch_kind mask_address has_t0 has_m mask_status sp_index backup_sp restore_sp put_s set_sm_flag_nosp set_sflag set_sm_flag enter_supervisor has_clocks clocks_of one_fetched prefetch_enabled set_clocks internal_cycles clear_prefetch first_word second_word kind_of pc_of vbr_of a7_of address_of is_faulted in_exception checks_alignment cause_number_of has_fc_override fc_override_of set_a7 set_pc note_fpiar halted set_exception clear_stopped restore_registers set_wdata clear_cause clear_fc_override start_vector minus32 lower_a7 odd_pc fresh_fault fresh_resume clear_level pending_level mask_level takes_interrupt has_cycles charged charge_interrupt decompose m_under_s set_sr_noint_nosp restore_sr clear_trace set_int_mask m_is_set keep_resume put_word put_long get_word get_long note_log counted meets clear_of windows_in_use in_store served_of place_of put_cpu stored noted served written fetched raw_write try_write read_value raw_read try_read flush release response_of acknowledged read_or prefetch_read kept_first first_from prefetch_first kept_second second_from prefetch_second checked_read read_at wrote checked_write write_at stack_field push_field push_fields vector_read refill jump_to jump_vector push_frame exception_address_error exception_bus_error raise_bus raise_address trigger field_at frame68000 frame8 frame2 frame0 frame4 frame7 frame11 address_frame bus_frame refuses_odd vector_address begin_bus begin_address enter_bus_error is_counted is_raw stack_short begin_entry finished taken take_exception stack_group2 take_group2 stack_unimp take_fp_unimp060 stack_disabled take_fp_disabled060 short_frame long_frame disabled_frame iack_vector vector_from acknowledge_level enter_level rest_other push_interrupt_other first_frame throwaway second_frame close_interrupt ended dispatched service_interrupt serviced check_and_service bad_flags odd_base bad_cycles bad_code bad_store past_top any_past bad_windows short_log bad_vector bad_kind tests_of first_number refusal_of count_of cycles flag plain of_entry of_read of_service run restarted begun refusal perform matter_of most_events
 met = (refl, refl, refl, refl, refl, refl, refl, refl, refl, refl, refl, refl, refl, refl)
 

@@ -9,6 +9,7 @@ use memory::Bus;
 pub mod raise; // a lent record as the core has it
 pub mod lower; // a record of the core as it is lent
 
+// These structs cross C: there an Option is a flag and a value, a kind and a cause are numbers, and a queue has a count.
 #[repr(C)]
 #[derive(Clone, Copy)]
 pub struct LentVector {

@@ -3,7 +3,7 @@ use Rattle.std.specs.Prelude.{ℕ, zero, suc, ◌≡◌, refl, Bool, true, false
 use Rattle.std.proofs.Common.{arith}
 use Rattle.types.specs.Kinds.{pick}
 use Rattle.memory.specs.declared.Core.{Core}
-use Rattle.refusals.specs.declared.Matter.{Matter}
+use Rattle.refusals.specs.Matters.{Matter}
 use Rattle.refusals.specs.Refusals.{Test, tests_of, first_number, refusal_of}
 
 -- what each test says

@@ -1,2 +1,3 @@
+pub mod Matters
 pub mod Refusals
 pub mod Laws

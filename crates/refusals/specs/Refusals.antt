@@ -6,7 +6,7 @@ use Rattle.cpu.specs.Fields.{kind_of, vbr_of, checks_alignment, has_fc_override,
 use Rattle.pending.specs.Interrupts.{has_cycles}
 use Rattle.memory.specs.declared.Bus.{Bus}
 use Rattle.memory.specs.declared.Core.{Core}
-use Rattle.refusals.specs.declared.Matter.{Matter}
+use Rattle.refusals.specs.Matters.{Matter}
 
 -- a flag is 0 or its one other value
 abbrev pub is_flag : ℕ → ℕ → Bool

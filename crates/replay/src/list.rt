@@ -1,213 +1,89 @@
-// The lists of a case: numbers of one to five bytes, one after the other. A place past the end reads as 0, and the caller sees
-// from the last place whether the case was read to its end and no further.
-ghost use Rattle.std.specs.Prelude.{◌<◌};
-
-// A number that was read, and the place after it.
-#[derive(Clone, Copy)]
-pub struct Taken {
-    pub value: u32,
-    pub next: usize,
-}
-
-fn wide(n: u8) -> u32
-    ensures { result < 256 }
-{
-    n as u32
-}
-
-// The byte at a place.
-fn byte(b: &[u8], at: usize) -> u32
-    ensures { result < 256 }
-{
-    if at < b.len() {
-        return wide(b[at]);
-    }
-    0
-}
-
-fn plus(at: usize, n: usize) -> usize {
-    std::num::wrapping_add_usize(at, n)
-}
+// The lists of a case: numbers of one to five bytes, one after the other. Each function takes what it reads off the front of the bytes
+// that are left, and answers nothing where too few are.
+ghost use Rattle.std.specs.Prelude.{◌<◌, IfSome};
 
 // Two bytes, the high one first.
-pub(crate) fn word(b: &[u8], at: usize) -> u32
-    ensures { result < 0x10000 }
+fn word(rest: &mut &[u8]) -> Option<u32>
+    ensures { IfSome result (λ n. n < 0x10000) }
 {
-    byte(b, at) * 256 + byte(b, plus(at, 1))
+    Some(u32::from(byte(rest)?) * 256 + u32::from(byte(rest)?))
 }
 
-fn long(b: &[u8], at: usize) -> u32 {
-    word(b, at) * 0x10000 + word(b, plus(at, 2))
+fn byte(rest: &mut &[u8]) -> Option<u8> {
+    rest.split_off_first().copied()
 }
 
-// A byte below 251 is the number itself; 251 stands for all ones; 252, 253 and 254 come before one, two and four bytes.
-pub(crate) fn number(b: &[u8], at: usize) -> Taken {
-    let first = byte(b, at);
-    let from = plus(at, 1);
-    if first < 251 {
-        return Taken {
-            value: first,
-            next: from,
-        };
-    }
-    if first == 251 {
-        return Taken {
-            value: 4294967295,
-            next: from,
-        };
-    }
-    if first == 252 {
-        return Taken {
-            value: byte(b, from),
-            next: plus(from, 1),
-        };
-    }
-    if first == 253 {
-        return Taken {
-            value: word(b, from),
-            next: plus(from, 2),
-        };
-    }
-    Taken {
-        value: long(b, from),
-        next: plus(from, 4),
+// A byte below 251 is the number itself; 251 stands for all ones; 252, 253 and the others come before one, two and four bytes.
+fn number(rest: &mut &[u8]) -> Option<u32> {
+    match byte(rest)? {
+        251 => Some(u32::MAX),
+        252 => byte(rest).map(u32::from),
+        253 => word(rest),
+        254 | 255 => long(rest),
+        n => Some(u32::from(n)),
     }
 }
 
-fn word_at(w: &[u32], at: usize) -> u32 {
-    if at < w.len() {
-        return w[at];
-    }
-    0
+fn long(rest: &mut &[u8]) -> Option<u32> {
+    let bytes = [byte(rest)?, byte(rest)?, byte(rest)?, byte(rest)?];
+    Some(u32::from_be_bytes(bytes))
 }
 
-fn put_word(w: &mut [u32], at: usize, v: u32) {
-    if at < w.len() {
-        w[at] = v;
+// A count, then so many pairs: how far on from the last place, and what `of` makes of the number there. A place past the end is left out.
+pub(crate) fn pairs<T: Copy + Drop, F: Fn(u32) -> T>(
+    rest: &mut &[u8],
+    list: &mut [T],
+    of: F,
+) -> Option<()>
+    requires { F.IsAlwaysCallable of }
+{
+    let mut place: u32 = 0;
+    for _ in 0..number(rest)? {
+        place = place.wrapping_add(number(rest)?);
+        let item = of(number(rest)?);
+        if let Some(at) = list.get_mut(place as usize) {
+            *at = item;
+        }
     }
-}
-
-fn set_word(w: &mut [u32], i: u32, v: u32) {
-    put_word(w, i as usize, v);
-}
-
-fn set_byte(s: &mut [u8], i: u32, v: u32) {
-    let at = i as usize;
-    if at < s.len() {
-        s[at] = (v % 256) as u8;
-    }
-}
-
-// So many words of a case, from a place on.
-pub(crate) fn row_of_16(w: [u32; 136], at: usize) -> [u32; 16] {
-    let mut row = [0u32; 16];
-    let mut i = 0;
-    while i < 16 {
-        put_word(&mut row, i, word_at(&w, plus(at, i)));
-        i += 1;
-    }
-    row
-}
-
-pub(crate) fn row_of_8(w: [u32; 136], at: usize) -> [u32; 8] {
-    let mut row = [0u32; 8];
-    let mut i = 0;
-    while i < 8 {
-        put_word(&mut row, i, word_at(&w, plus(at, i)));
-        i += 1;
-    }
-    row
-}
-
-// A row laid over the words of a case, from a place on.
-pub(crate) fn put_row(w: &mut [u32; 136], at: usize, row: &[u32]) {
-    let mut i = 0;
-    while i < row.len() {
-        put_word(w, plus(at, i), row[i]);
-        i += 1;
-    }
-}
-
-// A count, then so many pairs: how far on from the last place, and the word there.
-pub(crate) fn words(b: &[u8], at: usize, w: &mut [u32; 136]) -> usize {
-    let n = number(b, at);
-    let count = n.value;
-    let mut p = n.next;
-    let mut i: u32 = 0;
-    let mut k: u32 = 0;
-    while k < count {
-        let x = number(b, p);
-        let y = number(b, x.next);
-        i = std::num::wrapping_add_u32(i, x.value);
-        set_word(w, i, y.value);
-        p = y.next;
-        k += 1;
-    }
-    p
-}
-
-// The same of bytes.
-pub(crate) fn bytes(b: &[u8], at: usize, s: &mut [u8; 0x10000]) -> usize {
-    let n = number(b, at);
-    let count = n.value;
-    let mut p = n.next;
-    let mut i: u32 = 0;
-    let mut k: u32 = 0;
-    while k < count {
-        let x = number(b, p);
-        let y = number(b, x.next);
-        i = std::num::wrapping_add_u32(i, x.value);
-        set_byte(s, i, y.value);
-        p = y.next;
-        k += 1;
-    }
-    p
+    Some(())
 }
 
 // A count, then so many words, from the first place on.
-pub(crate) fn row(b: &[u8], at: usize, w: &mut [u32]) -> usize {
-    let n = number(b, at);
-    let count = n.value;
-    let mut p = n.next;
-    let mut k: u32 = 0;
-    while k < count {
-        let x = number(b, p);
-        set_word(w, k, x.value);
-        p = x.next;
-        k += 1;
+pub(crate) fn row(rest: &mut &[u8], list: &mut [u32]) -> Option<()> {
+    for place in 0..number(rest)? {
+        let item = number(rest)?;
+        if let Some(at) = list.get_mut(place as usize) {
+            *at = item;
+        }
     }
-    p
+    Some(())
 }
 
 // The byte that a store has at a place before anything is laid over it.
-fn filler(i: u32, fill: u32) -> u32 {
+fn filler(place: usize, fill: u32) -> u8 {
     if fill == 0 {
         return 0;
     }
-    let n = (i % 0x10000) * 31 + fill % 256;
-    n ^ (i / 256)
+    let n = (place % 0x10000) as u32;
+    ((n * 31 + fill % 256 ^ n / 256) % 256) as u8
 }
 
-pub(crate) fn fill(s: &mut [u8; 0x10000], fill: u32) {
-    let mut i: u32 = 0;
-    while i < 0x10000 {
-        set_byte(s, i, filler(i, fill));
-        i += 1;
+pub(crate) fn fill(store: &mut [u8], fill: u32) {
+    for (place, byte) in store.iter_mut().enumerate() {
+        *byte = filler(place, fill);
     }
 }
 
 // The word that a log or the rows have at a place before the call.
-fn unwritten(i: u32, fill: u32) -> u32
+fn unwritten(place: usize, fill: u32) -> u32
     ensures { 0 < result }
 {
-    0xA5000000 + fill % 256 * 0x10000 + i % 0x10000
+    0xA5000000 + fill % 256 * 0x10000 + (place % 0x10000) as u32
 }
 
-// So many words that no call has written.
-pub(crate) fn fill_words(w: &mut [u32], count: u32, fill: u32) {
-    let mut i: u32 = 0;
-    while i < count {
-        set_word(w, i, unwritten(i, fill));
-        i += 1;
+// Words that no call has written: words by another rule than the bytes, and as short alone as with the rule for a parameter.
+pub(crate) fn fill_words(list: &mut [u32], fill: u32) {
+    for (place, word) in list.iter_mut().enumerate() {
+        *word = unwritten(place, fill);
     }
 }

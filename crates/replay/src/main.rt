@@ -9,15 +9,22 @@ ghost use Rattle.std.specs.Prelude.{◌≤◌, length, IfOk};
 use boundary::RawAnswer;
 use memory::Core;
 use numbers::RawCall;
+use same::Left;
 use std::fs::File;
 use std::io;
 use std::io::Read;
+use std::ops::ControlFlow;
 use unwind::returns::Row;
 
 mod list; // numbers and lists of a case
 mod record; // words to a record and back
 
-fn call_of(w: [u32; 136]) -> RawCall {
+// The numbers of a case that is no call by number.
+const RETURN: u32 = 200;
+
+const WALK: u32 = 201;
+
+fn call_of(w: &[u32; 136]) -> RawCall {
     RawCall {
         number: w[128],
         a: w[129],
@@ -28,30 +35,22 @@ fn call_of(w: [u32; 136]) -> RawCall {
     }
 }
 
-fn answered(m: Core, refused: u32, answer: u32) -> RawAnswer {
+// The refusal is a number, as the recorded words have it.
+fn answered(core: Core, refused: u32, answer: u32) -> RawAnswer {
     RawAnswer {
-        core: m,
-        refused: refused,
-        answer: answer,
+        core,
+        refused,
+        answer,
         events: 0,
     }
 }
 
-// 98 is the number of no refusal.
-fn not_run(m: Core) -> RawAnswer {
-    answered(m, 98, 0)
-}
-
-// The call on the first n bytes of the store and the first k words of the log.
-fn call(w: [u32; 136], store: &mut [u8], log: &mut [u32], n: usize, k: usize) -> RawAnswer {
-    let m = record::core_of(w);
-    let c = call_of(w);
-    if n <= store.len() {
-        if k <= log.len() {
-            return boundary::raw_call(m, &mut store[0..n], &mut log[0..k], c);
-        }
-    }
-    not_run(m)
+// The call on the first bytes of the store and all but the last words of the log, as many as the case says.
+fn call(w: &[u32; 136], store: &mut [u8], log: &mut [u32]) -> Option<RawAnswer> {
+    let words = log.len().checked_sub(w[134] as usize)?;
+    let store = store.get_mut(..w[123] as usize)?;
+    let log = log.get_mut(..words)?;
+    Some(boundary::raw_call(record::core_of(w), store, log, call_of(w)))
 }
 
 // The row of a return, the first of the rows; all 0 where it was refused.
@@ -62,134 +61,102 @@ fn put_row(rows: &mut [u32; 32], r: Row) {
     rows[3] = r.offset;
 }
 
-// The return on the first n bytes of the store.
-fn return_case(w: [u32; 136], store: &[u8], n: usize, rows: &mut [u32; 32]) -> RawAnswer {
+// The return on the first bytes of the store.
+fn return_case(w: &[u32; 136], store: &[u8], rows: &mut [u32; 32]) -> Option<RawAnswer> {
+    let store = store.get(..w[123] as usize)?;
     let m = record::core_of(w);
-    if n <= store.len() {
-        let r = unwind::return_from(m, &store[0..n]);
-        put_row(rows, r.row);
-        return answered(r.core, r.refused, 0);
-    }
-    not_run(m)
-}
-
-// The walk on the first n bytes of the store, into the first k words of the rows. It is given a copy of the record and gives none back.
-fn walk_case(w: [u32; 136], store: &[u8], n: usize, rows: &mut [u32], k: usize) -> RawAnswer {
-    let m = record::core_of(w);
-    if n <= store.len() {
-        if k <= rows.len() {
-            let r = unwind::walk(m, &store[0..n], w[129], &mut rows[0..k]);
-            return answered(m, r.refused, r.count);
+    Some(match unwind::return_from(m, store) {
+        Ok(returned) => {
+            put_row(rows, returned.row);
+            answered(returned.core, 0, 0)
         }
-    }
-    not_run(m)
+        Err(refusal) => {
+            put_row(rows, Row::ZEROS);
+            answered(m, refusal.number(), 0)
+        }
+    })
 }
 
-fn size(n: u32) -> usize {
-    n as usize
+// The walk on the first bytes of the store, into the first words of the rows. It is given a copy of the record and gives none back.
+fn walk_case(w: &[u32; 136], store: &[u8], rows: &mut [u32]) -> Option<RawAnswer> {
+    let m = record::core_of(w);
+    let store = store.get(..w[123] as usize)?;
+    let rows = rows.get_mut(..w[130] as usize)?;
+    let r = unwind::walk(m, store, w[129], rows);
+    Some(answered(m, r.refused, r.count))
 }
 
-// The words of a log that has x fewer than 192.
-fn words(x: u32) -> usize {
-    if x <= 192 {
-        return size(192 - x);
+// The call of a case, if store, log and rows are as long as it says.
+fn call_case(left: &mut Left) -> Option<RawAnswer> {
+    let w = left.words;
+    match w[128] {
+        RETURN => return_case(&w, &left.store, &mut left.rows),
+        WALK => walk_case(&w, &left.store, &mut left.rows),
+        _ => call(&w, &mut left.store, &mut left.log),
     }
-    193
-}
-
-// The call of a case: 200 is the return, 201 the walk.
-fn call_case(
-    w: [u32; 136],
-    store: &mut [u8; 0x10000],
-    log: &mut [u32; 192],
-    rows: &mut [u32; 32],
-) -> RawAnswer {
-    let n = size(w[123]);
-    if w[128] == 200 {
-        return return_case(w, store, n, rows);
-    }
-    if w[128] == 201 {
-        return walk_case(w, store, n, rows, size(w[130]));
-    }
-    call(w, store, log, n, words(w[134]))
 }
 
 // The core and the answer that a call left, laid over the words of its case.
-fn put_answer(w: &mut [u32; 136], r: RawAnswer, cycles: u32) {
-    record::put_core(w, r.core, cycles);
+fn put_answer(w: &mut [u32; 136], r: RawAnswer) {
+    record::put_core(w, r.core);
     w[125] = r.refused;
     w[126] = r.answer;
     w[127] = r.events;
 }
 
-// Whether the call leaves what was recorded. Log and rows that are lent hold words other than 0, on which events and rows come to lie.
-fn is_same(b: &[u8]) -> bool {
-    let mut w = [0u32; 136];
-    let mut store = [0u8; 0x10000];
-    let mut log = [0u32; 192];
-    let mut rows = [0u32; 32];
-    let p = list::words(b, 0, &mut w);
-    list::fill(&mut store, w[124]);
-    list::fill_words(&mut log, 192, w[124]);
-    list::fill_words(&mut rows, 32, w[124]);
-    let q = list::bytes(b, p, &mut store);
-    let mut want = w;
-    let mut want_store = store;
-    let mut want_log = log;
-    let mut want_rows = rows;
-    let x = list::words(b, q, &mut want);
-    let y = list::bytes(b, x, &mut want_store);
-    let z = list::row(b, y, &mut want_log);
-    let end = list::row(b, z, &mut want_rows);
-    let r = call_case(w, &mut store, &mut log, &mut rows);
-    put_answer(&mut w, r, want[51]);
-    same::same_case(
-        end == b.len(),
-        &w,
-        &want,
-        &log,
-        &want_log,
-        &rows,
-        &want_rows,
-        &store,
-        &want_store,
-    )
+fn low_byte(n: u32) -> u8 {
+    (n % 256) as u8
+}
+
+// Whether the call leaves what was recorded; nothing where the case is cut off, or its call can't be made. Log and rows that are lent
+// hold words other than 0, on which events and rows come to lie.
+fn verdict(case: &[u8]) -> Option<bool> {
+    let mut rest = case;
+    let mut left = Left {
+        words: [0; 136],
+        log: [0; 192],
+        rows: [0; 32],
+        store: [0; 0x10000],
+    };
+    list::pairs(&mut rest, &mut left.words, |n| n)?;
+    let fill = left.words[124];
+    list::fill(&mut left.store, fill);
+    list::fill_words(&mut left.log, fill);
+    list::fill_words(&mut left.rows, fill);
+    list::pairs(&mut rest, &mut left.store, low_byte)?;
+    let mut want = left;
+    list::pairs(&mut rest, &mut want.words, |n| n)?;
+    list::pairs(&mut rest, &mut want.store, low_byte)?;
+    list::row(&mut rest, &mut want.log)?;
+    list::row(&mut rest, &mut want.rows)?;
+    let answer = call_case(&mut left)?;
+    put_answer(&mut left.words, answer);
+    Some(same::same_case(rest.is_empty(), &left, &want))
 }
 
 // What was replayed so far: cases, those that differ, and the number of the first that does, from 1.
-#[derive(Clone, Copy)]
+#[derive(Clone, Copy, Default)]
 struct Tally {
     cases: u64,
     differ: u64,
-    first: u64,
-    more: bool,
+    first: Option<u64>,
 }
 
-fn counted(t: Tally, same: bool) -> Tally {
-    let cases = std::num::wrapping_add_u64(t.cases, 1);
-    let mut r = t;
-    r.cases = cases;
-    if same {
-        return r;
+impl Tally {
+    fn count(&mut self, same: bool) {
+        self.cases = self.cases.saturating_add(1);
+        if !same {
+            self.differ = self.differ.saturating_add(1);
+            self.first = self.first.or(Some(self.cases));
+        }
     }
-    let differ = std::num::wrapping_add_u64(t.differ, 1);
-    r.differ = differ;
-    if t.differ == 0 {
-        r.first = cases;
-    }
-    r
-}
-
-fn ended(t: Tally) -> Tally {
-    let mut r = t;
-    r.more = false;
-    r
 }
 
 // Reads until the buffer is full or the file ends, and says how many bytes came.
 fn read_full(file: &mut File, buffer: &mut [u8]) -> io::Result<usize>
     ensures { IfOk result (λ n. n ≤ length buffer.new) }
 {
+    // No iterator: how far each turn goes is what the read answers.
     let mut done = 0;
     while done < buffer.len() {
         let n = file.read(&mut buffer[done..])?;
@@ -201,69 +168,49 @@ fn read_full(file: &mut File, buffer: &mut [u8]) -> io::Result<usize>
     Ok(done)
 }
 
-// The bytes of a case, if all are there.
-fn read_part(file: &mut File, buffer: &mut [u8], n: usize) -> io::Result<bool> {
-    if n <= buffer.len() {
-        let got = read_full(file, &mut buffer[0..n])?;
-        return Ok(got == n);
-    }
-    Ok(false)
-}
-
-fn is_part_same(buffer: &[u8], n: usize) -> bool {
-    if n <= buffer.len() {
-        return is_same(&buffer[0..n]);
-    }
-    false
-}
-
 // One case: two bytes of length, and so many bytes. A case that is cut off counts as one that differs, and is the last.
-fn step(file: &mut File, t: Tally) -> io::Result<Tally> {
+fn step(file: &mut File, tally: &mut Tally) -> io::Result<ControlFlow<()>> {
     let mut head = [0u8; 2];
-    let got = read_full(file, &mut head)?;
-    if got == 0 {
-        return Ok(ended(t));
+    if read_full(file, &mut head)? == 0 {
+        return Ok(ControlFlow::Break(()));
     }
-    let n = list::word(&head, 0) as usize;
+    let n = usize::from(u16::from_be_bytes(head));
     let mut buffer = [0u8; 0x1000];
-    if !read_part(file, &mut buffer, n)? {
-        let r = counted(t, false);
-        return Ok(ended(r));
+    if buffer.len() < n || read_full(file, &mut buffer[..n])? != n {
+        tally.count(false);
+        return Ok(ControlFlow::Break(()));
     }
-    let same = is_part_same(&buffer, n);
-    Ok(counted(t, same))
+    tally.count(verdict(&buffer[..n]) == Some(true));
+    Ok(ControlFlow::Continue(()))
 }
 
-// The turns fall, from a number that no file uses up.
+// No file has as many cases as there are turns.
 fn replay(file: &mut File) -> io::Result<Tally> {
-    let mut t = Tally {
-        cases: 0,
-        differ: 0,
-        first: 0,
-        more: true,
-    };
-    let mut turns = 4294967295u32;
-    while turns > 0 && t.more {
-        t = step(file, t)?;
-        turns -= 1;
+    let mut tally = Tally::default();
+    for _ in 0..u32::MAX {
+        if step(file, &mut tally)?.is_break() {
+            break;
+        }
     }
-    Ok(t)
+    Ok(tally)
 }
 
-fn report(rt: &impl Print, t: Tally) -> io::Result<()> {
-    let cases = t.cases;
-    let differ = t.differ;
+fn report(rt: &impl Print, tally: Tally) -> io::Result<()> {
+    let Tally {
+        cases,
+        differ,
+        first,
+    } = tally;
     println!(rt; "replayed {cases} cases, {differ} differences")?;
-    if differ != 0 {
-        let first = t.first;
+    if let Some(first) = first {
         println!(rt; "the first: case {first}")?;
     }
     Ok(())
 }
 
 fn replay_all(rt: &impl Print, mut file: File) -> io::Result<()> {
-    let t = replay(&mut file)?;
-    report(rt, t)
+    let tally = replay(&mut file)?;
+    report(rt, tally)
 }
 
 // The recorded answers, and then spoiled ones, on each of which it must find a difference.

@@ -1,93 +1,57 @@
-// The words of a case and the record and bus of a core: word by word, at fixed places, which oracle/sample.py has too.
-use crate::list;
+// The words of a case and the record and bus of a core: word by word, at fixed places. They are the format of data/sample.bin, which
+// oracle/sample.py writes by the same numbers, so they stand here as numbers too.
+ghost use Rattle.std.specs.Prelude.{◌+◌, ◌≤◌, length};
+
 use cpu::{Cpu, Fault, Flags, Flow, OptionalCode, OptionalVector, Queue, Regs, Resume};
 use memory::{Bus, Core};
 
-fn flag(n: u32) -> bool {
-    n != 0
+// So many words of a case, from a place on.
+fn row<const N: usize>(w: &[u32; 136], at: usize) -> [u32; N]
+    requires { at + N ≤ 136 }
+{
+    let mut row = [0; N];
+    row.copy_from_slice(&w[at..at + N]);
+    row
 }
 
-fn bit(b: bool) -> u32 {
-    if b {
-        return 1;
-    }
-    0
-}
-
-fn low_word(n: u32) -> u16 {
-    (n % 0x10000) as u16
-}
-
-fn low_byte(n: u32) -> u8 {
-    (n % 256) as u8
-}
-
-fn wide(n: u8) -> u32 {
-    n as u32
-}
-
-fn wide_word(n: u16) -> u32 {
-    n as u32
-}
-
-// A word as a signed number, two's complement.
-fn signed(n: u32) -> i32 {
-    if n < 2147483648 {
-        return n as i32;
-    }
-    let m = (0xFFFFFFFF - n) as i32;
-    !m
-}
-
-// The word of a signed number, where it is the word `n`, else another one.
-fn cycles_word(cycles: i32, n: u32) -> u32 {
-    if cycles == signed(n) {
-        return n;
-    }
-    std::num::wrapping_add_u32(n, 1)
+// A row laid over the words of a case, from a place on.
+fn put_row(w: &mut [u32; 136], at: usize, row: &[u32])
+    requires { at + length row.now ≤ 136 }
+{
+    w[at..at + row.len()].copy_from_slice(row);
 }
 
 // A value that means nothing where its flag is false is 0.
 fn kept(some: bool, n: u32) -> u32 {
-    if some {
-        return n;
-    }
-    0
+    if some { n } else { 0 }
 }
 
-fn kept_row(some: bool, row: [u32; 16]) -> [u32; 16] {
-    if some {
-        return row;
-    }
-    [0; 16]
-}
-
-fn regs_of(w: [u32; 136]) -> Regs {
+fn regs_of(w: &[u32; 136]) -> Regs {
     Regs {
-        dar: list::row_of_16(w, 0),
-        dar_save: list::row_of_16(w, 16),
-        sp: list::row_of_8(w, 32),
+        dar: row(w, 0),
+        dar_save: row(w, 16),
+        sp: row(w, 32),
     }
 }
 
-fn flow_of(w: [u32; 136]) -> Flow {
+fn flow_of(w: &[u32; 136]) -> Flow {
     Flow {
         ppc: w[40],
         pc: w[41],
         vbr: w[42],
         ir: w[43],
         fpiar: w[44],
-        cpu_type: low_byte(w[45]),
+        cpu_type: (w[45] % 256) as u8,
         run_mode: w[46],
         stopped: w[47],
-        exception_processing: flag(w[48]),
-        change_of_flow: flag(w[49]),
-        loop_mode: flag(w[50]),
-        cycles_remaining: signed(w[51]),
+        exception_processing: w[48] != 0,
+        change_of_flow: w[49] != 0,
+        loop_mode: w[50] != 0,
+        cycles_remaining: w[51].cast_signed(),
     }
 }
 
-fn flags_of(w: [u32; 136]) -> Flags {
+fn flags_of(w: &[u32; 136]) -> Flags {
     Flags {
         t1_flag: w[52],
         t0_flag: w[53],
@@ -100,53 +64,53 @@ fn flags_of(w: [u32; 136]) -> Flags {
         c_flag: w[60],
         int_mask: w[61],
         int_level: w[62],
-        sr_save: low_word(w[63]),
+        sr_save: (w[63] % 0x10000) as u16,
     }
 }
 
-fn queue_of(w: [u32; 136]) -> Queue {
+fn queue_of(w: &[u32; 136]) -> Queue {
     Queue {
-        prefetch_queue: [low_word(w[64]), low_word(w[65])],
-        prefetch_count: low_byte(w[66]),
+        prefetch_queue: [(w[64] % 0x10000) as u16, (w[65] % 0x10000) as u16],
+        prefetch_count: (w[66] % 256) as u8,
         pending_sync_clocks: w[67],
-        precise_bus: flag(w[68]),
+        precise_bus: w[68] != 0,
     }
 }
 
 fn vector_of(some: u32, value: u32) -> OptionalVector {
     OptionalVector {
-        some: flag(some),
-        value: value,
+        some: some != 0,
+        value,
     }
 }
 
 fn code_of(some: u32, value: u32) -> OptionalCode {
     OptionalCode {
-        some: flag(some),
-        value: low_byte(value),
+        some: some != 0,
+        value: (value % 256) as u8,
     }
 }
 
-fn fault_of(w: [u32; 136]) -> Fault {
+fn fault_of(w: &[u32; 136]) -> Fault {
     Fault {
         instruction_exception_vector: vector_of(w[69], w[70]),
         last_exception_vector: vector_of(w[71], w[72]),
-        pending_fault_cause: low_byte(w[73]),
+        pending_fault_cause: (w[73] % 256) as u8,
         mmu_fc_override: code_of(w[74], w[75]),
         pending_fault_wdata: w[76],
     }
 }
 
-fn resume_of(w: [u32; 136]) -> Resume {
+fn resume_of(w: &[u32; 136]) -> Resume {
     Resume {
-        some: flag(w[77]),
+        some: w[77] != 0,
         pc: w[78],
-        sr: low_word(w[79]),
-        dar: list::row_of_16(w, 80),
+        sr: (w[79] % 0x10000) as u16,
+        dar: row(w, 80),
     }
 }
 
-fn cpu_of(w: [u32; 136]) -> Cpu {
+fn cpu_of(w: &[u32; 136]) -> Cpu {
     Cpu {
         regs: regs_of(w),
         flow: flow_of(w),
@@ -157,19 +121,19 @@ fn cpu_of(w: [u32; 136]) -> Cpu {
     }
 }
 
-fn bus_of(w: [u32; 136]) -> Bus {
+fn bus_of(w: &[u32; 136]) -> Bus {
     Bus {
         base: w[96],
         windows: w[97],
-        starts: list::row_of_8(w, 98),
-        lengths: list::row_of_8(w, 106),
-        responses: list::row_of_8(w, 114),
+        starts: row(w, 98),
+        lengths: row(w, 106),
+        responses: row(w, 114),
         events: w[122],
     }
 }
 
 // The core that a case starts from.
-pub(crate) fn core_of(w: [u32; 136]) -> Core {
+pub(crate) fn core_of(w: &[u32; 136]) -> Core {
     Core {
         cpu: cpu_of(w),
         bus: bus_of(w),
@@ -177,27 +141,24 @@ pub(crate) fn core_of(w: [u32; 136]) -> Core {
 }
 
 fn put_regs(w: &mut [u32; 136], c: Regs) {
-    let dar = c.dar;
-    list::put_row(w, 0, &dar);
-    let dar_save = c.dar_save;
-    list::put_row(w, 16, &dar_save);
-    let sp = c.sp;
-    list::put_row(w, 32, &sp);
+    put_row(w, 0, &c.dar);
+    put_row(w, 16, &c.dar_save);
+    put_row(w, 32, &c.sp);
 }
 
-fn put_flow(w: &mut [u32; 136], c: Flow, cycles: u32) {
+fn put_flow(w: &mut [u32; 136], c: Flow) {
     w[40] = c.ppc;
     w[41] = c.pc;
     w[42] = c.vbr;
     w[43] = c.ir;
     w[44] = c.fpiar;
-    w[45] = wide(c.cpu_type);
+    w[45] = u32::from(c.cpu_type);
     w[46] = c.run_mode;
     w[47] = c.stopped;
-    w[48] = bit(c.exception_processing);
-    w[49] = bit(c.change_of_flow);
-    w[50] = bit(c.loop_mode);
-    w[51] = cycles_word(c.cycles_remaining, cycles);
+    w[48] = u32::from(c.exception_processing);
+    w[49] = u32::from(c.change_of_flow);
+    w[50] = u32::from(c.loop_mode);
+    w[51] = c.cycles_remaining.cast_unsigned();
 }
 
 fn put_flags(w: &mut [u32; 136], c: Flags) {
@@ -212,65 +173,61 @@ fn put_flags(w: &mut [u32; 136], c: Flags) {
     w[60] = c.c_flag;
     w[61] = c.int_mask;
     w[62] = c.int_level;
-    w[63] = wide_word(c.sr_save);
+    w[63] = u32::from(c.sr_save);
 }
 
 fn put_queue(w: &mut [u32; 136], c: Queue) {
     let q = c.prefetch_queue;
-    w[64] = wide_word(q[0]);
-    w[65] = wide_word(q[1]);
-    w[66] = wide(c.prefetch_count);
+    w[64] = u32::from(q[0]);
+    w[65] = u32::from(q[1]);
+    w[66] = u32::from(c.prefetch_count);
     w[67] = c.pending_sync_clocks;
-    w[68] = bit(c.precise_bus);
+    w[68] = u32::from(c.precise_bus);
 }
 
 fn put_fault(w: &mut [u32; 136], c: Fault) {
     let iv = c.instruction_exception_vector;
-    w[69] = bit(iv.some);
+    w[69] = u32::from(iv.some);
     w[70] = kept(iv.some, iv.value);
     let lv = c.last_exception_vector;
-    w[71] = bit(lv.some);
+    w[71] = u32::from(lv.some);
     w[72] = kept(lv.some, lv.value);
-    w[73] = wide(c.pending_fault_cause);
+    w[73] = u32::from(c.pending_fault_cause);
     let fc = c.mmu_fc_override;
-    w[74] = bit(fc.some);
-    w[75] = kept(fc.some, wide(fc.value));
+    w[74] = u32::from(fc.some);
+    w[75] = kept(fc.some, u32::from(fc.value));
     w[76] = c.pending_fault_wdata;
 }
 
 fn put_resume(w: &mut [u32; 136], c: Resume) {
     let some = c.some;
-    w[77] = bit(some);
+    w[77] = u32::from(some);
     w[78] = kept(some, c.pc);
-    w[79] = kept(some, wide_word(c.sr));
-    let dar = c.dar;
-    let row = kept_row(some, dar);
-    list::put_row(w, 80, &row);
+    w[79] = kept(some, u32::from(c.sr));
+    let dar = if some { c.dar } else { [0; 16] };
+    put_row(w, 80, &dar);
 }
 
 fn put_bus(w: &mut [u32; 136], c: Bus) {
     w[96] = c.base;
     w[97] = c.windows;
-    let starts = c.starts;
-    list::put_row(w, 98, &starts);
-    let lengths = c.lengths;
-    list::put_row(w, 106, &lengths);
-    let responses = c.responses;
-    list::put_row(w, 114, &responses);
+    put_row(w, 98, &c.starts);
+    put_row(w, 106, &c.lengths);
+    put_row(w, 114, &c.responses);
     w[122] = c.events;
 }
 
-fn put_cpu(w: &mut [u32; 136], c: Cpu, cycles: u32) {
+fn put_cpu(w: &mut [u32; 136], c: Cpu) {
     put_regs(w, c.regs);
-    put_flow(w, c.flow, cycles);
+    put_flow(w, c.flow);
     put_flags(w, c.flags);
     put_queue(w, c.queue);
     put_fault(w, c.fault);
     put_resume(w, c.fault_resume);
 }
 
-// The core that a call left, laid over the words of its case. The cycles that remain are held to the word `cycles`.
-pub(crate) fn put_core(w: &mut [u32; 136], m: Core, cycles: u32) {
-    put_cpu(w, m.cpu, cycles);
+// The core that a call left, laid over the words of its case.
+pub(crate) fn put_core(w: &mut [u32; 136], m: Core) {
+    put_cpu(w, m.cpu);
     put_bus(w, m.bus);
 }

@@ -12,7 +12,7 @@ use Rattle.types.specs.Tables.{frame_length}
 use Rattle.cpu.specs.declared.Cpu.{Cpu}
 use Rattle.cpu.specs.Fields.{kind_of, a7_of}
 use Rattle.memory.specs.declared.Bus.{Bus}
-use Rattle.unwind.specs.declared.frames.Frame.{Frame}
+use Rattle.unwind.specs.Models.{Frame}
 use Rattle.unwind.specs.Frames.{Sight, sight, byte_served, byte_of, all_served, word_of, long_of, head_of, refused_frame, taken_frame, sized_frame, format_frame, odd_pointer, frame_of}
 use Rattle.unwind.specs.Returns.{in_user, take_frame, refused_back, done_back, second_back, first_back, back}
 use Rattle.unwind.specs.Straight.{all_each}

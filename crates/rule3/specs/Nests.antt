@@ -1,8 +1,8 @@
 -- WORKED NESTS: lists of steps on kinds 0, 1, 2, 4, 8, 10 and 11 that meet the premises of rule 3, each shown by one test that computes;
 -- what the book then holds, computed; and that rule 3 speaks of each. Every format is among them, a two-frame interrupt, a user state with
 -- M set, a return, a refused call, a call that is not taken, and a pair of lists for part (b).
+use Rattle.std.specs.Prelude.{None}
 use Rattle.std.specs.Prelude.{ℕ, ◌≡◌, refl, true, false, List, [], ◌∷◌, set, replicate}
-use Rattle.types.specs.declared.FaultCause.TheVariants.{Absent}
 use Rattle.cpu.specs.declared.Cpu.{Cpu}
 use Rattle.cpu.specs.Setters.{with_sp}
 use Rattle.cpu.specs.Fields.{set_a7, set_pc}
@@ -36,7 +36,7 @@ abbrev pub call : (c : Call) → direct c ≡ true → Step Real
 call c e = entry (record { call = c; is = e })
 
 abbrev pub bus_error : Step Real
-bus_error = call (ExceptionBusError 0x1234 false false 2 Absent) refl
+bus_error = call (ExceptionBusError 0x1234 false false 2 None) refl
 
 abbrev pub tick : Step Real
 tick = call CheckAndServiceInterrupts refl

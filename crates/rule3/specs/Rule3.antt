@@ -18,7 +18,7 @@ use Rattle.unwind.specs.Frames.{Sight, sight}
 use Rattle.unwind.specs.Returns.{back, refused_back, trail_of}
 use Rattle.unwind.specs.Unwind.{of_store, refusal, short_rows, walk_from, return_from}
 use Rattle.unwind.specs.Unwind.{returned as answer}
-use Rattle.unwind.specs.declared.Returned.{Returned as Answer}
+use Rattle.unwind.specs.Models.{Returned as Answer}
 use Rattle.nest.specs.View.{Row, View, view, peek, under, opt}
 use Rattle.nest.specs.View.{Back as NestBack, back as nest_back, backs}
 use Rattle.nest.specs.Nest.{Machine, Returned, denied, returned, Walked, rows}

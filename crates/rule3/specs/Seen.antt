@@ -14,7 +14,7 @@ use Rattle.memory.specs.declared.Bus.{Bus}
 use Rattle.memory.specs.Served.{served_of, windows_in_use, place_of}
 use Rattle.memory.specs.Runs.{Outside}
 use Rattle.memory.specs.ServedLaws.{Byte, start, size}
-use Rattle.unwind.specs.declared.frames.Frame.{Frame}
+use Rattle.unwind.specs.Models.{Frame}
 use Rattle.unwind.specs.Frames.{Sight, sight, byte_address, byte_served, byte_of, all_served, word_of, long_of, head_of, refused_frame, taken_frame, sized_frame, format_frame, odd_pointer, frame_of}
 use Rattle.unwind.specs.Straight.{one_byte, byte_one}
 use Rattle.nest.specs.View.{Bytes, peek, in_store, in_windows, addr, aligned, odd, lengths, frame_len, View, top, opt, is_some, word, long, served, Taken, settle, sized, full_frame, short_frame, frame}

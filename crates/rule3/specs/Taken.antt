@@ -17,9 +17,9 @@ use Rattle.status.specs.Banks.{sp_index, backup_sp, restore_sp}
 use Rattle.refusals.specs.Refusals.{odd_base, bad_code}
 use Rattle.memory.specs.declared.Bus.{Bus}
 use Rattle.memory.specs.ByteLaws.{AllBytes}
-use Rattle.unwind.specs.declared.frames.Frame.{Frame}
+use Rattle.unwind.specs.Models.{Frame}
 use Rattle.unwind.specs.declared.returns.Row.{Row}
-use Rattle.unwind.specs.declared.returns.Back.{Back}
+use Rattle.unwind.specs.Models.{Back}
 use Rattle.unwind.specs.Frames.{Sight, sight, byte_of, word_of, long_of, head_of, refused_frame, taken_frame, sized_frame, format_frame, odd_pointer, all_served, frame_of}
 use Rattle.unwind.specs.Returns.{in_user, raise_a7, swap_sr, take_frame, row_of, refused_back, done_back, second_back, first_back, back}
 use Rattle.unwind.proofs.Laws.{take_status}

@@ -4,50 +4,31 @@
 
 ghost use Rattle.std.specs.Prelude.{true, ◌↔◌, ◌≡◌};
 
+/// What a call left, or what was recorded of it.
+#[derive(Clone, Copy)]
+pub struct Left {
+    pub words: [u32; 136],
+    pub log: [u32; 192],
+    pub rows: [u32; 32],
+    pub store: [u8; 0x10000],
+}
+
 // Whether two lists of words are the same.
 fn same_words(a: &[u32], b: &[u32]) -> bool
     ensures { (result ≡ true) ↔ (a.now ≡ b.now) }
 {
-    if a.len() != b.len() {
-        return false;
-    }
-    let mut i = 0;
-    while i < a.len() {
-        if a[i] != b[i] {
-            return false;
-        }
-        i += 1;
-    }
-    true
+    a == b
 }
 
-// The verdict on a case: that it was read to its end and no further, and that the call left the words, the log, the rows and the store
-// as recorded.
-pub fn same_case(
-    whole: bool,
-    words: &[u32; 136],
-    want: &[u32; 136],
-    log: &[u32; 192],
-    want_log: &[u32; 192],
-    rows: &[u32; 32],
-    want_rows: &[u32; 32],
-    store: &[u8; 0x10000],
-    want_store: &[u8; 0x10000],
-) -> bool
-    ensures { (result ≡ true) ↔ ((whole ≡ true) × (words.now ≡ want.now) × (log.now ≡ want_log.now)
-        × (rows.now ≡ want_rows.now) × (store.now ≡ want_store.now)) }
+/// The verdict on a case, part by part, so that no part is left out unseen: that it was read to its end and no further, and that the call left the words, the log, the rows and the store
+/// as recorded.
+pub fn same_case(whole: bool, left: &Left, want: &Left) -> bool
+    ensures { (result ≡ true) ↔ ((whole ≡ true) × (left.now.words ≡ want.now.words) × (left.now.log ≡ want.now.log)
+        × (left.now.rows ≡ want.now.rows) × (left.now.store ≡ want.now.store)) }
 {
-    if !whole {
-        return false;
-    }
-    if !same_words(words, want) {
-        return false;
-    }
-    if !same_words(log, want_log) {
-        return false;
-    }
-    if !same_words(rows, want_rows) {
-        return false;
-    }
-    check::same(store, want_store)
+    whole
+        && same_words(&left.words, &want.words)
+        && same_words(&left.log, &want.log)
+        && same_words(&left.rows, &want.rows)
+        && check::same(&left.store, &want.store)
 }

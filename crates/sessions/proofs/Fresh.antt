@@ -1,6 +1,6 @@
 -- Theorems about what specs/Fresh defines, and what rests on them.
-use Prim.Native.Nat.{ℕ, ◌+◌}
-use Rattle.std.specs.Prelude.{◌≡◌, refl, List, [], ◌∷◌, ◌++◌, length, replicate}
+use Prim.Native.Nat.{ℕ}
+use Rattle.std.specs.Prelude.{Option, Some, None, ◌≡◌, refl, List, [], ◌∷◌, ◌++◌, length, replicate}
 use Rattle.std.proofs.Common.{sym, ap, ◌∙◌}
 use Rattle.std.proofs.lemmas.List.{length-replicate}
 use Rattle.memory.specs.World.{world}
@@ -15,20 +15,20 @@ use Rattle.sessions.specs.Printed.{lines_of, steps, started, printed}
 use Rattle.sessions.specs.Cuts.{steps_onto}
 use Rattle.sessions.specs.Fresh.{exc_quiet, trap_quiet, irq_quiet, service_quiet, Alike, called, called_alike, entered_alike, plain_alike, Sizes, act_sizes, steps_append, lines_split}
 
-act_alike : (c : Command) (s r : Session) → Alike s r → Alike (act s c) (act r c)
+act_alike : (c : Option Command) (s r : Session) → Alike s r → Alike (act s c) (act r c)
 unfolding act interrupted returned
-act_alike command.Wrong s r e = plain_alike (λ y. act y command.Wrong) s r e (λ y. refl) (λ y. refl)
-act_alike (command.Kind k) s r e = plain_alike (λ y. act y (command.Kind k)) s r e (λ y. refl) (λ y. refl)
-act_alike (command.Pc v) s r e = plain_alike (λ y. act y (command.Pc v)) s r e (λ y. refl) (λ y. refl)
-act_alike (command.Ppc v) s r e = plain_alike (λ y. act y (command.Ppc v)) s r e (λ y. refl) (λ y. refl)
-act_alike (command.A7 v) s r e = plain_alike (λ y. act y (command.A7 v)) s r e (λ y. refl) (λ y. refl)
-act_alike (command.Long a v) s r e = plain_alike (λ y. act y (command.Long a v)) s r e (λ y. refl) (λ y. refl)
-act_alike (command.Exc v) s r e = entered_alike (TakeException v) (exc_quiet v) s r e
-act_alike (command.Trap n) s r e = entered_alike (Trap n) (trap_quiet n) s r e
-act_alike (command.Irq n) s r e =
+act_alike None s r e = plain_alike (λ y. act y None) s r e (λ y. refl) (λ y. refl)
+act_alike (Some (command.Kind k)) s r e = plain_alike (λ y. act y (Some (command.Kind k))) s r e (λ y. refl) (λ y. refl)
+act_alike (Some (command.Pc v)) s r e = plain_alike (λ y. act y (Some (command.Pc v))) s r e (λ y. refl) (λ y. refl)
+act_alike (Some (command.Ppc v)) s r e = plain_alike (λ y. act y (Some (command.Ppc v))) s r e (λ y. refl) (λ y. refl)
+act_alike (Some (command.A7 v)) s r e = plain_alike (λ y. act y (Some (command.A7 v))) s r e (λ y. refl) (λ y. refl)
+act_alike (Some (command.Long a v)) s r e = plain_alike (λ y. act y (Some (command.Long a v))) s r e (λ y. refl) (λ y. refl)
+act_alike (Some (command.Exc v)) s r e = entered_alike (TakeException v) (exc_quiet v) s r e
+act_alike (Some (command.Trap n)) s r e = entered_alike (Trap n) (trap_quiet n) s r e
+act_alike (Some (command.Irq n)) s r e =
     entered_alike CheckAndServiceInterrupts service_quiet (called s (SetIrq n)) (called r (SetIrq n)) (called_alike (SetIrq n) (irq_quiet n) s r e)
-act_alike (command.Walk n) s r e = plain_alike (λ y. act y (command.Walk n)) s r e (λ y. refl) (λ y. refl)
-act_alike command.Ret s r e = plain_alike (λ y. act y command.Ret) s r e (λ y. refl) (λ y. refl)
+act_alike (Some (command.Walk n)) s r e = plain_alike (λ y. act y (Some (command.Walk n))) s r e (λ y. refl) (λ y. refl)
+act_alike (Some command.Ret) s r e = plain_alike (λ y. act y (Some command.Ret)) s r e (λ y. refl) (λ y. refl)
 
 steps_alike : (ls : List (List ℕ)) (s r : Session) → Alike s r → Alike (steps s ls) (steps r ls)
 unfolding steps line
@@ -36,16 +36,16 @@ steps_alike [] s r e = e
 steps_alike (l ∷ ls) s r e = steps_alike ls (line s l) (line r l) (act_alike (command_of l) s r e)
 
 -- two sessions whose stores have one length, and whose logs have one, print the same from a `kind` on, whatever else differs
-pub kind_forgets : (s r : Session) (k : ℕ) (l : List ℕ) (ls : List (List ℕ)) → command_of l ≡ command.Kind k →
+pub kind_forgets : (s r : Session) (k : ℕ) (l : List ℕ) (ls : List (List ℕ)) → command_of l ≡ Some (command.Kind k) →
     length s.after.store ≡ length r.after.store → length s.after.log ≡ length r.after.log → s.printed ≡ r.printed →
     (steps s (l ∷ ls)).printed ≡ (steps r (l ∷ ls)).printed
 unfolding steps line act cleared
 kind_forgets s r k l ls e m n p =
-    ap (λ (c : Command). (steps (act s c) ls).printed) e
-    ∙ ap (λ (y : Session). y.printed) (steps_alike ls (act s (command.Kind k)) (act r (command.Kind k)) fresh).blind
-    ∙ sym (ap (λ (c : Command). (steps (act r c) ls).printed) e)
+    ap (λ (c : Option Command). (steps (act s c) ls).printed) e
+    ∙ ap (λ (y : Session). y.printed) (steps_alike ls (act s (Some (command.Kind k))) (act r (Some (command.Kind k))) fresh).blind
+    ∙ sym (ap (λ (c : Option Command). (steps (act r c) ls).printed) e)
   where
-    fresh : Alike (act s (command.Kind k)) (act r (command.Kind k))
+    fresh : Alike (act s (Some (command.Kind k))) (act r (Some (command.Kind k)))
     fresh = record {
       blind =
           ap (λ (j : ℕ). session (world (fresh_core k) (replicate j 0) []) s.printed) m
@@ -66,7 +66,7 @@ unfolding cleared started
 kind_zeros ls = ap (λ (n : ℕ). replicate n 0) ((steps_sizes ls started).0 ∙ length-replicate {A = ℕ} 65536 0)
 
 -- from a `kind` on a session prints, after what it printed, what one that has just started prints
-pub kind_anew : (bs : List (List ℕ)) (k : ℕ) (l : List ℕ) (ls : List (List ℕ)) → command_of l ≡ command.Kind k →
+pub kind_anew : (bs : List (List ℕ)) (k : ℕ) (l : List ℕ) (ls : List (List ℕ)) → command_of l ≡ Some (command.Kind k) →
     (steps started (bs ++ (l ∷ ls))).printed ≡ more (steps started bs).printed (steps started (l ∷ ls)).printed
 unfolding started
 kind_anew bs k l ls e =
@@ -78,7 +78,7 @@ kind_anew bs k l ls e =
     (kind_forgets (session s.after []) started k l ls e (steps_sizes bs started).0 (steps_sizes bs started).1 refl)
 
 -- in bytes: where a line is `kind`, the input may be cut before it and played as two
-pub played_as_two : (xs ys : List ℕ) (k : ℕ) (l : List ℕ) (ls : List (List ℕ)) → lines_of ys ≡ l ∷ ls → command_of l ≡ command.Kind k →
+pub played_as_two : (xs ys : List ℕ) (k : ℕ) (l : List ℕ) (ls : List (List ℕ)) → lines_of ys ≡ l ∷ ls → command_of l ≡ Some (command.Kind k) →
     printed (xs ++ (10 ∷ ys)) ≡ more (printed (xs ++ (10 ∷ []))) (printed ys)
 unfolding printed
 played_as_two xs ys k l ls f e =

@@ -1,5 +1,5 @@
 -- The input a byte at a time (Input) prints what its lines print (Printed), however it is cut into reads.
-use Rattle.std.specs.Prelude.{ℕ, suc, ◌+◌, ◌≤◌, ◌<◌, ◌≡◌, refl, Bool, true, false, eqb, ltb, length, take, replicate}
+use Rattle.std.specs.Prelude.{ℕ, Option, Some, None, suc, ◌+◌, ◌≤◌, ◌<◌, ◌≡◌, refl, Bool, true, false, eqb, ltb, length, take, replicate}
 use Rattle.std.proofs.Common.{sym, ap, ◌∙◌, arith, ltb-true, ltb-false, ne_eqb, length-append, length-take-le, take_all}
 use mathlib.Core.List.{List, [], ◌∷◌, ◌++◌, append_assoc, flatten}
 use Rattle.std.proofs.lemmas.List.{length-replicate, take-append-le}
@@ -45,19 +45,19 @@ unfolding entered
 entered_onto p s c = say_onto p s _ _
 
 -- a command prints after what is printed, and does not look at it
-act_onto : (p : List ℕ) (s : Session) (c : Command) → act (onto p s) c ≡ onto p (act s c)
+act_onto : (p : List ℕ) (s : Session) (c : Option Command) → act (onto p s) c ≡ onto p (act s c)
 unfolding act interrupted returned
-act_onto p s command.Wrong = say_onto p s _ _
-act_onto p s (command.Kind k) = refl
-act_onto p s (command.Pc v) = refl
-act_onto p s (command.Ppc v) = refl
-act_onto p s (command.A7 v) = refl
-act_onto p s (command.Long a v) = say_onto p s _ _
-act_onto p s (command.Exc v) = entered_onto p s _
-act_onto p s (command.Trap n) = entered_onto p s _
-act_onto p s (command.Irq n) = entered_onto p (session _ s.printed) _
-act_onto p s (command.Walk n) = say_onto p s _ _
-act_onto p s command.Ret = say_onto p s _ _
+act_onto p s None = say_onto p s _ _
+act_onto p s (Some (command.Kind k)) = refl
+act_onto p s (Some (command.Pc v)) = refl
+act_onto p s (Some (command.Ppc v)) = refl
+act_onto p s (Some (command.A7 v)) = refl
+act_onto p s (Some (command.Long a v)) = say_onto p s _ _
+act_onto p s (Some (command.Exc v)) = entered_onto p s _
+act_onto p s (Some (command.Trap n)) = entered_onto p s _
+act_onto p s (Some (command.Irq n)) = entered_onto p (session _ s.printed) _
+act_onto p s (Some (command.Walk n)) = say_onto p s _ _
+act_onto p s (Some command.Ret) = say_onto p s _ _
 
 -- so does a line
 pub step_onto : (p : List ℕ) (s : Session) (l : List ℕ) → step (onto p s) l ≡ onto p (step s l)
@@ -117,14 +117,14 @@ unfolding command_of
 command_kept l = go (ltb 80 (length l)) refl
   where
     go : (t : Bool) → ltb 80 (length l) ≡ t →
-        pick (ltb 80 (length (take 81 l))) command.Wrong (word_in (take 81 l)) ≡ pick (ltb 80 (length l)) command.Wrong (word_in l)
+        pick (ltb 80 (length (take 81 l))) None (word_in (take 81 l)) ≡ pick (ltb 80 (length l)) None (word_in l)
     go true e = rw (e, length-take-le 81 l (ltb-true 80 (length l) e))
     go false e = rw (take_all 81 l (omega (arith, ltb-false 80 (length l) e)))
 
 -- so the 81 bytes that are kept do what the line does
 pub step_kept : (s : Session) (l : List ℕ) → step s (take 81 l) ≡ step s l
 unfolding step
-step_kept s l = ap (λ (c : Command). act s c) (command_kept l)
+step_kept s l = ap (λ (c : Option Command). act s c) (command_kept l)
 
 -- the line that is kept is the beginning of the line
 kept_take : (l : List ℕ) (b : ℕ) → kept (take 81 l) b ≡ take 81 (l ++ (b ∷ []))
@@ -226,8 +226,8 @@ read_by_read parts = parts_joined started.after [] parts ∙ by_lines (flatten p
 -- ---- `kind`
 
 -- "Before any `kind`, kind 1": a session that begins with it is as it was
-pub kind_1 : (l : List ℕ) → command_of l ≡ command.Kind 1 → step started l ≡ started
+pub kind_1 : (l : List ℕ) → command_of l ≡ Some (command.Kind 1) → step started l ≡ started
 unfolding step act started cleared
 kind_1 l e =
-    ap (λ (c : Command). act started c) e
+    ap (λ (c : Option Command). act started c) e
     ∙ ap (λ (n : ℕ). session (world (fresh_core 1) (replicate n 0) (replicate 192 0)) []) (length-replicate {A = ℕ} 65536 0)

@@ -1,7 +1,7 @@
 -- From a `kind` on a session prints what one prints that has just started. The log is not cleared by it; so every definition that a
 -- command goes through is run with a log and without, and comes to the same.
 use Prim.Native.Nat.{ℕ, zero, suc, ◌+◌, ◌/◌, ◌%◌, ◌^◌}
-use Rattle.std.specs.Prelude.{◌≡◌, refl, Bool, List, [], ◌∷◌, ◌++◌, eqb, length}
+use Rattle.std.specs.Prelude.{Option, Some, None, ◌≡◌, refl, Bool, List, [], ◌∷◌, ◌++◌, eqb, length}
 use Rattle.std.proofs.Common.{sym, ap, ◌∙◌, append-nil}
 use Rattle.std.proofs.Math.Bool.{true, false}
 use Rattle.std.proofs.lemmas.List.{length-replicate}
@@ -32,14 +32,14 @@ use Rattle.exceptions.specs.Exceptions.{Entry, entry, supervised, stack_short, f
 use Rattle.interrupts.specs.Interrupts.{vector_from, acknowledge_level, synced_acknowledge, rest68000, from68000, push_interrupt68000, writes68010, rest68010, push_interrupt68010, rest_other, push_interrupt_other, first_frame, throwaway, second_frame, ended, dispatched, service_interrupt, serviced, check_and_service}
 use Rattle.answers.specs.declared.Call.{Call}
 use Rattle.answers.specs.declared.Call.TheVariants.{TakeException, Trap, SetIrq, CheckAndServiceInterrupts}
-use Rattle.answers.specs.declared.Answer.TheVariants.{Refused}
+use Rattle.answers.specs.Answer.{Refused}
 use Rattle.answers.specs.Matters.{matter_of}
 use Rattle.answers.specs.Answers.{Performed, answered, cycles, flag, plain, of_entry, of_service}
 use Rattle.calls.specs.Calls.{run, begun, refusal, perform}
 use Rattle.lines.specs.declared.Command.{Command}
 use Rattle.lines.specs.declared.Command.TheVariants as command
 use Rattle.sessions.specs.Sessions.{Session, session, say, cleared, answer_told, entered, interrupted, returned, act, step as line}
-use Rattle.sessions.specs.Printed.{in_front, lines_of, steps, printed}
+use Rattle.sessions.specs.Printed.{in_front, lines_of, steps}
 
 -- ---- runs that differ in the log
 
@@ -550,22 +550,22 @@ poke_length b s a v = go (served_of b (length s) a 4)
     go true = put_length true s (place_of b a) v
     go false = refl
 
-pub act_sizes : (c : Command) (s : Session) → Sizes (act s c) s
+pub act_sizes : (c : Option Command) (s : Session) → Sizes (act s c) s
 unfolding act cleared entered interrupted returned
-act_sizes command.Wrong s = (refl, refl)
-act_sizes (command.Kind k) s = (length-replicate {A = ℕ} (length s.after.store) 0, refl)
-act_sizes (command.Pc v) s = (refl, refl)
-act_sizes (command.Ppc v) s = (refl, refl)
-act_sizes (command.A7 v) s = (refl, refl)
-act_sizes (command.Long a v) s = (poke_length s.after.core.bus s.after.store a v, refl)
-act_sizes (command.Exc v) s = call_sizes (TakeException v) (exc_quiet v) s.after
-act_sizes (command.Trap n) s = call_sizes (Trap n) (trap_quiet n) s.after
-act_sizes (command.Irq n) s =
+act_sizes None s = (refl, refl)
+act_sizes (Some (command.Kind k)) s = (length-replicate {A = ℕ} (length s.after.store) 0, refl)
+act_sizes (Some (command.Pc v)) s = (refl, refl)
+act_sizes (Some (command.Ppc v)) s = (refl, refl)
+act_sizes (Some (command.A7 v)) s = (refl, refl)
+act_sizes (Some (command.Long a v)) s = (poke_length s.after.core.bus s.after.store a v, refl)
+act_sizes (Some (command.Exc v)) s = call_sizes (TakeException v) (exc_quiet v) s.after
+act_sizes (Some (command.Trap n)) s = call_sizes (Trap n) (trap_quiet n) s.after
+act_sizes (Some (command.Irq n)) s =
     let w : World = (perform s.after (SetIrq n)).after in
     let e : (length w.store ≡ length s.after.store) × (length w.log ≡ length s.after.log) = call_sizes (SetIrq n) (irq_quiet n) s.after in
     ((call_sizes CheckAndServiceInterrupts service_quiet w).0 ∙ e.0, (call_sizes CheckAndServiceInterrupts service_quiet w).1 ∙ e.1)
-act_sizes (command.Walk n) s = (refl, refl)
-act_sizes command.Ret s = (refl, refl)
+act_sizes (Some (command.Walk n)) s = (refl, refl)
+act_sizes (Some command.Ret) s = (refl, refl)
 
 -- ---- anew
 

@@ -3,7 +3,7 @@ pub mod Sessions
 pub mod Numbered
 pub mod Printed
 pub mod Input
-pub mod Runs
+pub mod Machines
 pub mod Cuts
 pub mod Fresh
 pub mod Level

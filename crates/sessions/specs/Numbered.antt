@@ -2,20 +2,17 @@
 use Rattle.std.specs.Prelude.{ℕ, ◌%◌, ◌<◌, ◌≡◌, refl, Bool, true, false, List, eqb}
 use Rattle.std.proofs.Common.{ap, arith}
 use Rattle.types.specs.Kinds.{pick}
-use Rattle.cpu.specs.Fields.{pc_of, a7_of}
-use Rattle.status.specs.Status.{get_sr}
 use Rattle.memory.specs.declared.Core.{Core}
 use Rattle.memory.specs.World.{World}
 use Rattle.answers.specs.declared.Call.{Call}
 use Rattle.answers.specs.declared.Call.TheVariants.{TakeException, Trap, SetIrq, CheckAndServiceInterrupts}
-use Rattle.answers.specs.declared.Answer.TheVariants.{Refused}
+use Rattle.answers.specs.Answer.{Refused}
 use Rattle.numbers.specs.Numbers.{bit, flag}
 use Rattle.answers.specs.Answers.{Performed, answered, refused_by, value_of, cycles, flag as flagged, of_entry, of_service}
 use Rattle.calls.specs.Calls.{run, begun, refusal, perform}
 use Rattle.numbers.specs.declared.RawCall.{RawCall}
 use Rattle.boundary.specs.Calls.{decode, of_performed, raw_of, raw_call}
-use Rattle.prints.specs.Prints.{state_line, refused_line}
-use Rattle.sessions.specs.declared.Shown.{Shown}
+use Rattle.prints.specs.Prints.{refused_line}
 use Rattle.sessions.specs.Sessions.{Session, say, state_of, charge_of, answer_told, entered}
 
 -- a call by number with one argument
@@ -26,17 +23,14 @@ numbered n a = record { number = n; a = a; b = 0; c = 0; d = 0; e = 0 }
 unfoldable pub cycles_of : Core → ℕ → ℕ → ℕ
 cycles_of m number answer = pick (eqb number 22) (charge_of m (flag answer)) answer
 
--- the line of an acting command, from what it shows of the record
-unfoldable pub shown_of : Core → Shown
-shown_of m = record { pc = pc_of m.cpu; sr = get_sr m.cpu; a7 = a7_of m.cpu }
-
-unfoldable pub told : Shown → ℕ → ℕ → List ℕ
-told x refused n = pick (eqb refused 0) (state_line n x.pc x.sr x.a7) (refused_line refused)
+-- the line of an acting command, or of the number that refuses it
+unfoldable pub told : Core → ℕ → ℕ → List ℕ
+told m refused n = pick (eqb refused 0) (state_of m n) (refused_line refused)
 
 unfoldable pub entered_by : Session → RawCall → Session
 entered_by s c =
     say s (raw_call s.after c).after
-    (told (shown_of (raw_call s.after c).after.core) (raw_call s.after c).refused
+    (told (raw_call s.after c).after.core (raw_call s.after c).refused
     (cycles_of (raw_call s.after c).after.core c.number (raw_call s.after c).answer))
 
 -- the numbers of the calls
@@ -58,7 +52,7 @@ raw_service w = refl
 
 -- a call whose numbers print what its answer prints
 unfoldable pub Tells : ℕ → Performed → Type 0
-Tells n x = told (shown_of x.after.core) (refused_by x.answer) (cycles_of x.after.core n (value_of x.answer)) ≡ answer_told x.after.core x.answer
+Tells n x = told x.after.core (refused_by x.answer) (cycles_of x.after.core n (value_of x.answer)) ≡ answer_told x.after.core x.answer
 
 tells_refused : (n k : ℕ) (w : World) → eqb k 0 ≡ false → Tells n (answered w (Refused k))
 unfolding Tells told refused_by answer_told
@@ -73,11 +67,11 @@ performed_tells n w c h = go (eqb (refusal w c) 0) refl
     go false e = rw e (tells_refused n (refusal w c) w e)
 
 pub exc_tells : (w : World) (v : ℕ) → Tells 1 (run w (TakeException v))
-unfolding Tells run of_entry cycles told shown_of cycles_of refused_by value_of answer_told state_of
+unfolding Tells run of_entry cycles told cycles_of refused_by value_of answer_told state_of
 exc_tells w v = refl
 
 pub trap_tells : (w : World) (n : ℕ) → Tells 2 (run w (Trap n))
-unfolding Tells run of_entry cycles told shown_of cycles_of refused_by value_of answer_told state_of
+unfolding Tells run of_entry cycles told cycles_of refused_by value_of answer_told state_of
 trap_tells w n = refl
 
 flag_bit : (b : Bool) → flag (bit b) ≡ b
@@ -86,7 +80,7 @@ flag_bit true = refl
 flag_bit false = refl
 
 pub service_tells : (w : World) → Tells 22 (run w CheckAndServiceInterrupts)
-unfolding Tells run of_service flagged told shown_of cycles_of refused_by value_of answer_told state_of
+unfolding Tells run of_service flagged told cycles_of refused_by value_of answer_told state_of
 service_tells w = rw flag_bit
 
 pub by_number_lem : (s : Session) (r : RawCall) (c : Call) → raw_call s.after r ≡ of_performed (perform s.after c) → Tells r.number (perform s.after c) → entered_by s r ≡ entered s c

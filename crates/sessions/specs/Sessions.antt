@@ -1,5 +1,5 @@
 -- The session of paper 01: what a line makes of record, bus and store, and what it prints.
-use Rattle.std.specs.Prelude.{ℕ, Bool, List, [], eqb, length, replicate}
+use Rattle.std.specs.Prelude.{ℕ, Bool, List, [], Option, Some, None, eqb, length, replicate}
 use Rattle.types.specs.Kinds.{pick}
 use Rattle.cpu.specs.Fields.{kind_of, pc_of, a7_of, set_pc, set_ppc, set_a7}
 use Rattle.cpu.specs.Fresh.{fresh_cpu}
@@ -10,8 +10,8 @@ use Rattle.memory.specs.Served.{served_of}
 use Rattle.memory.specs.World.{World, world, step as on_cpu, poke_long}
 use Rattle.answers.specs.declared.Call.{Call}
 use Rattle.answers.specs.declared.Call.TheVariants.{TakeException, Trap, SetIrq, CheckAndServiceInterrupts}
-use Rattle.answers.specs.declared.Answer.{Answer}
-use Rattle.answers.specs.declared.Answer.TheVariants.{Cycles, Flag, Value, Done, Refused}
+use Rattle.answers.specs.Answer.{Answer}
+use Rattle.answers.specs.Answer.{Cycles, Flag, Value, Done, Refused}
 use Rattle.calls.specs.Calls.{perform}
 use Rattle.unwind.specs.Unwind.{return_from}
 use Rattle.lines.specs.declared.Command.{Command}
@@ -84,20 +84,20 @@ returned s =
     (return_told (return_from s.after.core s.after.store).core (return_from s.after.core s.after.store).refused)
 
 -- what a command does
-unfoldable pub act : Session → Command → Session
-act s command.Wrong = say s s.after (refused_line 14)
-act s (command.Kind k) = session (world (fresh_core k) (cleared s.after.store) s.after.log) s.printed
-act s (command.Pc v) = session (on_cpu (λ c. set_pc c v) s.after) s.printed
-act s (command.Ppc v) = session (on_cpu (λ c. set_ppc c v) s.after) s.printed
-act s (command.A7 v) = session (on_cpu (λ c. set_a7 c v) s.after) s.printed
-act s (command.Long a v) =
+unfoldable pub act : Session → Option Command → Session
+act s None = say s s.after (refused_line 14)
+act s (Some (command.Kind k)) = session (world (fresh_core k) (cleared s.after.store) s.after.log) s.printed
+act s (Some (command.Pc v)) = session (on_cpu (λ c. set_pc c v) s.after) s.printed
+act s (Some (command.Ppc v)) = session (on_cpu (λ c. set_ppc c v) s.after) s.printed
+act s (Some (command.A7 v)) = session (on_cpu (λ c. set_a7 c v) s.after) s.printed
+act s (Some (command.Long a v)) =
     say s (world s.after.core (poke_long s.after.core.bus s.after.store a v) s.after.log)
     (long_told s.after.core s.after.store a)
-act s (command.Exc v) = entered s (TakeException v)
-act s (command.Trap n) = entered s (Trap n)
-act s (command.Irq n) = interrupted s n
-act s (command.Walk n) = say s s.after (walked s.after.core s.after.store n)
-act s command.Ret = returned s
+act s (Some (command.Exc v)) = entered s (TakeException v)
+act s (Some (command.Trap n)) = entered s (Trap n)
+act s (Some (command.Irq n)) = interrupted s n
+act s (Some (command.Walk n)) = say s s.after (walked s.after.core s.after.store n)
+act s (Some command.Ret) = returned s
 
 -- a line
 unfoldable pub step : Session → List ℕ → Session

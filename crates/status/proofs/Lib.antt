@@ -1,3 +1,1 @@
-pub mod Ways
-pub mod Sums
 pub mod Laws

@@ -1,6 +1,5 @@
 -- Laws of the status register, taken apart and put together, and of the stacks.
 use Rattle.std.specs.Prelude.{◌≡◌, ℕ, ◌-◌, ◌*◌, ◌/◌, ◌%◌, ◌≤◌, eqb}
-use Rattle.std.proofs.Common.{lit<, lit≤}
 use Rattle.types.specs.Kinds.{pick}
 use Rattle.cpu.specs.declared.Flags.{Flags}
 

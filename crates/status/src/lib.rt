@@ -11,13 +11,15 @@ ghost use Rattle.std.specs.Prelude.{◌≡◌};
 ghost use Rattle.status.specs.Status.{get_sr, compose, decompose, s_of, m_of, m_under_s, set_sr_noint_nosp, put_back_sr, restore_sr, set_ccr, clear_trace, set_int_mask, clear_m, m_is_set, keep_resume};
 
 // `get_sr`: the status register, composed from the flags.
+#[tactic(auto, unfolding(crate::specs::Status::get_sr))]
 pub fn get_sr(c: Cpu) -> u16
     ensures { result ≡ get_sr c }
 {
     compose(c.flags)
 }
 
-// The status register of the flags.
+// The status register of the flags; no `From`, since both types are of other crates.
+#[tactic(auto, unfolding(crate::specs::Status::compose))]
 pub fn compose(f: Flags) -> u16
     ensures { result ≡ compose f }
 {
@@ -30,21 +32,20 @@ pub fn compose(f: Flags) -> u16
         + f.n_flag / 128 % 2 * 8
         + f.v_flag / 128 % 2 * 2
         + f.c_flag / 256 % 2;
-    if f.not_z_flag == 0 {
-        return (system + codes + 4) as u16;
-    }
-    (system + codes) as u16
+    let z = if f.not_z_flag == 0 { 4 } else { 0 };
+    (system + codes + z) as u16
 }
 
 // The flags of a status: T1, T0, the mask and the condition codes, each flag 0 or the bit that `get_sr` tests, with the S and
 // M flags given. What is no part of the status is kept.
+#[tactic(auto, unfolding(crate::specs::Status::decompose))]
 fn decompose(f: Flags, w: u16, s: u32, m: u32) -> Flags
     ensures { result ≡ decompose f w s m }
 {
-    let n = w as u32;
+    let n = u32::from(w);
     Flags {
-        t1_flag: n / 0x8000 % 2 * 32768,
-        t0_flag: n / 0x4000 % 2 * 16384,
+        t1_flag: n / 0x8000 % 2 * 0x8000,
+        t0_flag: n / 0x4000 % 2 * 0x4000,
         s_flag: s,
         m_flag: m,
         x_flag: n / 16 % 2 * 256,
@@ -53,8 +54,7 @@ fn decompose(f: Flags, w: u16, s: u32, m: u32) -> Flags
         v_flag: n / 2 % 2 * 128,
         c_flag: n % 2 * 256,
         int_mask: n / 256 % 8 * 256,
-        int_level: f.int_level,
-        sr_save: f.sr_save,
+        ..f
     }
 }
 
@@ -62,49 +62,46 @@ fn decompose(f: Flags, w: u16, s: u32, m: u32) -> Flags
 fn s_of(w: u16) -> u32
     ensures { result ≡ s_of w }
 {
-    (w as u32) / 0x2000 % 2 * 4
+    u32::from(w) / 0x2000 % 2 * 4
 }
 
 // The M flag of a status: 0 or 2.
 fn m_of(w: u16) -> u32
     ensures { result ≡ m_of w }
 {
-    (w as u32) / 0x1000 % 2 * 2
+    u32::from(w) / 0x1000 % 2 * 2
 }
 
 // M counts only where S is set.
+#[tactic(auto, unfolding(crate::specs::Status::m_under_s))]
 fn m_under_s(w: u16) -> u32
     ensures { result ≡ m_under_s w }
 {
-    if s_of(w) == 0 {
-        return 0;
-    }
-    m_of(w)
+    if s_of(w) == 0 { 0 } else { m_of(w) }
 }
 
 // `set_sr_noint_nosp`: the status under the kind's mask, M cleared where S is clear, no stack switched.
-pub fn set_sr_noint_nosp(c: Cpu, sr: u16) -> Cpu
+#[tactic(auto, unfolding(crate::specs::Status::set_sr_noint_nosp, cpu::specs::Fields::kind_of))]
+pub fn set_sr_noint_nosp(mut c: Cpu, sr: u16) -> Cpu
     ensures { result ≡ set_sr_noint_nosp c sr }
 {
     let w = types::mask_status(c.flow.cpu_type, sr);
-    let flags = decompose(c.flags, w, s_of(w), m_under_s(w));
-    let mut d = c;
-    d.flags = flags;
-    d
+    c.flags = decompose(c.flags, w, s_of(w), m_under_s(w));
+    c
 }
 
-// The status put back by a return: under the kind's mask, M as stacked, no stack switched.
-pub fn put_back_sr(c: Cpu, sr: u16) -> Cpu
+// The status put back by a return: under the kind's mask, M as stacked and not only under S, no stack switched.
+#[tactic(auto, unfolding(crate::specs::Status::put_back_sr, cpu::specs::Fields::kind_of))]
+pub fn put_back_sr(mut c: Cpu, sr: u16) -> Cpu
     ensures { result ≡ put_back_sr c sr }
 {
     let w = types::mask_status(c.flow.cpu_type, sr);
-    let flags = decompose(c.flags, w, s_of(w), m_of(w));
-    let mut d = c;
-    d.flags = flags;
-    d
+    c.flags = decompose(c.flags, w, s_of(w), m_of(w));
+    c
 }
 
 // The status saved before the instruction is put back.
+#[tactic(auto, unfolding(crate::specs::Status::restore_sr))]
 pub fn restore_sr(c: Cpu) -> Cpu
     ensures { result ≡ restore_sr c }
 {
@@ -112,57 +109,49 @@ pub fn restore_sr(c: Cpu) -> Cpu
 }
 
 // `set_ccr_internal`: the five condition codes
-pub fn set_ccr_internal(c: Cpu, ccr: u8) -> Cpu
+#[tactic(auto, unfolding(crate::specs::Status::set_ccr))]
+pub fn set_ccr_internal(mut c: Cpu, ccr: u8) -> Cpu
     ensures { result ≡ set_ccr c ccr }
 {
-    let n = ccr as u32;
-    let mut flags = c.flags;
-    flags.x_flag = n / 16 % 2 * 256;
-    flags.n_flag = n / 8 % 2 * 128;
-    flags.not_z_flag = 1 - n / 4 % 2;
-    flags.v_flag = n / 2 % 2 * 128;
-    flags.c_flag = n % 2 * 256;
-    let mut d = c;
-    d.flags = flags;
-    d
+    let n = u32::from(ccr);
+    c.flags.x_flag = n / 16 % 2 * 256;
+    c.flags.n_flag = n / 8 % 2 * 128;
+    c.flags.not_z_flag = 1 - n / 4 % 2;
+    c.flags.v_flag = n / 2 % 2 * 128;
+    c.flags.c_flag = n % 2 * 256;
+    c
 }
 
 // an entry clears both trace flags
-pub fn clear_trace(c: Cpu) -> Cpu
+#[tactic(auto, unfolding(crate::specs::Status::clear_trace))]
+pub fn clear_trace(mut c: Cpu) -> Cpu
     ensures { result ≡ clear_trace c }
 {
-    let mut flags = c.flags;
-    flags.t1_flag = 0;
-    flags.t0_flag = 0;
-    let mut d = c;
-    d.flags = flags;
-    d
+    c.flags.t1_flag = 0;
+    c.flags.t0_flag = 0;
+    c
 }
 
 // the interrupt mask is the level
-pub fn set_int_mask(c: Cpu, level: u8) -> Cpu
+#[tactic(auto, unfolding(crate::specs::Status::set_int_mask))]
+pub fn set_int_mask(mut c: Cpu, level: u8) -> Cpu
     ensures { result ≡ set_int_mask c level }
 {
-    let n = (level as u32) % 8 * 256;
-    let mut flags = c.flags;
-    flags.int_mask = n;
-    let mut d = c;
-    d.flags = flags;
-    d
+    c.flags.int_mask = u32::from(level) % 8 * 256;
+    c
 }
 
 // M is cleared and the stack stays: kind 11
-pub fn clear_m(c: Cpu) -> Cpu
+#[tactic(auto, unfolding(crate::specs::Status::clear_m))]
+pub fn clear_m(mut c: Cpu) -> Cpu
     ensures { result ≡ clear_m c }
 {
-    let mut flags = c.flags;
-    flags.m_flag = 0;
-    let mut d = c;
-    d.flags = flags;
-    d
+    c.flags.m_flag = 0;
+    c
 }
 
 // whether M is set
+#[tactic(auto, unfolding(crate::specs::Status::m_is_set))]
 pub fn m_is_set(c: Cpu) -> bool
     ensures { result ≡ m_is_set c }
 {
@@ -170,22 +159,17 @@ pub fn m_is_set(c: Cpu) -> bool
 }
 
 // The registers, PC and the status are kept for the end of the faulted instruction, and the record is faulted.
-pub fn keep_resume(c: Cpu) -> Cpu
+#[tactic(auto, unfolding(crate::specs::Status::keep_resume))]
+pub fn keep_resume(mut c: Cpu) -> Cpu
     ensures { result ≡ keep_resume c }
 {
-    let sr = get_sr(c);
-    let regs = c.regs;
-    let registers = regs.dar;
-    let resume = Resume {
+    let registers = c.regs.dar;
+    c.fault_resume = Resume {
         some: true,
         pc: c.flow.pc,
-        sr,
+        sr: get_sr(c),
         dar: registers,
     };
-    let mut flow = c.flow;
-    flow.run_mode = 1;
-    let mut d = c;
-    d.flow = flow;
-    d.fault_resume = resume;
-    d
+    c.flow.run_mode = 1;
+    c
 }

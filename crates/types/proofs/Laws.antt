@@ -1,10 +1,10 @@
 -- Theorems about what specs/Laws defines, and what rests on them.
-use Rattle.std.specs.Prelude.{◌≡◌, refl, Bool, true, false, ℕ, ◌+◌, ◌*◌, ◌/◌, ◌%◌, ◌-◌, ◌^◌, ◌≤◌, ◌<◌, eqb, ltb, leb, replicate}
+use Rattle.std.specs.Prelude.{◌≡◌, refl, Bool, true, false, Option, Some, None, ℕ, ◌+◌, ◌*◌, ◌/◌, ◌%◌, ◌-◌, ◌^◌, ◌≤◌, ◌<◌, eqb, ltb, leb, replicate}
 use Rattle.std.proofs.Common.{sym, ap, ap₂, ◌∙◌, div-add-mod', mod-lt, arith, lit<, lit≤, pow_pos, eqb-true}
 use Rattle.std.specs.Int.Bits.{bit_and, and_zero_r}
 use Rattle.std.proofs.lemmas.Nat.{and_block, and_mask, and_le_l, and_le_r}
 use Rattle.types.specs.declared.FaultCause.{FaultCause}
-use Rattle.types.specs.declared.FaultCause.TheVariants.{Absent, PointerA, PointerB, Indirect, PageFault, WriteProtect, SupervisorProtect, TableWalkBusError, AccessBusError}
+use Rattle.types.specs.declared.FaultCause.TheVariants.{PointerA, PointerB, Indirect, PageFault, WriteProtect, SupervisorProtect, TableWalkBusError, AccessBusError}
 use Rattle.types.specs.Kinds.{pick, either, both, address_bits, mask_address, has_t0, has_m, status_mask, mask_status}
 use Rattle.types.specs.Every.{at}
 use Rattle.types.specs.Causes.{cause_number, cause_of}
@@ -127,17 +127,17 @@ masked_address_parity k a = pick_holds (λ (n : ℕ). a % 2 ≡ n % 2) (ltb k 3)
 -- ---- the causes
 
 -- the number of a cause names that cause
-pub cause_of_number : (x : FaultCause) → cause_of (cause_number x) ≡ x
+pub cause_of_number : (x : Option FaultCause) → cause_of (cause_number x) ≡ x
 unfolding cause_of
-cause_of_number Absent = refl
-cause_of_number PointerA = refl
-cause_of_number PointerB = refl
-cause_of_number Indirect = refl
-cause_of_number PageFault = refl
-cause_of_number WriteProtect = refl
-cause_of_number SupervisorProtect = refl
-cause_of_number TableWalkBusError = refl
-cause_of_number AccessBusError = refl
+cause_of_number None = refl
+cause_of_number (Some PointerA) = refl
+cause_of_number (Some PointerB) = refl
+cause_of_number (Some Indirect) = refl
+cause_of_number (Some PageFault) = refl
+cause_of_number (Some WriteProtect) = refl
+cause_of_number (Some SupervisorProtect) = refl
+cause_of_number (Some TableWalkBusError) = refl
+cause_of_number (Some AccessBusError) = refl
 
 -- the numbers 0 to 8 are those of the causes
 pub number_of_cause : (n : ℕ) → n ≤ 8 → cause_number (cause_of n) ≡ n

@@ -1,6 +1,5 @@
 -- Laws of what follows from the kind: the masks, the causes and the two tables.
 use Rattle.std.specs.Prelude.{◌≡◌, ℕ, ◌/◌, ◌%◌}
-use Rattle.std.proofs.Common.{lit<, lit≤}
 
 -- the parts of a status v: T1, T0, S, M, the interrupt level, the condition codes
 pub record Parts (v t1 t0 s m i x : ℕ) : Type 0 where

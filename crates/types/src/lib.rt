@@ -8,7 +8,7 @@ ghost use Rattle.types.specs.Kinds.{is040, is060, is_pre68020, is_ec020_plus, ad
 ghost use Rattle.types.specs.Causes.{cause_number, cause_of};
 ghost use Rattle.types.specs.Tables.{exception_cycles, frame_length};
 
-// `CpuType`, as numbers: a kind is a u8, so that 12 to 255 can be named and refused.
+// `CpuType`, as numbers and no enum: the record crosses C, where a kind is any byte, and 12 to 255 are kept and refused.
 pub const INVALID: u8 = 0;
 
 pub const M68000: u8 = 1;
@@ -78,18 +78,17 @@ pub const FP_UNIMPLEMENTED_EA: u32 = 60;
 
 pub const UNIMPLEMENTED_INTEGER: u32 = 61;
 
-// Why a guarded access failed. `Absent` stands for the Rust's `None`.
-#[derive(Clone, Copy)]
+// Why a guarded access failed, by the numbers that the record keeps.
+#[derive(Clone, Copy, PartialEq, Eq, Debug)]
 pub enum FaultCause {
-    Absent,
-    PointerA,
-    PointerB,
-    Indirect,
-    PageFault,
-    WriteProtect,
-    SupervisorProtect,
-    TableWalkBusError,
-    AccessBusError,
+    PointerA = 1,
+    PointerB = 2,
+    Indirect = 3,
+    PageFault = 4,
+    WriteProtect = 5,
+    SupervisorProtect = 6,
+    TableWalkBusError = 7,
+    AccessBusError = 8,
 }
 
 // Cycles of an exception, by vector.
@@ -123,138 +122,101 @@ const LENGTHS: [[u8; 16]; 12] = [
     [8, 0, 12, 0, 16, 0, 0, 0, 0, 0, 0, 0, 0, 0, 0, 0],
 ];
 
+#[tactic(auto, unfolding(crate::specs::Kinds::is040))]
 pub fn is_040(kind: u8) -> bool
     ensures { result ≡ is040 kind }
 {
-    7 <= kind && kind <= 9
+    matches!(kind, M68EC040..=M68040)
 }
 
+#[tactic(auto, unfolding(crate::specs::Kinds::is060))]
 pub fn is_060(kind: u8) -> bool
     ensures { result ≡ is060 kind }
 {
     kind == M68060
 }
 
+#[tactic(auto, unfolding(crate::specs::Kinds::is_pre68020))]
 pub fn is_pre_68020(kind: u8) -> bool
     ensures { result ≡ is_pre68020 kind }
 {
-    if kind == M68000 {
-        return true;
-    }
-    if kind == M68010 {
-        return true;
-    }
-    kind == SCC68070
+    matches!(kind, M68000 | M68010 | SCC68070)
 }
 
+#[tactic(auto, unfolding(crate::specs::Kinds::is_ec020_plus))]
 pub fn is_ec020_plus(kind: u8) -> bool
     ensures { result ≡ is_ec020_plus kind }
 {
-    3 <= kind && kind <= 9
+    matches!(kind, M68EC020..=M68040)
 }
 
+#[tactic(auto, unfolding(crate::specs::Kinds::mask_address))]
 pub fn mask_address(kind: u8, a: u32) -> u32
     ensures { result ≡ mask_address kind a }
 {
-    if kind < 3 {
-        return a % 0x1000000;
-    }
-    a
+    if kind < M68EC020 { a % 0x1000000 } else { a }
 }
 
 // Whether the kind's status register has T0, trace on change of flow.
+#[tactic(auto, unfolding(crate::specs::Kinds::has_t0))]
 pub fn has_t0(kind: u8) -> bool
     ensures { result ≡ has_t0 kind }
 {
-    if kind < 3 {
-        return false;
-    }
-    if kind == SCC68070 {
-        return false;
-    }
-    if kind == M68060 {
-        return false;
-    }
-    true
+    !matches!(kind, INVALID..=M68010 | SCC68070 | M68060)
 }
 
 // Whether the kind's status register has M, the master bit.
+#[tactic(auto, unfolding(crate::specs::Kinds::has_m))]
 pub fn has_m(kind: u8) -> bool
     ensures { result ≡ has_m kind }
 {
-    if kind < 3 {
-        return false;
-    }
-    if kind == SCC68070 {
-        return false;
-    }
-    true
-}
-
-// A bit of a status that only some kinds have: kept or dropped.
-fn kept(has: bool, bit: u16) -> u16
-    ensures { (result ≡ pick has bit 0) × (result ≤ bit) }
-{
-    if has {
-        return bit;
-    }
-    0
+    !matches!(kind, INVALID..=M68010 | SCC68070)
 }
 
 // A status under the kind's mask.
+#[tactic(auto, unfolding(crate::specs::Kinds::mask_status))]
 pub fn mask_status(kind: u8, w: u16) -> u16
     ensures { result ≡ mask_status kind w }
 {
-    let t0 = kept(has_t0(kind), w / 0x4000 % 2 * 0x4000);
-    let m = kept(has_m(kind), w / 0x1000 % 2 * 0x1000);
+    let t0 = if has_t0(kind) {
+        w / 0x4000 % 2 * 0x4000
+    } else {
+        0
+    };
+    let m = if has_m(kind) {
+        w / 0x1000 % 2 * 0x1000
+    } else {
+        0
+    };
     w / 0x8000 % 2 * 0x8000 + t0 + w / 0x2000 % 2 * 0x2000 + m + w / 256 % 8 * 256 + w % 32
 }
 
-// The number of a cause, as the record keeps it.
-pub fn cause_number(cause: FaultCause) -> u8
+// The number of a cause, as the record keeps it; 0 where there is none.
+pub fn cause_number(cause: Option<FaultCause>) -> u8
     ensures { result ≡ cause_number cause }
 {
     match cause {
-        FaultCause::Absent => 0,
-        FaultCause::PointerA => 1,
-        FaultCause::PointerB => 2,
-        FaultCause::Indirect => 3,
-        FaultCause::PageFault => 4,
-        FaultCause::WriteProtect => 5,
-        FaultCause::SupervisorProtect => 6,
-        FaultCause::TableWalkBusError => 7,
-        FaultCause::AccessBusError => 8,
+        Some(c) => c as u8,
+        None => 0,
     }
 }
 
-pub fn cause_of(n: u8) -> FaultCause
+// The cause of a number, none for a number that names none: no `TryFrom`, for that is no error.
+#[tactic(auto, unfolding(crate::specs::Causes::cause_of))]
+pub fn cause_of(n: u8) -> Option<FaultCause>
     ensures { result ≡ cause_of n }
 {
-    if n == 1 {
-        return FaultCause::PointerA;
+    match n {
+        1 => Some(FaultCause::PointerA),
+        2 => Some(FaultCause::PointerB),
+        3 => Some(FaultCause::Indirect),
+        4 => Some(FaultCause::PageFault),
+        5 => Some(FaultCause::WriteProtect),
+        6 => Some(FaultCause::SupervisorProtect),
+        7 => Some(FaultCause::TableWalkBusError),
+        8 => Some(FaultCause::AccessBusError),
+        _ => None,
     }
-    if n == 2 {
-        return FaultCause::PointerB;
-    }
-    if n == 3 {
-        return FaultCause::Indirect;
-    }
-    if n == 4 {
-        return FaultCause::PageFault;
-    }
-    if n == 5 {
-        return FaultCause::WriteProtect;
-    }
-    if n == 6 {
-        return FaultCause::SupervisorProtect;
-    }
-    if n == 7 {
-        return FaultCause::TableWalkBusError;
-    }
-    if n == 8 {
-        return FaultCause::AccessBusError;
-    }
-    FaultCause::Absent
 }
 
 // Cycles of an exception. Vectors above 255 are refused by the public calls; here they cost what user vectors do.
@@ -277,6 +239,5 @@ pub fn frame_length(kind: u8, format: u8) -> u8
     if 16 <= format {
         return 0;
     }
-    let row = LENGTHS[kind as usize];
-    row[format as usize]
+    LENGTHS[kind as usize][format as usize]
 }

@@ -2,7 +2,7 @@
 -- and are not treated here.
 use Rattle.std.specs.Prelude.{ℕ, zero, suc, ◌%◌, ◌≡◌, Bool, true, false, List, eqb}
 use Rattle.std.proofs.Math.Path.{refl}
-use Rattle.std.proofs.Common.{sym, arith, eqb-true}
+use Rattle.std.proofs.Common.{sym, arith}
 use Rattle.types.specs.Kinds.{pick, either, is_pre68020, is040, is060}
 use Rattle.types.specs.Vectors.{bus_error_vector}
 use Rattle.cpu.specs.declared.Cpu.{Cpu}
@@ -11,7 +11,7 @@ use Rattle.cpu.specs.Clocks.{clocks_of, prefetch_enabled}
 use Rattle.memory.specs.declared.Bus.{Bus}
 use Rattle.memory.specs.World.{World, put_cpu, step}
 use Rattle.frames.specs.declared.Frame.{Frame}
-use Rattle.frames.specs.Frames.{field_at, bus_frame, frame68000, frame8, frame4, frame7, frame11, write_data}
+use Rattle.frames.specs.Frames.{is_guarded, field_at, bus_frame, frame68000, frame8, frame4, frame7, frame11, write_data}
 use Rattle.frames.specs.Codes.{fault_code, fault_word, ssw020, ssw040, wb3s, fslw060}
 use Rattle.status.specs.Status.{get_sr}
 use Rattle.steps.specs.Steps.{enter_bus_error, begin_bus, close_bus}
@@ -26,7 +26,7 @@ use Rattle.unfaulted.specs.Entries.{Alike}
 -- the same by a test
 unfoldable pub all_guarded : Frame → ℕ → Bool
 all_guarded f zero = true
-all_guarded f (suc k) = pick (eqb (field_at f k).mode 0) (all_guarded f k) false
+all_guarded f (suc k) = pick (is_guarded (field_at f k)) (all_guarded f k) false
 
 no : {A : Type 0} → false ≡ true → A
 no e = let z : ◌≡◌ {A = ℕ} 0 1 = cc in absurd (omega arith)
@@ -34,10 +34,10 @@ no e = let z : ◌≡◌ {A = ℕ} 0 1 = cc in absurd (omega arith)
 pub guarded_if : (f : Frame) (k : ℕ) → all_guarded f k ≡ true → Guarded f k
 unfolding all_guarded Guarded
 guarded_if f zero h = tt
-guarded_if f (suc k) h = go (eqb (field_at f k).mode 0) refl h (λ x. guarded_if f k x)
+guarded_if f (suc k) h = go (is_guarded (field_at f k)) refl h (λ x. guarded_if f k x)
   where
-    go : (t : Bool) → eqb (field_at f k).mode 0 ≡ t → pick t (all_guarded f k) false ≡ true → (all_guarded f k ≡ true → Guarded f k) → ((field_at f k).mode ≡ 0) × Guarded f k
-    go true x y r = (eqb-true _ _ x, r y)
+    go : (t : Bool) → is_guarded (field_at f k) ≡ t → pick t (all_guarded f k) false ≡ true → (all_guarded f k ≡ true → Guarded f k) → (is_guarded (field_at f k) ≡ true) × Guarded f k
+    go true x y r = (x, r y)
     go false x y r = no y
 
 -- the frame of a bus error on a kind other than 1, 2 and 10

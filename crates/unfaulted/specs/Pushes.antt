@@ -11,7 +11,9 @@ use Rattle.memory.specs.World.{World, put_cpu, width_of}
 use Rattle.memory.specs.LogLaws.{Event}
 use Rattle.frames.specs.declared.Field.{Field}
 use Rattle.frames.specs.declared.Frame.{Frame}
-use Rattle.frames.specs.Frames.{field_at, is_counted, is_raw}
+use Rattle.frames.specs.declared.Mode.{Mode}
+use Rattle.frames.specs.declared.Mode.TheVariants.{Raw, Counted}
+use Rattle.frames.specs.Frames.{guards, counts, goes_raw, is_guarded, field_at, is_counted, is_raw}
 use Rattle.access.specs.Access.{Raise, write_at, stack_field, push_field}
 use Rattle.unfaulted.specs.Closed.{closed, told, Piece, clock_events, Within}
 use Rattle.unfaulted.specs.Lists.{told_append}
@@ -61,7 +63,7 @@ pieces_of f (suc k) = record { offset = offset_of f k; long = (field_at f k).lon
 -- the first k fields are written by guarded accesses
 unfoldable pub Guarded : Frame → ℕ → Type 0
 Guarded f zero = Unit {0}
-Guarded f (suc k) = ((field_at f k).mode ≡ 0) × Guarded f k
+Guarded f (suc k) = (is_guarded (field_at f k) ≡ true) × Guarded f k
 
 pub offset_even : (f : Frame) (k : ℕ) → offset_of f k % 2 ≡ 0
 unfolding offset_of
@@ -122,9 +124,14 @@ push_step : (t : Raise) (b : Bus) (c : Cpu) (e : ℕ) (s l : List ℕ) (x : Fiel
 unfolding push_field closed put_cpu
 push_step t b c e s l x = refl
 
-stack_guarded : (t : Raise) (b : Bus) (c : Cpu) (e : ℕ) (s l : List ℕ) (x : Field) (a : ℕ) → x.mode ≡ 0 → a7_of c ≡ a → stack_field t (closed b c e s l) x ≡ write_at t (closed b c e s l) a x.long x.value
+guarded_apart : (m : Mode) → guards m ≡ true → (counts m ≡ false) × (goes_raw m ≡ false)
+guarded_apart Mode.Guarded h = (refl, refl)
+guarded_apart Raw h = let z : ◌≡◌ {A = ℕ} 0 1 = cc in absurd (omega arith)
+guarded_apart Counted h = let z : ◌≡◌ {A = ℕ} 0 1 = cc in absurd (omega arith)
+
+stack_guarded : (t : Raise) (b : Bus) (c : Cpu) (e : ℕ) (s l : List ℕ) (x : Field) (a : ℕ) → is_guarded x ≡ true → a7_of c ≡ a → stack_field t (closed b c e s l) x ≡ write_at t (closed b c e s l) a x.long x.value
 unfolding stack_field is_counted is_raw closed
-stack_guarded t b c e s l x a h k = rw (h, k)
+stack_guarded t b c e s l x a h k = let g : (counts x.mode ≡ false) × (goes_raw x.mode ≡ false) = guarded_apart x.mode h in rw (g.0, g.1, k)
 
 width_small : (g : Bool) → width_of g < 2 ^ 32
 width_small true = omega arith
@@ -135,7 +142,7 @@ width_positive true = omega arith
 width_positive false = omega arith
 
 -- one field: A7 goes from q + (o + d) to q + o, and the field is written there
-pub field_written : (t : Raise) (b : Bus) (c : Cpu) (e : ℕ) (s l : List ℕ) (x : Field) (q n o : ℕ) → x.mode ≡ 0 → 15 < length c.regs.dar → q + n ≤ 2 ^ 32 → o + width_of x.long ≤ n
+pub field_written : (t : Raise) (b : Bus) (c : Cpu) (e : ℕ) (s l : List ℕ) (x : Field) (q n o : ℕ) → is_guarded x ≡ true → 15 < length c.regs.dar → q + n ≤ 2 ^ 32 → o + width_of x.long ≤ n
     → push_field t (closed b (set_a7 c (q + (o + width_of x.long))) e s l) x ≡ write_at t (closed b (set_a7 c (q + o)) e s l) (q + o) x.long x.value
 field_written t b c e s l x q n o h k u w =
     let d : ℕ = width_of x.long in
@@ -159,7 +166,7 @@ unfolding set_a7 set_clocks clocks_of is_faulted
 flushed t b c a e s l g v h u = write_flush t b (set_a7 c a) e s l a g v h u
 
 -- a field syncs first
-pub field_flush : (t : Raise) (b : Bus) (c : Cpu) (e : ℕ) (s l : List ℕ) (x : Field) (q n o : ℕ) → x.mode ≡ 0 → 15 < length c.regs.dar → is_faulted c ≡ false → q + n ≤ 2 ^ 32 → o + width_of x.long ≤ n
+pub field_flush : (t : Raise) (b : Bus) (c : Cpu) (e : ℕ) (s l : List ℕ) (x : Field) (q n o : ℕ) → is_guarded x ≡ true → 15 < length c.regs.dar → is_faulted c ≡ false → q + n ≤ 2 ^ 32 → o + width_of x.long ≤ n
     → e + 1 < 2 ^ 32
     → push_field t (closed b (set_a7 c (q + (o + width_of x.long))) e s l) x
     ≡ push_field t (closed b (set_a7 (set_clocks c 0) (q + (o + width_of x.long))) (e + length (clock_events (clocks_of c))) s (told e l (clock_events (clocks_of c)))) x

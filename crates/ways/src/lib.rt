@@ -4,6 +4,7 @@
 
 ghost use Rattle.std.specs.Prelude.{◌≡◌};
 
+use fast_plans::Way;
 use numbers::RawCall;
 use records::LentCore;
 
@@ -13,15 +14,10 @@ use records::LentCore;
 pub extern "C" fn m68k_way(core: LentCore, call: RawCall, store: &mut [u8], log: &mut [u32]) -> u32
     ensures { (result ≡ 0 → store.new ≡ store.old) × (result ≡ 0 → log.new ≡ log.old) }
 {
-    let x = attempts::attempt(core, call, store, log);
-    if x.fast {
-        return 1;
+    match attempts::attempt(core, call, store, log).patch.way {
+        Way::Plain => 0,
+        Way::Entry => 1,
+        Way::Calm => 2,
+        Way::Idle => 3,
     }
-    if x.calm {
-        return 2;
-    }
-    if x.idle {
-        return 3;
-    }
-    0
 }

@@ -1,11 +1,8 @@
-use mathlib.Core.Path.{◌≡◌, refl}
 use Rattle.attempts.proofs.Tries.{attempt_way, attempt_way_2}
-use borrow.Author.Rules.{rules}
 use Rattle.attempts.proofs.attempt_exception.Goals as goal
 
-pub returns-then-is_tidy : goal.returns-then-is_tidy
-returns-then-is_tidy c =
-    attempt_way _ _ _ _ c.is_tidy.ensures c.if-is_tidy.true c.fits-known.ensures c.view-x.ensures c.take_exception-q.ensures c.words-fetched.ensures c.hand_over.ensures
+pub returns-then-not-is_tidy : goal.returns-then-not-is_tidy
+returns-then-not-is_tidy c = attempt_way_2 _ _ _ _ c.none.ensures c.hand_over.ensures.0
 
 pub returns : goal.returns
-returns c = attempt_way_2 _ _ _ _ c.none-q.ensures c.hand_over-2.ensures
+returns c = attempt_way _ _ _ _ c.is_tidy.ensures c.if-not-is_tidy.false c.view.ensures.1 c.view.ensures.0 c.take_exception.ensures c.hand_over-2.ensures.1 c.hand_over-2.ensures.0

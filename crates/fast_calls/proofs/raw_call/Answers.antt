@@ -1,15 +1,14 @@
 use Rattle.fast_calls.proofs.Ways.{fast_way, calm_way, idle_way, plain_way}
-use borrow.Author.Rules.{rules}
 use Rattle.fast_calls.proofs.raw_call.Goals as goal
 
-pub returns-then-q : goal.returns-then-q
-returns-then-q c = fast_way _ _ _ _ c.view-x.ensures c.go-q.ensures _ c.fits-known.ensures c.words-fetched.ensures c.if-q.true c.patched-d.ensures c.said.ensures
+pub returns-in-Entry : goal.returns-in-Entry
+returns-in-Entry c = fast_way _ _ _ _ c.view.ensures.0 c.go-q.ensures _ c.view.ensures.1 c.said.ensures.1 c.in-Entry.is c.patched.ensures c.said.ensures.0
 
-pub returns-then-q-2 : goal.returns-then-q-2
-returns-then-q-2 c = calm_way _ _ _ _ c.view-x.ensures c.go-q.ensures _ c.if-q-2.true c.calmed-d.ensures c.said-then-q-2.ensures
+pub returns-in-Calm : goal.returns-in-Calm
+returns-in-Calm c = calm_way _ _ _ _ c.view.ensures.0 c.go-q.ensures _ c.in-Calm.is c.calmed.ensures c.said-in-Calm.ensures.0
 
-pub returns-then-q-3 : goal.returns-then-q-3
-returns-then-q-3 c = idle_way _ _ _ _ c.view-x.ensures c.go-q.ensures _ c.if-q-3.true c.said-then-q-3.ensures
+pub returns-in-Idle : goal.returns-in-Idle
+returns-in-Idle c = idle_way _ _ _ _ c.view.ensures.0 c.go-q.ensures _ c.in-Idle.is c.said-in-Idle.ensures.0
 
-pub returns : goal.returns
-returns c = plain_way _ _ _ _ c.view-x.ensures c.go-q.ensures c.if-q.false c.raw_call.ensures
+pub returns-in-Plain : goal.returns-in-Plain
+returns-in-Plain c = plain_way _ _ _ _ c.view.ensures.0 c.go-q.ensures c.in-Plain.is c.raw_call.ensures

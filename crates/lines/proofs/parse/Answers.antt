@@ -1,8 +1,11 @@
-use Rattle.lines.proofs.Commands.{line_long, line_word}
+use Rattle.std.proofs.Common.{lt-ltb, le-ltb}
+use Rattle.lines.specs.Commands.{command_of}
 use Rattle.lines.proofs.parse.Goals as goal
 
-pub returns-then-line-gt80 : goal.returns-then-line-gt80
-returns-then-line-gt80 c = line_long _ c.if-line-gt80.true
+pub returns-then-line-gt-LINE_LIMIT : goal.returns-then-line-gt-LINE_LIMIT
+unfolding command_of
+returns-then-line-gt-LINE_LIMIT c = rw (lt-ltb _ _ c.if-line-gt-LINE_LIMIT.true)
 
 pub returns : goal.returns
-returns c = line_word _ _ c.if-line-gt80.false c.word_in.ensures
+unfolding command_of
+returns c = rw (le-ltb _ _ c.if-line-gt-LINE_LIMIT.false) c.word_in.ensures

@@ -1,15 +1,11 @@
-use native.Mathlib.Omega.{arith}
-use Rattle.lines.proofs.Loops.{space_starts, space_found, space_goes, space_ends}
+use Rattle.std.proofs.Common.{◌≡◌, rules, sym}
+use borrow.Author.Tests.{tests}
+use Rattle.std.proofs.lemmas.Iterator.{IsFirst-from_position, YieldsList-from_slice}
+use Rattle.lines.proofs.Commands.{space_first}
 use Rattle.lines.proofs.space.Goals as goal
 
-pub loop-i-init : goal.loop-i-init
-loop-i-init c = (omega arith, space_starts _)
-
-pub returns-then-s-i-eq32 : goal.returns-then-s-i-eq32
-returns-then-s-i-eq32 c = (space_found _ _ _ c.loop-i.invariant.1 c.loop-i-test.true c.if-s-i-eq32.true, omega arith)
-
-pub loop-i-preserved : goal.loop-i-preserved
-loop-i-preserved c = (omega (arith, c.loop-i-test.true), space_goes _ _ _ c.loop-i.invariant.1 c.loop-i-test.true c.if-s-i-eq32.false)
-
-pub returns : goal.returns
-returns c = (space_ends _ _ _ c.loop-i.invariant.1 c.loop-i-test.false, c.loop-i.invariant.0)
+pub returns-clause-place : goal.returns-clause-place
+returns-clause-place c =
+    let first = IsFirst-from_position _ _ _ (λ b. b ≡ 32) (λ b. ¬ (b ≡ 32)) c.position.ensures.ran (YieldsList-from_slice c.args.s.now cc)
+    (λ x q k. search (rules, tests)) (λ x q k. search (rules, tests)) in
+    sym (space_first _ _ first)

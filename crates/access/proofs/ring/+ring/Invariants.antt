@@ -1,3 +1,6 @@
+use Rattle.std.specs.Prelude.{◌≡◌}
+use Rattle.memory.specs.World.{world}
+use Rattle.access.specs.Access.{trigger, push_fields}
 use Rattle.std.proofs.Common.{◌+◌, ◌*◌}
 use Rattle.access.proofs.ring.+ring.Given as goal
 
@@ -24,7 +27,7 @@ abbrev pub decreases-push_field : goal.decreases-push_field
 decreases-push_field l = l.levels * 1024 + 40
 
 abbrev pub decreases-push_fields : goal.decreases-push_fields
-decreases-push_fields l = l.levels * 1024 + 60 + l.left
+decreases-push_fields l = l.levels * 1024 + 60
 
 abbrev pub decreases-read_at : goal.decreases-read_at
 decreases-read_at l = l.levels * 1024 + 30
@@ -37,3 +40,7 @@ decreases-trigger_bus_error l = l.levels * 1024 + 10
 
 abbrev pub decreases-write_at : goal.decreases-write_at
 decreases-write_at l = l.levels * 1024 + 30
+
+-- what is left to push, pushed now, is what all would be
+abbrev pub invariant-push_fields-loop-k : goal.invariant-push_fields-loop-k
+invariant-push_fields-loop-k l = push_fields (trigger l.levels) (world l.m l.store l.log) l.f l.k ≡ push_fields (trigger l.levels) (world l.initial.m l.initial.store l.initial.log) l.f l.left

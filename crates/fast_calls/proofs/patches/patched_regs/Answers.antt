@@ -1,8 +1,0 @@
-use mathlib.Core.Path.{◌≡◌, refl, sym, ap, ◌∙◌}
-use Rattle.fast_laws.specs.Patched.{patch_cpu}
-use borrow.Author.Rules.{rules}
-use Rattle.fast_calls.proofs.patches.patched_regs.Goals as goal
-
-pub returns : goal.returns
-unfolding patch_cpu
-returns c = refl

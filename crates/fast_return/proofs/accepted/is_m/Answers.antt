@@ -1,8 +1,0 @@
-use Rattle.std.proofs.Common.{eq-eqb, ne_eqb}
-use Rattle.fast_return.proofs.accepted.is_m.Goals as goal
-
-pub returns-then-n-eq0 : goal.returns-then-n-eq0
-returns-then-n-eq0 c = simp (eq-eqb _ _ c.if-n-eq0.true)
-
-pub returns : goal.returns
-returns c = simp (ne_eqb _ _ c.if-n-eq0.false)

@@ -1,7 +1,0 @@
-use Rattle.std.proofs.Common.{refl}
-use Rattle.unwind.specs.Returns.{row_of}
-use Rattle.fast_return.proofs.row_of.Goals as goal
-
-pub returns : goal.returns
-unfolding row_of
-returns c = refl

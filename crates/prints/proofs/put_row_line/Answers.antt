@@ -1,8 +1,0 @@
-use Rattle.prints.proofs.Joins.{join5}
-use native.Mathlib.Omega.{arith}
-use Rattle.prints.specs.Prints.{row_line}
-use Rattle.prints.proofs.put_row_line.Goals as goal
-
-pub returns : goal.returns
-unfolding row_line
-returns c = (omega (arith, c.put_hex1-p.ensures.0, c.then_hex4-q.ensures.0, c.then_hex8-r.ensures.0, c.then_hex3-s.ensures.0, c.put.ensures.0), join5 _ _ _ _ _ _ _ _ _ _ _ c.put_hex1-p.ensures.1 c.then_hex4-q.ensures.1 c.then_hex8-r.ensures.1 c.then_hex3-s.ensures.1 c.put.ensures.1)

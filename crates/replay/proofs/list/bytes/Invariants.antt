@@ -1,6 +1,0 @@
--- The measure is the pairs that are left.
-use Rattle.std.proofs.Common.{◌-◌}
-use Rattle.replay.proofs.list.bytes.Given as goal
-
-abbrev pub decreases-loop-k : goal.decreases-loop-k
-decreases-loop-k l = l.count - l.k

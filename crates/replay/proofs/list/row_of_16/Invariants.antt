@@ -1,6 +1,0 @@
--- The measure is the places that are left.
-use Rattle.std.proofs.Common.{◌-◌}
-use Rattle.replay.proofs.list.row_of_16.Given as goal
-
-abbrev pub decreases-loop-i : goal.decreases-loop-i
-decreases-loop-i l = 16 - l.i

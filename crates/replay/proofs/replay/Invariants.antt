@@ -1,5 +1,0 @@
--- The measure is the turns that are left.
-use Rattle.replay.proofs.replay.Given as goal
-
-abbrev pub decreases-loop-turns : goal.decreases-loop-turns
-decreases-loop-turns l = l.turns

@@ -1,0 +1,21 @@
+use Rattle.std.proofs.Common.{arith}
+use Rattle.sessions.proofs.Walks.{count_is, walk_quiet, walk_refused}
+use Rattle.sessions.proofs.Machine.walk_rows.Goals as goal
+
+pub row_lines-requires : goal.row_lines-requires
+row_lines-requires c = (omega (arith, count_is c.args.self.now.core c.args.self.now.store.now c.args.self.now.rows.now _ c.args.n _ _ (omega (arith, c.requires.0)) c.walk-w.ensures, c.requires.0), omega (arith, count_is c.args.self.now.core c.args.self.now.store.now c.args.self.now.rows.now _ c.args.n _ _ (omega (arith, c.requires.0)) c.walk-w.ensures, c.requires.0, c.requires.1))
+
+pub refuse-requires : goal.refuse-requires
+refuse-requires c = omega (arith, count_is c.args.self.now.core c.args.self.now.store.now c.args.self.now.rows.now _ c.args.n _ _ (omega (arith, c.requires.0)) c.walk-w.ensures, c.requires.0, c.requires.1, c.row_lines.ensures.bound)
+
+pub returns-then-w-ne0 : goal.returns-then-w-ne0
+returns-then-w-ne0 c = record {
+  lines = walk_refused c.args.self.now.core c.args.self.now.store.now c.args.self.now.rows.now _ c.args.n _ _ (omega (arith, c.requires.0)) c.walk-w.ensures _ _ _ _ c.row_lines.ensures.lines c.if-w-ne0.true c.refuse.ensures.line;
+  bound = omega (arith, count_is c.args.self.now.core c.args.self.now.store.now c.args.self.now.rows.now _ c.args.n _ _ (omega (arith, c.requires.0)) c.walk-w.ensures, c.requires.0, c.row_lines.ensures.bound, c.refuse.ensures.bound);
+}
+
+pub returns-else-w-ne0 : goal.returns-else-w-ne0
+returns-else-w-ne0 c = record {
+  lines = walk_quiet c.args.self.now.core c.args.self.now.store.now c.args.self.now.rows.now _ c.args.n _ _ (omega (arith, c.requires.0)) c.walk-w.ensures _ _ _ c.row_lines.ensures.lines c.if-w-ne0.false;
+  bound = omega (arith, count_is c.args.self.now.core c.args.self.now.store.now c.args.self.now.rows.now _ c.args.n _ _ (omega (arith, c.requires.0)) c.walk-w.ensures, c.requires.0, c.row_lines.ensures.bound);
+}
