@@ -26,7 +26,7 @@ EXPORT = re.compile(r'#\[unsafe\(no_mangle\)\]\s*pub extern "C" fn (\w+)\s*\(([^
 FUNCTION = re.compile(r"^(?:pub )?fn (\w+)\b.*?^\}", re.M | re.S)
 METHOD = re.compile(r"^    (?:pub )?fn (\w+)\b.*?^    \}", re.M | re.S)
 ARM = re.compile(r"^\s*(\d+) => (.*?),(?=\s*(?:\d+|_) => )", re.M | re.S)
-ARGUMENT = re.compile(r"(cause_of\()?\(?call\.(\w)( % 0x100\) as u8| % 0x10000\) as u16| != 0)?")
+ARGUMENT = re.compile(r"(types::cause_of\()?\(?call\.(\w)( % 0x100\) as u8| % 0x10000\) as u16| != 0)?")
 ARRAY = re.compile(r"\[\s*([\w:]+)\s*;\s*(\d+)\s*\]$")
 LENDING = re.compile(r"&\s*(mut\s+)?(?:\[\s*(\w+)\s*\]|([\w:]+))$")
 
@@ -248,6 +248,8 @@ def numbers(crates):
         call = re.match(r"Call::(\w+)", text)
         if not call:
             raise Bad(f"decode: no call for {number}")
+        if left := re.search(r"[^\s(),{}]", ARGUMENT.sub("", text[call.end():])):
+            raise Bad(f"decode: no sort of argument for {text}, at {left[0]}")
         arguments = [(letter, "cause" if cause else sorts[way]) for cause, letter, way in ARGUMENT.findall(text)]
         if [letter for letter, _ in arguments] != list("abcde")[:len(arguments)]:
             raise Bad(f"decode: the arguments of {number} are not a, b, c ..")

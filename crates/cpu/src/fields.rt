@@ -204,11 +204,11 @@ pub fn start_vector(mut c: Cpu, v: u32) -> Cpu
 }
 
 // A7 lowered by n, past zero too.
-#[tactic(auto, unfolding(crate::specs::Fields::lower_a7, crate::specs::Fields::minus32))]
+#[tactic(auto, unfolding(crate::specs::Fields::lower_a7))]
 pub fn lower_a7(c: Cpu, n: u32) -> Cpu
     ensures { result ≡ lower_a7 c n }
 {
-    set_a7(c, a7(c).wrapping_sub(n))
+    set_a7(c, minus(a7(c), n))
 }
 
 // a - n modulo 2^32.

@@ -1,9 +1,14 @@
 -- The length of a frame of format 0.
-use Rattle.std.proofs.Common.{◌≡◌, ℕ, zero, suc, ◌/◌, ◌<◌, ◌≤◌, sym, refl, arith, ne_eqb, le-leb}
+use Rattle.std.proofs.Common.{◌≡◌, ℕ, Bool, eqb, zero, suc, ◌/◌, ◌<◌, ◌≤◌, sym, refl, arith, ne_eqb, le-leb}
 use borrow.Author.Tests.{lt-leb}
-use Rattle.types.specs.Kinds.{is040, is060}
+use Rattle.types.specs.Kinds.{either, is040, is060}
 use Rattle.types.specs.Tables.{frame_length, takes_format, format_length}
 use Rattle.fast_return.specs.Quick.{size_of}
+
+-- kind 0
+pub takes_none : (k f : ℕ) (b : Bool) → k ≡ 0 → b ≡ either (eqb f 0) (either (eqb f 2) (eqb f 11)) → b ≡ takes_format k f
+unfolding takes_format is040 is060
+takes_none k f b z h = rw z h
 
 -- every kind but 1 takes format 0
 no_format : (k : ℕ) → 12 ≤ k → frame_length k 0 ≡ 0

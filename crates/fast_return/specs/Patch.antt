@@ -1,5 +1,5 @@
 -- A return that is tried, and the record after it.
-use Rattle.std.specs.Prelude.{Bool, true, false, ◌==◌}
+use Rattle.std.specs.Prelude.{Bool, true, false, ◌==◌, Option, Some, None}
 use Rattle.types.specs.Kinds.{pick}
 use Rattle.memory.specs.declared.Core.{Core}
 use Rattle.memory.specs.World.{put_cpu}
@@ -22,6 +22,11 @@ going q = record { ok = true; row = q.row; frame = read q.frame }
 
 unfoldable pub no_patch : ReturnPatch
 no_patch = record { ok = false; row = record { format = 0; status = 0; address = 0; offset = 0 }; frame = refused_frame 0 }
+
+-- what the code answers, so read
+abbrev pub tried : Option Code → ReturnPatch
+tried (Some q) = going q
+tried None = no_patch
 
 unfoldable pub done_patch : Frame → ReturnPatch
 done_patch f = record { ok = true; row = row_of f.format f; frame = f }

@@ -20,8 +20,9 @@ ghost use Rattle.cpu.specs.Fields.{kind_of};
 ghost use Rattle.unwind.specs.Frames.{read};
 ghost use Rattle.unwind.specs.Returns.{walk, take_frame};
 ghost use Rattle.unwind.specs.Unwind.{return_from, walk_from};
+ghost use Rattle.fast_return.specs.Quick.{as_found};
 ghost use Rattle.fast_return.specs.Seen.{banked_regs, back_flags};
-ghost use Rattle.fast_return.specs.Patch.{going, patch_back, patch_returned};
+ghost use Rattle.fast_return.specs.Patch.{going, tried, found_patch, patch_back, patch_returned};
 
 // A return that goes: its row and the frame that it takes.
 #[derive(Clone, Copy, PartialEq, Eq, Debug)]
@@ -40,16 +41,12 @@ fn run_of<'a>(m: Core, store: &'a [u8]) -> Run<'a>
     }
 }
 
-// The return, tried on a record that is only read; where it gives none the plain return is to be called. A frame of format 1 has another
-// one under it, and goes the plain way.
-#[tactic(auto, using(crate::proofs::Walks::try_goes_by))]
-pub fn try_return(m: Core, store: &[u8]) -> Option<ReturnPatch>
-    ensures { IfSome result (λ q. return_from m store.now ≡ patch_returned m (going q)) }
+// The return by a frame that was found. A frame of format 1 has another one under it, and goes the plain way.
+#[tactic(auto, unfolding(crate::specs::Patch::found_patch, crate::specs::Patch::no_patch, crate::specs::Patch::done_patch))]
+fn patch_of(found: Option<Frame>) -> Option<ReturnPatch>
+    ensures { tried result ≡ found_patch (as_found found) }
 {
-    if !accepted::accepted(m, store.len()) {
-        return None;
-    }
-    let frame = run_of(m, store).find(cpu::fields::a7(m.cpu))?;
+    let frame = found?;
     if frame.format == 1 {
         return None;
     }
@@ -57,6 +54,16 @@ pub fn try_return(m: Core, store: &[u8]) -> Option<ReturnPatch>
         row: Row::of(frame.format, frame),
         frame,
     })
+}
+
+// The return, tried on a record that is only read; where it gives none the plain return is to be called.
+pub fn try_return(m: Core, store: &[u8]) -> Option<ReturnPatch>
+    ensures { IfSome result (λ q. return_from m store.now ≡ patch_returned m (going q)) }
+{
+    if !accepted::accepted(m, store.len()) {
+        return None;
+    }
+    patch_of(run_of(m, store).find(cpu::fields::a7(m.cpu)))
 }
 
 // A7 and the saved pointers, by indexes that are written out, so that the registers stay where they are.

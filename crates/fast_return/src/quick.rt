@@ -1,7 +1,8 @@
 // A frame whose bytes lie in one run of a store without windows, read in place. Where they may not, or the pointer is odd, or the kind takes
 // no such frame, there is none here, and it is read as `unwind` reads it. Words and longs are read here as in `fast`, of places that are known to
 // be there, which no public function may ask.
-ghost use Rattle.std.specs.Prelude.{◌≡◌, ◌+◌, ◌<◌, ◌≤◌, length};
+ghost use Rattle.std.specs.Prelude.{◌≡◌, ◌+◌, ◌<◌, ◌≤◌, length, ◌==◌};
+ghost use Rattle.types.specs.Kinds.{either};
 ghost use Rattle.types.specs.Tables.{takes_format, format_length, frame_length};
 ghost use Rattle.unwind.specs.Frames.{read, head_of};
 ghost use Rattle.fast_return.specs.Rows.{bare_bus};
@@ -36,22 +37,31 @@ fn bare(base: u32) -> Bus
     }
 }
 
+fn is_of_three(n: u32, a: u32, b: u32, c: u32) -> bool
+    ensures { result ≡ either (n == a) (either (n == b) (n == c)) }
+{
+    n == a || n == b || n == c
+}
+
 // Whether a kind takes frames of a format: the rule of `types::frame_length`, whose table is copied to the stack to look into it. By it a
-// return of format 2 was 394 instructions for 343, a walk of 64 such frames 11,776 for 6,661.
-#[tactic(auto, unfolding(types::specs::Tables::takes_format))]
+// return of format 2 was 394 instructions for 343, a walk of 64 such frames 11,776 for 6,661. Kind 0 is tested first, for last its walk of such frames took
+// more than 120 a row.
+#[tactic(auto, using(crate::proofs::Sizes::takes_none), unfolding(types::specs::Tables::takes_format))]
 fn takes(kind: u8, format: u32) -> bool
     ensures { result ≡ takes_format kind format }
 {
-    if kind == types::M68010 || kind == types::SCC68070 {
+    if kind == types::INVALID {
+        is_of_three(format, 0, 2, 11)
+    } else if kind == types::M68010 || kind == types::SCC68070 {
         format == 0 || format == 8
     } else if types::M68EC020 <= kind && kind <= types::M68030 {
         format <= 2 || format == 11
     } else if types::is_040(kind) {
         format <= 2 || format == 7
     } else if types::is_060(kind) {
-        format == 0 || format == 2 || format == 4
+        is_of_three(format, 0, 2, 4)
     } else {
-        kind == types::INVALID && (format == 0 || format == 2 || format == 11)
+        false
     }
 }
 

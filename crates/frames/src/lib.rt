@@ -21,6 +21,22 @@ pub enum Mode {
     Counted,
 }
 
+// By number: 1 is raw, 2 only counted, any other guarded.
+impl From<u8> for Mode {
+    ghost use Rattle.frames.specs.Modes.{mode_of};
+
+    ghost from_gives = { λ n r. r ≡ mode_of n };
+
+    #[tactic(auto, unfolding(crate::specs::Modes::mode_of))]
+    fn from(number: u8) -> Self {
+        match number {
+            1 => Mode::Raw,
+            2 => Mode::Counted,
+            _ => Mode::Guarded,
+        }
+    }
+}
+
 #[derive(Clone, Copy)]
 pub struct Field {
     pub mode: Mode,

@@ -43,3 +43,7 @@ refused_line n = refused_word ++ decimal_of 10 n ++ (10 ∷ [])
 -- every line has at most 34 bytes: of a buffer of `room` bytes, a line is laid where so many are left after what is printed, else nothing is
 unfoldable pub laid : ℕ → List ℕ → List ℕ → List ℕ
 laid room done line = pick (leb (length done + 34) room) (more done line) done
+
+-- of a buffer o and a place, a line is laid where so many bytes are left after the place, else nothing is
+unfoldable pub laid_at : ℕ → List ℕ → List ℕ → List ℕ
+laid_at at o line = pick (leb (at + 34) (length o)) (more (before at o) line) (before at o)

@@ -9,6 +9,8 @@ ghost use Rattle.prints.specs.Prints.{more, hex_byte, hex, decimal_of, state_lin
 
 use arrayvec::ArrayVec;
 
+pub mod places; // a line laid into a slice at a place
+
 // No line is longer.
 const LINE_LIMIT: usize = 34;
 

@@ -24,6 +24,9 @@ const RETURN: u32 = 200;
 
 const WALK: u32 = 201;
 
+// The number of no refusal: what stands for a call that can't be made.
+const NOT_MADE: u32 = 98;
+
 fn call_of(w: &[u32; 136]) -> RawCall {
     RawCall {
         number: w[128],
@@ -108,8 +111,8 @@ fn low_byte(n: u32) -> u8 {
     (n % 256) as u8
 }
 
-// Whether the call leaves what was recorded; nothing where the case is cut off, or its call can't be made. Log and rows that are lent
-// hold words other than 0, on which events and rows come to lie.
+// Whether the call leaves what was recorded; nothing where the case is cut off. Log and rows that are lent hold words other than 0, on
+// which events and rows come to lie.
 fn verdict(case: &[u8]) -> Option<bool> {
     let mut rest = case;
     let mut left = Left {
@@ -129,7 +132,10 @@ fn verdict(case: &[u8]) -> Option<bool> {
     list::pairs(&mut rest, &mut want.store, low_byte)?;
     list::row(&mut rest, &mut want.log)?;
     list::row(&mut rest, &mut want.rows)?;
-    let answer = call_case(&mut left)?;
+    let answer = match call_case(&mut left) {
+        Some(answer) => answer,
+        None => answered(record::core_of(&left.words), NOT_MADE, 0),
+    };
     put_answer(&mut left.words, answer);
     Some(same::same_case(rest.is_empty(), &left, &want))
 }

@@ -17,7 +17,7 @@ ghost use Rattle.prints.specs.Prints.{more, refused_line};
 ghost use Rattle.sessions.specs.Walks.{row_texts, walk_text, walked};
 ghost use Rattle.sessions.specs.Sessions.{say, fresh_bus, fresh_core, charge_of, interrupted, returned, act, step};
 ghost use Rattle.sessions.specs.Numbered.{numbered, cycles_of, told, entered_by};
-ghost use Rattle.sessions.specs.Machines.{seen, HasRoom, GrowsBy};
+ghost use Rattle.sessions.specs.Machines.{seen, HasRoom, GrowsBy, SameLent};
 
 // The numbers of the calls that a session makes.
 const EXC: u32 = 1;
@@ -124,6 +124,7 @@ impl Machine<'_> {
         requires { HasRoom 34 self.old }
         ensures line { seen self.new ≡ say (seen self.old) (seen self.old).after (refused_line number) }
         ensures bound { GrowsBy 34 self.old self.new }
+        ensures lent { SameLent self.old self.new }
     {
         prints::refused_line(self.out, number);
     }
@@ -133,6 +134,7 @@ impl Machine<'_> {
         requires { HasRoom 34 self.old }
         ensures line { seen self.new ≡ say (seen self.old) (seen self.old).after (told self.old.core refused cycles) }
         ensures bound { GrowsBy 34 self.old self.new }
+        ensures lent { SameLent self.old self.new }
     {
         if refused != 0 {
             return self.refuse(refused);
@@ -147,6 +149,7 @@ impl Machine<'_> {
         requires { HasRoom 34 self.old }
         ensures line { seen self.new ≡ entered_by (seen self.old) call }
         ensures bound { GrowsBy 34 self.old self.new }
+        ensures lent { SameLent self.old self.new }
     {
         let x = fast_calls::raw_call(self.core, self.store, self.log, call);
         self.core = x.core;
@@ -159,6 +162,7 @@ impl Machine<'_> {
         requires { HasRoom 34 self.old }
         ensures line { seen self.new ≡ interrupted (seen self.old) level }
         ensures bound { GrowsBy 34 self.old self.new }
+        ensures lent { SameLent self.old self.new }
     {
         let set = numbered(SET_IRQ, u32::from(level));
         let x = fast_calls::raw_call(self.core, self.store, self.log, set);
@@ -171,6 +175,7 @@ impl Machine<'_> {
         requires { HasRoom 34 self.old }
         ensures line { seen self.new ≡ returned (seen self.old) }
         ensures bound { GrowsBy 34 self.old self.new }
+        ensures lent { SameLent self.old self.new }
     {
         // By a name: of a store that is passed on as a field, no more than its length is known afterwards.
         let store = &mut *self.store;
@@ -188,6 +193,7 @@ impl Machine<'_> {
         requires { (n ≤ 4096) × (HasRoom (n * 20 + 34) self.old) }
         ensures lines { seen self.new ≡ say (seen self.old) (seen self.old).after (row_texts (rows_from self.old.rows.now 0 n)) }
         ensures bound { GrowsBy (n * 20) self.old self.new }
+        ensures lent { SameLent self.old self.new }
     {
         // By places: to lend the rows in pieces while a line is printed beside them, the borrow checker has no rule yet.
         for k in 0..n as usize {
@@ -203,6 +209,7 @@ impl Machine<'_> {
         requires { (n ≤ 4096) × (HasRoom 82000 self.old) }
         ensures lines { seen self.new ≡ say (seen self.old) (seen self.old).after (walk_text self.old.core self.old.store.now n) }
         ensures bound { GrowsBy 82000 self.old self.new }
+        ensures lent { SameLent self.old self.new }
     {
         // By names, as in `give_back`; the borrow checker has no rule for one field read and another lent in one call.
         let m = self.core;
@@ -220,6 +227,7 @@ impl Machine<'_> {
         requires { HasRoom 82000 self.old }
         ensures lines { seen self.new ≡ say (seen self.old) (seen self.old).after (walked self.old.core self.old.store.now n) }
         ensures bound { GrowsBy 82000 self.old self.new }
+        ensures lent { SameLent self.old self.new }
     {
         if ROW_LIMIT < n {
             self.refuse(NOT_UNDERSTOOD);
@@ -233,6 +241,7 @@ impl Machine<'_> {
         requires { HasRoom 82000 self.old }
         ensures acts { seen self.new ≡ act (seen self.old) (Some command) }
         ensures bound { GrowsBy 82000 self.old self.new }
+        ensures lent { SameLent self.old self.new }
     {
         match command {
             Command::Kind(kind) => {
@@ -260,6 +269,7 @@ impl Machine<'_> {
         requires { HasRoom 82000 self.old }
         ensures acts { seen self.new ≡ step (seen self.old) line.now }
         ensures bound { GrowsBy 82000 self.old self.new }
+        ensures lent { SameLent self.old self.new }
     {
         match lines::parse(line) {
             Some(command) => self.act(command),

@@ -1,11 +1,11 @@
-use Rattle.std.proofs.Common.{refl, arith, ap₂}
+use Rattle.std.proofs.Common.{refl, arith, ap₂, rules}
 use Rattle.prints.specs.Laws.{laid_room}
 use Rattle.sessions.specs.Sessions.{session}
 use Rattle.sessions.proofs.Walks.{rows_start, rows_go, rows_end, row_is}
 use Rattle.sessions.proofs.Machine.row_lines.Goals as goal
 
 pub loop-k-init : goal.loop-k-init
-loop-k-init c = (refl, refl, omega arith, rows_start _ _ _)
+loop-k-init c = (refl, refl, omega arith, rows_start _ _ _, (refl, refl, refl, refl))
 
 pub loop-k-preserved : goal.loop-k-preserved
 loop-k-preserved c = (
@@ -13,6 +13,7 @@ loop-k-preserved c = (
   c.loop-k.invariant.1,
   omega (arith, c.row_line.ensures.bound, c.loop-k.invariant.2),
   rows_go _ _ _ _ _ _ c.loop-k-test.true c.loop-k.invariant.3 (row_is _ _ _ _ _ c.loop-k.invariant.1 (laid_room _ _ _ _ (omega (arith, c.loop-k.invariant.2, c.loop-k-test.true, c.requires.1)) c.row_line.ensures.line)),
+  search rules,
 )
 
 pub returns-clause-lines : goal.returns-clause-lines
