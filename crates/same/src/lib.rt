@@ -1,5 +1,5 @@
 // Whether what a call left is what was recorded of it: the words of a case, the words of its log and of its rows, the bytes of its
-// store. It uses `check` of the toolchain for the bytes; `replay` uses it, and takes its verdict on a case from here.
+// store. It uses no other crate; `replay` uses it, and takes its verdict on a case from here.
 #![tactic(auto)]
 
 ghost use Rattle.std.specs.Prelude.{true, ◌↔◌, ◌≡◌};
@@ -30,5 +30,5 @@ pub fn same_case(whole: bool, left: &Left, want: &Left) -> bool
         && same_words(&left.words, &want.words)
         && same_words(&left.log, &want.log)
         && same_words(&left.rows, &want.rows)
-        && check::same(&left.store, &want.store)
+        && left.store == want.store
 }

@@ -9,20 +9,26 @@ ghost use Rattle.sessions.specs.Machines.{reading};
 ghost use Rattle.session.specs.Plays.{Takes, Plays, Prints};
 
 use arrayvec::ArrayVec;
-use sessions::Machine;
 use sessions::input::Reader;
+use sessions::{Machine, Printed};
 use std::io;
 use std::io::{Read, Write};
 
 // The bytes of one read, in as many parts as their answers need.
-fn take_read<W: Write>(session: &mut Reader, bytes: &[u8], output: &mut W) -> io::Result<()>
-    ensures { OnOk result (Takes (reading session.old) bytes.now (reading session.new) (W.contents output.old) (W.contents output.new)) }
+fn take_read<W: Write>(
+    session: &mut Reader,
+    store: &mut [u8],
+    log: &mut [u32],
+    out: &mut Printed,
+    bytes: &[u8],
+    output: &mut W,
+) -> io::Result<()>
+    ensures { OnOk result (Takes (reading session.old store.old log.old out.old) bytes.now (reading session.new store.new log.new out.new) (W.contents output.old) (W.contents output.new)) }
 {
     // No iterator: how far each turn goes is what the session answers.
     let mut rest = bytes;
     while !rest.is_empty() {
-        let used = session.take_block(rest);
-        let out = &mut *session.machine.out;
+        let used = session.take_block(store, log, out, rest);
         output.write_all(out.as_slice())?;
         rest = &rest[used..];
     }
@@ -30,18 +36,24 @@ fn take_read<W: Write>(session: &mut Reader, bytes: &[u8], output: &mut W) -> io
 }
 
 // All the input, and its end. No input has as many reads as there are turns.
-fn play<R: Read, W: Write>(session: &mut Reader, input: &mut R, output: &mut W) -> io::Result<()>
-    ensures { OnOk result (Plays (reading session.old) (R.remaining input.old) (W.contents output.old) (W.contents output.new)) }
+fn play<R: Read, W: Write>(
+    session: &mut Reader,
+    store: &mut [u8],
+    log: &mut [u32],
+    out: &mut Printed,
+    input: &mut R,
+    output: &mut W,
+) -> io::Result<()>
+    ensures { OnOk result (Plays (reading session.old store.old log.old out.old) (R.remaining input.old) (W.contents output.old) (W.contents output.new)) }
 {
     let mut buffer = [0u8; 65536];
     for _ in 0..u64::MAX {
         let n = input.read(&mut buffer)?;
         if n == 0 {
-            session.finish();
-            let out = &mut *session.machine.out;
+            session.finish(store, log, out);
             return output.write_all(out.as_slice());
         }
-        take_read(session, &buffer[..n], output)?;
+        take_read(session, store, log, out, &buffer[..n], output)?;
     }
     Err(io::Error::from(io::ErrorKind::Other))
 }
@@ -56,16 +68,13 @@ fn play_from_start<R: Read, W: Write>(input: &mut R, output: &mut W) -> io::Resu
     let mut out = ArrayVec::new();
     let machine = Machine {
         core: sessions::fresh_core(1),
-        store: &mut store,
-        log: &mut log,
         rows: &mut rows,
-        out: &mut out,
     };
     let mut session = Reader {
         machine,
         line: ArrayVec::new(),
     };
-    play(&mut session, input, output)
+    play(&mut session, &mut store, &mut log, &mut out, input, output)
 }
 
 fn main(rt: HostRuntime) -> io::Result<()> {

@@ -13,13 +13,13 @@ use Rattle.lines.specs.Commands.{command_of}
 use Rattle.prints.specs.Prints.{more, refused_line}
 use Rattle.prints.specs.Laws.{more_none}
 use Rattle.sessions.specs.Walks.{walked}
-use Rattle.sessions.specs.Sessions.{Session, session, say, fresh_core, cleared, long_told, interrupted, returned, act, step}
+use Rattle.sessions.specs.Sessions.{Session, session, fresh_core, cleared, long_told, interrupted, returned, act, step}
 use Rattle.sessions.specs.Numbered.{numbered, entered_by}
 use Rattle.sessions.proofs.ByNumber.{exc_same, trap_same}
 
-pub act_none : (q r : Session) (x : Option Command) → x ≡ None → r ≡ say q q.after (refused_line 14) → r ≡ act q x
+pub act_none : (q : Session) (u : List ℕ) (x : Option Command) → x ≡ None → u ≡ more q.printed (refused_line 14) → session q.after u ≡ act q x
 unfolding act
-act_none q r x p e = rw p e
+act_none q u x p e = rw p (ap (session q.after) e)
 
 module _ (y : Command) (m : Core) (s l b : List ℕ) where
   abbrev q : Session
@@ -46,10 +46,10 @@ module _ (y : Command) (m : Core) (s l b : List ℕ) where
   unfolding act long_told
   act_long t a v k e f g h = rw (e, ← f, g, h, more_none) refl
 
-  pub act_long_refused : (t : List ℕ) (a v : ℕ) (k : Bool) (r : Session) → y ≡ command.Long a v → k ≡ served_of m.bus (length s) a 4 → k ≡ false → t ≡ poke_long m.bus s a v
-      → r ≡ session (world m t l) (more b (refused_line 14)) → r ≡ act q (Some y)
+  pub act_long_refused : (t u : List ℕ) (a v : ℕ) (k : Bool) → y ≡ command.Long a v → k ≡ served_of m.bus (length s) a 4 → k ≡ false → t ≡ poke_long m.bus s a v
+      → u ≡ more b (refused_line 14) → session (world m t l) u ≡ act q (Some y)
   unfolding act long_told
-  act_long_refused t a v k r e f g h i = rw (e, ← f, g, ← h) i
+  act_long_refused t u a v k e f g h i = rw (e, ← f, g, ← h) (ap (session (world m t l)) i)
 
   pub act_exc : (v : ℕ) (c : RawCall) (r : Session) → y ≡ command.Exc v → c ≡ numbered 1 v → r ≡ entered_by q c → r ≡ act q (Some y)
   unfolding act
@@ -63,9 +63,9 @@ module _ (y : Command) (m : Core) (s l b : List ℕ) where
   unfolding act
   act_irq n r e f = rw e f
 
-  pub act_walk : (n : ℕ) (r : Session) → y ≡ command.Walk n → r ≡ session (world m s l) (more b (walked m s n)) → r ≡ act q (Some y)
+  pub act_walk : (d : Core) (u : List ℕ) (n : ℕ) → y ≡ command.Walk n → d ≡ m → u ≡ more b (walked m s n) → session (world d s l) u ≡ act q (Some y)
   unfolding act
-  act_walk n r e f = rw e f
+  act_walk d u n e f g = rw (e, f) (ap (session (world m s l)) g)
 
   pub act_ret : (r : Session) → y ≡ command.Ret → r ≡ returned q → r ≡ act q (Some y)
   unfolding act

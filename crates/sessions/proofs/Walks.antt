@@ -7,14 +7,12 @@ use native.Mathlib.Numerals.{add-one}
 use borrow.Author.Tests.{eq-eqb, ne_eqb, lt-ltb, le-ltb}
 use lib.ListN.{length}
 use Rattle.memory.specs.declared.Core.{Core}
-use Rattle.memory.specs.World.{World}
 use Rattle.unwind.specs.Returns.{Walk, walk}
 use Rattle.unwind.specs.Unwind.{walk_from}
 use Rattle.unwind.specs.Rows.{row_at, rows_from, trail_from, Reads}
 use Rattle.unwind.proofs.Rows.{walk_reads}
 use Rattle.prints.specs.Prints.{more, refused_line}
 use Rattle.prints.specs.Laws.{more_more, more_none}
-use Rattle.sessions.specs.Sessions.{Session, session}
 use Rattle.sessions.specs.Walks.{row_text, row_texts, refusal_text, walk_text, walked}
 
 -- rows k to n - 1 are left, after what is printed of those before
@@ -34,9 +32,6 @@ rows_go b u ws x k n l e f =
     ∙ more_more b u (more u (row_texts (rows_from ws (suc k) j))) (row_text (row_at ws k)) (row_texts (rows_from ws (suc k) j)) f refl
     ∙ ap (λ (i : ℕ). more b (row_texts (rows_from ws k i))) (sym s)
     ∙ e
-
-pub row_is : (b u ws vs : List ℕ) (k : ℕ) → ws ≡ vs → u ≡ more b (row_text (row_at ws k)) → u ≡ more b (row_text (row_at vs k))
-row_is b u ws vs k e f = f ∙ ap (λ (x : List ℕ). more b (row_text (row_at x k))) e
 
 pub rows_end : (b ws x : List ℕ) (k n : ℕ) → n ≤ k → more b (row_texts (rows_from ws k (n - k))) ≡ x → b ≡ x
 unfolding row_texts rows_from
@@ -58,21 +53,18 @@ module _ (m : Core) (s ws v : List ℕ) (n refused count : ℕ) (room : n * 4 �
   refused_is : refused ≡ (trail_from m s n).refused
   refused_is = ap (λ (x : Walk). x.refused) e ∙ reads.refused_is
 
-  pub walk_quiet : (w : World) (b : List ℕ) (q : Session) → q ≡ session w (more b (row_texts (rows_from v 0 count))) → refused ≡ 0 → q ≡ session w (more b (walk_text m s n))
+  pub walk_quiet : (b u : List ℕ) → u ≡ more b (row_texts (rows_from v 0 count)) → refused ≡ 0 → u ≡ more b (walk_text m s n)
   unfolding walk_text refusal_text
-  walk_quiet w b q f z = f ∙ ap (λ (x : List ℕ). session w (more b x)) (rw (← rows_are, ← refused_is, eq-eqb refused 0 z, append-nil) refl)
+  walk_quiet b u f z = f ∙ rw (← rows_are, ← refused_is, eq-eqb refused 0 z, append-nil)
 
-  pub walk_refused : (w : World) (b : List ℕ) (q r : Session) → q ≡ session w (more b (row_texts (rows_from v 0 count))) → ¬ (refused ≡ 0)
-      → r ≡ session q.after (more q.printed (refused_line refused)) → r ≡ session w (more b (walk_text m s n))
+  pub walk_refused : (b u t : List ℕ) → u ≡ more b (row_texts (rows_from v 0 count)) → ¬ (refused ≡ 0) → t ≡ more u (refused_line refused) → t ≡ more b (walk_text m s n)
   unfolding walk_text refusal_text
-  walk_refused w b q r f z g =
-      g ∙ ap (λ (x : Session). session x.after (more x.printed (refused_line refused))) f
-      ∙ ap (session w) (rw (← rows_are, ← refused_is, ne_eqb refused 0 z) (more_more b _ _ _ _ refl refl))
+  walk_refused b u t f z g = rw (← rows_are, ← refused_is, ne_eqb refused 0 z) (more_more b u t _ _ f g)
 
-pub walk_many : (m : Core) (s b : List ℕ) (w : World) (n : ℕ) (r : Session) → 4096 < n → r ≡ session w (more b (refused_line 14)) → r ≡ session w (more b (walked m s n))
+pub walk_many : (m : Core) (s b u : List ℕ) (n : ℕ) → 4096 < n → u ≡ more b (refused_line 14) → u ≡ more b (walked m s n)
 unfolding walked
-walk_many m s b w n r h f = rw (lt-ltb 4096 n h) f
+walk_many m s b u n h f = rw (lt-ltb 4096 n h) f
 
-pub walk_few : (m : Core) (s b : List ℕ) (w : World) (n : ℕ) (r : Session) → n ≤ 4096 → r ≡ session w (more b (walk_text m s n)) → r ≡ session w (more b (walked m s n))
+pub walk_few : (m : Core) (s b u : List ℕ) (n : ℕ) → n ≤ 4096 → u ≡ more b (walk_text m s n) → u ≡ more b (walked m s n)
 unfolding walked
-walk_few m s b w n r h f = rw (le-ltb 4096 n h) f
+walk_few m s b u n h f = rw (le-ltb 4096 n h) f

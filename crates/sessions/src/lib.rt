@@ -10,14 +10,14 @@ use numbers::RawCall;
 
 pub mod input; // the bytes of the input, cut anywhere
 
-ghost use Rattle.std.specs.Prelude.{◌≡◌, ◌+◌, ◌*◌, ◌≤◌, leb, length};
+ghost use Rattle.std.specs.Prelude.{ℕ, List, ◌≡◌, ◌+◌, ◌*◌, ◌≤◌, leb};
 ghost use Rattle.arrayvec.specs.ArrayVec.{array_vec_len};
 ghost use Rattle.unwind.specs.Rows.{rows_from};
 ghost use Rattle.prints.specs.Prints.{more, refused_line};
 ghost use Rattle.sessions.specs.Walks.{row_texts, walk_text, walked};
-ghost use Rattle.sessions.specs.Sessions.{say, fresh_bus, fresh_core, charge_of, interrupted, returned, act, step};
+ghost use Rattle.sessions.specs.Sessions.{fresh_bus, fresh_core, charge_of, interrupted, returned, act, step};
 ghost use Rattle.sessions.specs.Numbered.{numbered, cycles_of, told, entered_by};
-ghost use Rattle.sessions.specs.Machines.{seen, HasRoom, GrowsBy, SameLent};
+ghost use Rattle.sessions.specs.Machines.{seen, HasRoom, GrowsBy};
 
 // The numbers of the calls that a session makes.
 const EXC: u32 = 1;
@@ -37,15 +37,15 @@ const ANSWER_LIMIT: usize = 82000;
 // A walk has no more rows.
 const ROW_LIMIT: u32 = 4096;
 
-/// A record and its bus, and what is lent to them: store and log, room for the rows of a walk, four words each as `walk` lays them, and what is
-/// printed.
+/// Room for what is printed.
+pub type Printed = ArrayVec<u8, 163840>;
+
+/// A record and its bus, and room for the rows of a walk, four words each as `walk` lays them. Store, log and output are lent to each call,
+/// so that its contract says what they hold afterwards to whoever lent them.
 #[derive(Drop)]
 pub struct Machine<'a> {
     pub core: Core,
-    pub store: &'a mut [u8],
-    pub log: &'a mut [u32],
     pub rows: &'a mut [u32; 16384],
-    pub out: &'a mut ArrayVec<u8, 163840>,
 }
 
 // No windows, responses 0xFFFFFFFF.
@@ -111,169 +111,156 @@ fn cycles_of(m: Core, number: u32, answer: u32) -> u32
     }
 }
 
+// Whether what a line prints has room.
+fn has_room(out: &Printed) -> bool
+    ensures { result ≡ leb (array_vec_len out.now + 82000) 163840 }
+{
+    ANSWER_LIMIT <= out.remaining_capacity()
+}
+
+// The line of a refusal.
+fn refuse(out: &mut Printed, number: u32)
+    requires { HasRoom 34 out.old }
+    ensures line { out.new.items ≡ more out.old.items (refused_line number) }
+    ensures bound { GrowsBy 34 out.old out.new }
+{
+    prints::refused_line(out, number);
+}
+
+// A line for each of the first n rows.
+fn row_lines(rows: &[u32; 16384], out: &mut Printed, n: u32)
+    requires { (n ≤ 4096) × (HasRoom (n * 20 + 34) out.old) }
+    ensures lines { out.new.items ≡ more out.old.items (row_texts (rows_from rows.now 0 n)) }
+    ensures bound { GrowsBy (n * 20) out.old out.new }
+{
+    // By places, as the contract counts the rows.
+    for k in 0..n as usize {
+        let i = k * 4;
+        prints::row_line(out, rows[i], rows[i + 1], rows[i + 2], rows[i + 3]);
+    }
+}
+
 impl Machine<'_> {
-    // Whether what a line prints has room.
-    fn has_room(&self) -> bool
-        ensures { result ≡ leb (array_vec_len self.now.out.now + 82000) 163840 }
-    {
-        ANSWER_LIMIT <= self.out.remaining_capacity()
-    }
-
-    // The line of a refusal.
-    fn refuse(&mut self, number: u32)
-        requires { HasRoom 34 self.old }
-        ensures line { seen self.new ≡ say (seen self.old) (seen self.old).after (refused_line number) }
-        ensures bound { GrowsBy 34 self.old self.new }
-        ensures lent { SameLent self.old self.new }
-    {
-        prints::refused_line(self.out, number);
-    }
-
     // The line of an acting command, or of the number that refuses it, as the answer of a call by number has it. How much room is asked for differs.
-    fn tell(&mut self, refused: u32, cycles: u32)
-        requires { HasRoom 34 self.old }
-        ensures line { seen self.new ≡ say (seen self.old) (seen self.old).after (told self.old.core refused cycles) }
-        ensures bound { GrowsBy 34 self.old self.new }
-        ensures lent { SameLent self.old self.new }
+    fn tell(&self, out: &mut Printed, refused: u32, cycles: u32)
+        requires { HasRoom 34 out.old }
+        ensures line { out.new.items ≡ more out.old.items (told self.now.core refused cycles) }
+        ensures bound { GrowsBy 34 out.old out.new }
     {
         if refused != 0 {
-            return self.refuse(refused);
+            return refuse(out, refused);
         }
         let c = self.core.cpu;
         let sr = u32::from(status::get_sr(c));
-        prints::state_line(self.out, cycles, c.flow.pc, sr, cpu::fields::a7(c));
+        prints::state_line(out, cycles, c.flow.pc, sr, cpu::fields::a7(c));
     }
 
     // `exc`, `trap` and the interrupt call.
-    fn enter(&mut self, call: RawCall)
-        requires { HasRoom 34 self.old }
-        ensures line { seen self.new ≡ entered_by (seen self.old) call }
-        ensures bound { GrowsBy 34 self.old self.new }
-        ensures lent { SameLent self.old self.new }
+    fn enter(&mut self, store: &mut [u8], log: &mut [u32], out: &mut Printed, call: RawCall)
+        requires { HasRoom 34 out.old }
+        ensures line { seen self.new store.new log.new out.new ≡ entered_by (seen self.old store.old log.old out.old) call }
+        ensures bound { GrowsBy 34 out.old out.new }
     {
-        let x = fast_calls::raw_call(self.core, self.store, self.log, call);
+        let x = fast_calls::raw_call(self.core, store, log, call);
         self.core = x.core;
         let cycles = cycles_of(x.core, call.number, x.answer);
-        self.tell(x.refused, cycles);
+        self.tell(out, x.refused, cycles);
     }
 
     // `irq`: `set_irq`, and then the interrupt call.
-    fn interrupt(&mut self, level: u8)
-        requires { HasRoom 34 self.old }
-        ensures line { seen self.new ≡ interrupted (seen self.old) level }
-        ensures bound { GrowsBy 34 self.old self.new }
-        ensures lent { SameLent self.old self.new }
+    fn interrupt(&mut self, store: &mut [u8], log: &mut [u32], out: &mut Printed, level: u8)
+        requires { HasRoom 34 out.old }
+        ensures line { seen self.new store.new log.new out.new ≡ interrupted (seen self.old store.old log.old out.old) level }
+        ensures bound { GrowsBy 34 out.old out.new }
     {
         let set = numbered(SET_IRQ, u32::from(level));
-        let x = fast_calls::raw_call(self.core, self.store, self.log, set);
+        let x = fast_calls::raw_call(self.core, store, log, set);
         self.core = x.core;
-        self.enter(numbered(SERVICE, 0));
+        self.enter(store, log, out, numbered(SERVICE, 0));
     }
 
-    // `ret`.
-    fn give_back(&mut self)
-        requires { HasRoom 34 self.old }
-        ensures line { seen self.new ≡ returned (seen self.old) }
-        ensures bound { GrowsBy 34 self.old self.new }
-        ensures lent { SameLent self.old self.new }
+    // `ret`, whatever the log holds.
+    fn give_back(&mut self, store: &[u8], out: &mut Printed)
+        requires { HasRoom 34 out.old }
+        ensures line { (log : List ℕ) → seen self.new store.now log out.new ≡ returned (seen self.old store.now log out.old) }
+        ensures bound { GrowsBy 34 out.old out.new }
     {
-        // By a name: of a store that is passed on as a field, no more than its length is known afterwards.
-        let store = &mut *self.store;
         match fast_calls::return_from(self.core, store) {
             Ok(returned) => {
                 self.core = returned.core;
-                self.tell(0, 0);
+                self.tell(out, 0, 0);
             }
-            Err(refusal) => self.tell(refusal.number(), 0),
-        }
-    }
-
-    // A line for each of the first n rows.
-    fn row_lines(&mut self, n: u32)
-        requires { (n ≤ 4096) × (HasRoom (n * 20 + 34) self.old) }
-        ensures lines { seen self.new ≡ say (seen self.old) (seen self.old).after (row_texts (rows_from self.old.rows.now 0 n)) }
-        ensures bound { GrowsBy (n * 20) self.old self.new }
-        ensures lent { SameLent self.old self.new }
-    {
-        // By places: to lend the rows in pieces while a line is printed beside them, the borrow checker has no rule yet.
-        for k in 0..n as usize {
-            let i = k * 4;
-            let (format, status) = (self.rows[i], self.rows[i + 1]);
-            let (address, offset) = (self.rows[i + 2], self.rows[i + 3]);
-            prints::row_line(self.out, format, status, address, offset);
+            Err(refusal) => self.tell(out, refusal.number(), 0),
         }
     }
 
     // The rows of a walk, and a refusal after them.
-    fn walk_rows(&mut self, n: u32)
-        requires { (n ≤ 4096) × (HasRoom 82000 self.old) }
-        ensures lines { seen self.new ≡ say (seen self.old) (seen self.old).after (walk_text self.old.core self.old.store.now n) }
-        ensures bound { GrowsBy 82000 self.old self.new }
-        ensures lent { SameLent self.old self.new }
+    fn walk_rows(&mut self, store: &[u8], out: &mut Printed, n: u32)
+        requires { (n ≤ 4096) × (HasRoom 82000 out.old) }
+        ensures core { self.new.core ≡ self.old.core }
+        ensures lines { out.new.items ≡ more out.old.items (walk_text self.old.core store.now n) }
+        ensures bound { GrowsBy 82000 out.old out.new }
     {
-        // By names, as in `give_back`; the borrow checker has no rule for one field read and another lent in one call.
+        // By names, for the borrow checker has no rule for one field read and another lent in one call.
         let m = self.core;
-        let store = &mut *self.store;
         let rows = &mut *self.rows;
         let w = fast_return::walk(m, store, n, rows);
-        self.row_lines(w.count);
+        row_lines(rows, out, w.count);
         if w.refused != 0 {
-            self.refuse(w.refused);
+            refuse(out, w.refused);
         }
     }
 
     // `walk`.
-    fn walk(&mut self, n: u32)
-        requires { HasRoom 82000 self.old }
-        ensures lines { seen self.new ≡ say (seen self.old) (seen self.old).after (walked self.old.core self.old.store.now n) }
-        ensures bound { GrowsBy 82000 self.old self.new }
-        ensures lent { SameLent self.old self.new }
+    fn walk(&mut self, store: &[u8], out: &mut Printed, n: u32)
+        requires { HasRoom 82000 out.old }
+        ensures core { self.new.core ≡ self.old.core }
+        ensures lines { out.new.items ≡ more out.old.items (walked self.old.core store.now n) }
+        ensures bound { GrowsBy 82000 out.old out.new }
     {
         if ROW_LIMIT < n {
-            self.refuse(NOT_UNDERSTOOD);
+            refuse(out, NOT_UNDERSTOOD);
         } else {
-            self.walk_rows(n);
+            self.walk_rows(store, out, n);
         }
     }
 
     // A command.
-    fn act(&mut self, command: Command)
-        requires { HasRoom 82000 self.old }
-        ensures acts { seen self.new ≡ act (seen self.old) (Some command) }
-        ensures bound { GrowsBy 82000 self.old self.new }
-        ensures lent { SameLent self.old self.new }
+    fn act(&mut self, store: &mut [u8], log: &mut [u32], out: &mut Printed, command: Command)
+        requires { HasRoom 82000 out.old }
+        ensures acts { seen self.new store.new log.new out.new ≡ act (seen self.old store.old log.old out.old) (Some command) }
+        ensures bound { GrowsBy 82000 out.old out.new }
     {
         match command {
             Command::Kind(kind) => {
                 self.core = fresh_core(kind);
-                self.store.fill(0);
+                store.fill(0);
             }
             Command::Pc(v) => self.core.cpu = cpu::fields::set_pc(self.core.cpu, v),
             Command::Ppc(v) => self.core.cpu = cpu::fields::set_ppc(self.core.cpu, v),
             Command::A7(v) => self.core.cpu = cpu::fields::set_a7(self.core.cpu, v),
             Command::Long(a, v) => {
-                if !memory::poke_long(self.core.bus, self.store, a, v) {
-                    self.refuse(NOT_UNDERSTOOD);
+                if !memory::poke_long(self.core.bus, store, a, v) {
+                    refuse(out, NOT_UNDERSTOOD);
                 }
             }
-            Command::Exc(v) => self.enter(numbered(EXC, v)),
-            Command::Trap(n) => self.enter(numbered(TRAP, u32::from(n))),
-            Command::Irq(n) => self.interrupt(n),
-            Command::Walk(n) => self.walk(n),
-            Command::Ret => self.give_back(),
+            Command::Exc(v) => self.enter(store, log, out, numbered(EXC, v)),
+            Command::Trap(n) => self.enter(store, log, out, numbered(TRAP, u32::from(n))),
+            Command::Irq(n) => self.interrupt(store, log, out, n),
+            Command::Walk(n) => self.walk(store, out, n),
+            Command::Ret => self.give_back(store, out),
         }
     }
 
     // A line, without its line feed.
-    fn step(&mut self, line: &[u8])
-        requires { HasRoom 82000 self.old }
-        ensures acts { seen self.new ≡ step (seen self.old) line.now }
-        ensures bound { GrowsBy 82000 self.old self.new }
-        ensures lent { SameLent self.old self.new }
+    fn step(&mut self, store: &mut [u8], log: &mut [u32], out: &mut Printed, line: &[u8])
+        requires { HasRoom 82000 out.old }
+        ensures acts { seen self.new store.new log.new out.new ≡ step (seen self.old store.old log.old out.old) line.now }
+        ensures bound { GrowsBy 82000 out.old out.new }
     {
         match lines::parse(line) {
-            Some(command) => self.act(command),
-            None => self.refuse(NOT_UNDERSTOOD),
+            Some(command) => self.act(store, log, out, command),
+            None => refuse(out, NOT_UNDERSTOOD),
         }
     }
 }

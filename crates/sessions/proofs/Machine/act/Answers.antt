@@ -31,7 +31,7 @@ pub returns-in-Irq-clause-acts : goal.returns-in-Irq-clause-acts
 returns-in-Irq-clause-acts c = act_irq _ _ _ _ _ _ _ c.in-Irq.is c.interrupt.ensures.line
 
 pub returns-in-Walk-clause-acts : goal.returns-in-Walk-clause-acts
-returns-in-Walk-clause-acts c = act_walk _ _ _ _ _ _ _ c.in-Walk.is c.walk.ensures.lines
+returns-in-Walk-clause-acts c = act_walk _ _ _ _ _ _ _ _ c.in-Walk.is c.walk.ensures.core c.walk.ensures.lines
 
 pub returns-in-Ret-clause-acts : goal.returns-in-Ret-clause-acts
-returns-in-Ret-clause-acts c = act_ret _ _ _ _ _ _ c.in-Ret.is c.give_back.ensures.line
+returns-in-Ret-clause-acts c = act_ret _ _ _ _ _ _ c.in-Ret.is (c.give_back.ensures.line _)
