@@ -201,7 +201,7 @@ impl Machine<'_> {
         ensures lines { out.new.items ≡ more out.old.items (walk_text self.old.core store.now n) }
         ensures bound { GrowsBy 82000 out.old out.new }
     {
-        // By names, for the borrow checker has no rule for one field read and another lent in one call.
+        // The rows by a name, for two calls.
         let m = self.core;
         let rows = &mut *self.rows;
         let w = fast_return::walk(m, store, n, rows);
